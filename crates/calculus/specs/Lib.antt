@@ -1,0 +1,7 @@
+pub mod Security
+pub mod Types
+pub mod Subtyping
+pub mod Terms
+pub mod Reduction
+pub mod Typing
+pub mod Erasure

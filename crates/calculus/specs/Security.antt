@@ -1,0 +1,56 @@
+-- Section 2.1: security properties, and what the calculus does with them.
+-- Everything above this file goes through the operations of `Security`, so readers over a groups table are one instance
+-- and a property with more parts would be another.
+use mathlib.Core.Path.{_≡_}
+use mathlib.Core.Bool.{Bool, So}
+use Prim.Native.Nat.{ℕ}
+
+-- κ ::= (r, ir): the readers and the indirect readers of an object.
+pub record Property : Type 0 where
+  pub r : ℕ
+  pub ir : ℕ
+
+-- The security group with which a destructor is labelled.
+abbrev pub Reader : Type 0
+Reader = ℕ
+
+-- What a protect is labelled with.
+abbrev pub Indirect : Type 0
+Indirect = ℕ
+
+pub record Security : Type 0 where
+  -- κ ≤ κ′
+  pub le : Property → Property → Bool
+  -- ir ⊑ ir′
+  pub leI : Indirect → Indirect → Bool
+  -- κ • ir
+  pub raise : Property → Indirect → Property
+  -- r ⊑ r′: may a destructor labelled r′ read an object with this property?
+  pub permits : Property → Reader → Bool
+  -- what the result of such a reading is protected by
+  pub influence : Property → Reader → Indirect
+  -- the label of the application that unrolling a recursion of this property makes
+  pub caller : Property → Reader
+  -- document 01's condition on a recursion: may its result, of the second property, be read through the first?
+  pub absorbs : Property → Property → Bool
+  -- ir ⊑ r, and both are groups
+  pub secure : Property → Bool
+  pub secureI : Indirect → Bool
+
+-- The laws that the theory needs. A property that is compared is made of groups; only reflexivity has to ask for that.
+pub record Laws (S : Security) : Type 0 where
+  pub le-refl : (k : Property) → So (S .secure k) → So (S .le k k)
+  pub le-trans : (k l m : Property) → So (S .le k l) → So (S .le l m) → So (S .le k m)
+  pub le-antisym : (k l : Property) → So (S .le k l) → So (S .le l k) → k ≡ l
+  pub le-self : (k l : Property) → So (S .le k l) → So (S .le k k) × So (S .le l l)
+  pub leI-refl : (m : Indirect) → So (S .secureI m) → So (S .leI m m)
+  pub raise-mono : (k l : Property) (m n : Indirect) → So (S .le k l) → So (S .leI m n) → So (S .le (S .raise k m) (S .raise l n))
+  pub raise-secure : (k : Property) (m : Indirect) → So (S .secure k) → So (S .secureI m) → So (S .secure (S .raise k m))
+  pub raise-comm : (k : Property) (m n : Indirect) → So (S .secure k) → So (S .secureI m) → So (S .secureI n)
+      → S .raise (S .raise k m) n ≡ S .raise (S .raise k n) m
+  pub permits-mono : (k l : Property) (w : Reader) → So (S .le k l) → So (S .permits l w) → So (S .permits k w)
+  pub permits-caller : (k : Property) → So (S .secure k) → So (S .permits k (S .caller k))
+  pub influence-mono : (k l : Property) (w : Reader) → So (S .le k l) → So (S .permits l w) → So (S .leI (S .influence k w) (S .influence l w))
+  pub influence-secure : (k : Property) (w : Reader) → So (S .secure k) → So (S .permits k w) → So (S .secureI (S .influence k w))
+  pub absorption : (k l : Property) → So (S .secure k) → So (S .secure l) → So (S .absorbs k l)
+      → So (S .le (S .raise l (S .influence k (S .caller k))) l)
