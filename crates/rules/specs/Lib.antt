@@ -1,0 +1,15 @@
+pub mod Answer
+pub mod Limits
+pub mod Groups
+pub mod Types
+pub mod Script
+pub mod Typing
+pub mod Step
+pub mod Run
+pub mod Strip
+pub mod Sheet
+pub mod Calls
+pub mod Reach
+pub mod Report
+pub mod Cases
+pub mod Examples

@@ -1,0 +1,84 @@
+-- Document 01, 'Report program': the whole text that it prints, as a function of the bytes of its three files.
+use mathlib.Core.Bool.{true, false}
+use mathlib.Core.List.{List, _∷_, _++_}
+use mathlib.Core.List as list
+use Prim.Native.Nat.{ℕ, zero, suc, _+_, _/_, _%_}
+use Prim.Native.Char.{code}
+use Prim.Native.String.{String}
+use Prim.Native.String as string
+use lib.Dec.{ltb, eqb}
+use lib.ListN.{getD}
+use Rattle.calculus.specs.Types.{Ty, sizeT}
+use Rattle.rules.specs.Answer.{Bytes, Answer, accepted, refused}
+use Rattle.rules.specs.Limits.{report-budget, report-buffer, report-sheet}
+use Rattle.rules.specs.Script.{encode, size}
+use Rattle.rules.specs.Run.{Ran}
+use Rattle.rules.specs.Calls.{checking, running, sheeting}
+use Rattle.rules.specs.Reach.{verdict}
+
+-- the bytes of a text of letters, spaces and newlines
+unfoldable pub text : String → Bytes
+text string.[] = list.[]
+text (string._∷_ c s) = code c ∷ text s
+
+-- the digits of n in front of what follows; so many digits at most
+unfoldable pub digits : ℕ → ℕ → Bytes → Bytes
+digits zero n rest = rest
+digits (suc most) n rest = elim (ltb n 10) [ true ↦ (48 + n) ∷ rest | false ↦ digits most (n / 10) ((48 + n % 10) ∷ rest) ]
+
+-- "numbers in decimal": a number of 64 bits has at most 20 digits
+unfoldable pub decimal : ℕ → Bytes
+unfolding digits
+decimal n = digits 20 n list.[]
+
+-- "whose words are unit, first, second, pair, function, closed"
+unfoldable pub word : ℕ → Bytes
+unfolding text
+word kind = getD (text "unit" ∷ text "first" ∷ text "second" ∷ text "pair" ∷ text "function" ∷ text "closed" ∷ list.[]) kind list.[]
+
+unfoldable pub refusal-line : ℕ → ℕ → Bytes
+unfolding text decimal
+refusal-line q p = text "refused " ++ decimal q ++ text " at " ++ decimal p ++ text "\n"
+
+unfoldable pub accepted-line : ℕ → Bytes
+unfolding text decimal
+accepted-line n = text "accepted " ++ decimal n ++ text "\n"
+
+-- "end, steps and records of the run"
+unfoldable pub run-line : Ran → Bytes
+unfolding text decimal size
+run-line x = text "end " ++ decimal (x .end) ++ text " steps " ++ decimal (x .steps) ++ text " records " ++ decimal (size (x .last)) ++ text "\n"
+
+-- "word, r, ir", a line for each record of the sheet
+unfoldable pub sheet-lines : Bytes → Bytes
+unfolding text decimal word
+sheet-lines list.[] = list.[]
+sheet-lines (k ∷ list.[]) = list.[]
+sheet-lines (k ∷ r ∷ list.[]) = list.[]
+sheet-lines (k ∷ r ∷ ir ∷ list.[]) = list.[]
+sheet-lines (k ∷ r ∷ ir ∷ z ∷ b) = word k ++ text " " ++ decimal r ++ text " " ++ decimal ir ++ text "\n" ++ sheet-lines b
+
+-- An accepted script's run and sheet aren't refused; these lines are here because a text has to be given for every answer.
+abbrev pub sheet-text : Answer Bytes → Bytes
+sheet-text (accepted b) = sheet-lines b
+sheet-text (refused q p) = refusal-line q p
+
+-- "only when the end is 0": the sheet of the run's last term for group 0
+unfoldable pub value-text : Bytes → Bytes → Ran → Bytes
+unfolding sheeting encode sheet-lines refusal-line
+value-text g t x = elim (eqb (x .end) 0) [ true ↦ sheet-text (sheeting g t (encode (x .last)) 0 report-sheet) | false ↦ list.[] ]
+
+unfoldable pub run-text : Bytes → Bytes → Answer Ran → Bytes
+unfolding run-line value-text refusal-line
+run-text g t (accepted x) = run-line x ++ value-text g t x
+run-text g t (refused q p) = refusal-line q p
+
+unfoldable pub checked-text : Bytes → Bytes → Bytes → Answer Ty → Bytes
+unfolding accepted-line run-text refusal-line running sizeT
+checked-text g t s (accepted type) = accepted-line (sizeT type) ++ run-text g t (running g t s report-budget report-buffer report-buffer)
+checked-text g t s (refused q p) = refusal-line q p
+
+-- "Checks, runs in two buffers of 49,152 bytes with budget 1,000, sheet for group 0 in a buffer of 8,192 sheet records."
+unfoldable pub report : Bytes → Bytes → Bytes → Bytes
+unfolding checked-text checking
+report groups types script = checked-text groups types script (verdict groups types script)

@@ -1,0 +1,274 @@
+-- Document 01, 'Scripts', and questions 13 to 19.
+use mathlib.Core.Bool.{Bool, true, false, not, _&&_, _||_}
+use mathlib.Core.List.{List, [], _∷_, _++_}
+use mathlib.Core.Option.{Option, none, some}
+use Prim.Native.Nat.{ℕ, zero, suc, _+_, _*_, _-_, _/_, _%_, max}
+use lib.Dec.{eqb, leb, ltb}
+use lib.ListN.{length, getD, take, drop}
+use Rattle.calculus.specs.Security.{Property}
+use Rattle.calculus.specs.Terms.{first, second, Term, var, unit, lam, pair, inj, app, proj, case, protect, mu}
+use Rattle.rules.specs.Answer.{Bytes, byte, Answer, accepted, refused, _>>_, ask, each, first-from, all-below, _⇒_}
+use Rattle.rules.specs.Limits.{script-width, script-limit, depth-limit}
+use Rattle.rules.specs.Groups.{rows, leq}
+use Rattle.rules.specs.Types.{type-count, type-kind, end-after}
+
+-- "Records of 6 bytes, no header: kind, r, ir, 0, a 16-bit little-endian number."
+abbrev pub records : Bytes → ℕ
+records s = length s / script-width
+
+abbrev pub kind : Bytes → ℕ → ℕ
+kind s i = byte s (script-width * i)
+
+abbrev pub r : Bytes → ℕ → ℕ
+r s i = byte s (script-width * i + 1)
+
+abbrev pub ir : Bytes → ℕ → ℕ
+ir s i = byte s (script-width * i + 2)
+
+abbrev pub zero-byte : Bytes → ℕ → ℕ
+zero-byte s i = byte s (script-width * i + 3)
+
+abbrev pub number : Bytes → ℕ → ℕ
+number s i = byte s (script-width * i + 4) + 256 * byte s (script-width * i + 5)
+
+-- a line of the table of kinds
+pub record Signature : Type 0 where
+  pub operands : ℕ
+  -- which fields are named
+  pub r : Bool
+  pub ir : Bool
+  pub number : Bool
+  -- whether the number names a type
+  pub typed : Bool
+
+abbrev signature : ℕ → Bool → Bool → Bool → Bool → Signature
+signature o r ir n t = record { operands = o; r = r; ir = ir; number = n; typed = t }
+
+-- The table of kinds. A field that it doesn't name is unnamed.
+unfoldable pub signatures : List Signature
+signatures =
+    --        operands r   ir   number type
+    signature 0 false false true false  -- 0 variable
+    ∷ signature 0 true true false false  -- 1 unit
+    ∷ signature 1 true true true true  -- 2 function
+    ∷ signature 2 true true false false  -- 3 pair
+    ∷ signature 1 true true true true  -- 4 first injection
+    ∷ signature 1 true true true true  -- 5 second injection
+    ∷ signature 2 true false false false  -- 6 application
+    ∷ signature 1 true false false false  -- 7 first projection
+    ∷ signature 1 true false false false  -- 8 second projection
+    ∷ signature 3 true false true true  -- 9 case
+    ∷ signature 1 false true false false  -- 10 protect
+    ∷ signature 1 false false true true  -- 11 recursion
+    ∷ []
+
+unfoldable pub signature-of : ℕ → Signature
+unfolding signatures
+signature-of k = getD signatures k (signature 0 false false false false)
+
+-- the number of operands that follow a record
+unfoldable pub arity : ℕ → ℕ
+unfolding signature-of
+arity k = signature-of k .operands
+
+-- a record
+abbrev pub script-record : ℕ → ℕ → ℕ → ℕ → Bytes
+script-record k r ir n = k ∷ r ∷ ir ∷ 0 ∷ n % 256 ∷ n / 256 ∷ []
+
+-- A term as records: "each is followed by its operands in order. Unnamed fields are 0."
+unfoldable pub encode : Term → Bytes
+encode (var n) = script-record 0 0 0 n
+encode (unit k) = script-record 1 (k .r) (k .ir) 0
+encode (lam k i e) = script-record 2 (k .r) (k .ir) i ++ encode e
+encode (pair k a b) = script-record 3 (k .r) (k .ir) 0 ++ (encode a ++ encode b)
+encode (inj first k i e) = script-record 4 (k .r) (k .ir) i ++ encode e
+encode (inj second k i e) = script-record 5 (k .r) (k .ir) i ++ encode e
+encode (app w f a) = script-record 6 w 0 0 ++ (encode f ++ encode a)
+encode (proj first w e) = script-record 7 w 0 0 ++ encode e
+encode (proj second w e) = script-record 8 w 0 0 ++ encode e
+encode (case w i e a b) = script-record 9 w 0 i ++ (encode e ++ (encode a ++ encode b))
+encode (protect m e) = script-record 10 0 m 0 ++ encode e
+encode (mu i e) = script-record 11 0 0 i ++ encode e
+
+abbrev pub no-term : Term
+no-term = var 0
+
+-- the term of a record and up to three operands
+abbrev pub make : ℕ → ℕ → ℕ → ℕ → Term → Term → Term → Term
+make kind r ir n a b c =
+    let k : Property = record { r = r; ir = ir } in
+    getD
+    (var n
+    ∷ unit k
+    ∷ lam k n a
+    ∷ pair k a b
+    ∷ inj first k n a
+    ∷ inj second k n a
+    ∷ app r a b
+    ∷ proj first r a
+    ∷ proj second r a
+    ∷ case r n a b c
+    ∷ protect ir a
+    ∷ mu n a
+    ∷ [])
+    kind no-term
+
+-- the term that starts at the first record, and those that start after its end
+unfoldable pub parse : Bytes → List Term
+unfolding arity
+parse [] = []
+parse (k ∷ []) = []
+parse (k ∷ r ∷ []) = []
+parse (k ∷ r ∷ ir ∷ []) = []
+parse (k ∷ r ∷ ir ∷ z ∷ []) = []
+parse (k ∷ r ∷ ir ∷ z ∷ lo ∷ []) = []
+parse (k ∷ r ∷ ir ∷ z ∷ lo ∷ hi ∷ s) =
+    let ts = parse s in
+    make k r ir (lo + 256 * hi) (getD ts 0 no-term) (getD ts 1 no-term) (getD ts 2 no-term) ∷ drop (arity k) ts
+
+-- the term of a script
+unfoldable pub term : Bytes → Term
+unfolding parse
+term s = getD (parse s) 0 no-term
+
+-- the number of records of a term
+unfoldable pub size : Term → ℕ
+size (var n) = 1
+size (unit k) = 1
+size (lam k i e) = 1 + size e
+size (pair k a b) = 1 + (size a + size b)
+size (inj d k i e) = 1 + size e
+size (app w f a) = 1 + (size f + size a)
+size (proj d w e) = 1 + size e
+size (case w i e a b) = 1 + (size e + (size a + size b))
+size (protect m e) = 1 + size e
+size (mu i e) = 1 + size e
+
+-- the depth of a term's deepest record: "the outermost record has depth 1"
+unfoldable pub depth : Term → ℕ
+depth (var n) = 1
+depth (unit k) = 1
+depth (lam k i e) = 1 + depth e
+depth (pair k a b) = 1 + max (depth a) (depth b)
+depth (inj d k i e) = 1 + depth e
+depth (app w f a) = 1 + max (depth f) (depth a)
+depth (proj d w e) = 1 + depth e
+depth (case w i e a b) = 1 + max (depth e) (max (depth a) (depth b))
+depth (protect m e) = 1 + depth e
+depth (mu i e) = 1 + depth e
+
+-- A number for each record, in the records' order: n at the node, `deeper n` at an operand, and `bound n` at one that a
+-- binder stands over. "Kinds 2 and 11 bind one in their operand, a case one in each branch (operands 2 and 3)."
+unfoldable pub counts : (ℕ → ℕ) → (ℕ → ℕ) → ℕ → Term → List ℕ
+counts deeper bound n (var m) = n ∷ []
+counts deeper bound n (unit k) = n ∷ []
+counts deeper bound n (lam k i e) = n ∷ counts deeper bound (bound n) e
+counts deeper bound n (pair k a b) = n ∷ (counts deeper bound (deeper n) a ++ counts deeper bound (deeper n) b)
+counts deeper bound n (inj d k i e) = n ∷ counts deeper bound (deeper n) e
+counts deeper bound n (app w f a) = n ∷ (counts deeper bound (deeper n) f ++ counts deeper bound (deeper n) a)
+counts deeper bound n (proj d w e) = n ∷ counts deeper bound (deeper n) e
+counts deeper bound n (case w i e a b) =
+    n ∷ (counts deeper bound (deeper n) e ++ (counts deeper bound (bound n) a ++ counts deeper bound (bound n) b))
+counts deeper bound n (protect m e) = n ∷ counts deeper bound (deeper n) e
+counts deeper bound n (mu i e) = n ∷ counts deeper bound (bound n) e
+
+abbrev one-more : ℕ → ℕ
+one-more n = suc n
+
+abbrev no-more : ℕ → ℕ
+no-more n = n
+
+-- the depth of each record
+abbrev pub depths : Term → List ℕ
+depths e = counts one-more one-more 1 e
+
+-- the count of binders over each record
+abbrev pub binders : Term → List ℕ
+binders e = counts no-more one-more 0 e
+
+-- 13. Script: whole records, 1 to 8,192, and in a run within both buffers? (0) `rooms` are the lengths of a run's buffers.
+abbrev pub q13 : List ℕ → Bytes → Answer (Unit {0})
+q13 rooms s =
+    ask 13 0
+    (eqb (length s % script-width) 0
+    && (leb 1 (records s) && (leb (records s) script-limit && all-below (λ i. leb (length s) (getD rooms i 0)) (length rooms))))
+
+-- 14. Kind at most 11, unnamed fields 0?
+unfoldable pub ok14 : Bytes → ℕ → Bool
+unfolding signature-of
+ok14 s i =
+    let f = signature-of (kind s i) in
+    leb (kind s i) 11
+    && (eqb (zero-byte s i) 0
+    && ((not (f .r) ⇒ eqb (r s i) 0) && ((not (f .ir) ⇒ eqb (ir s i) 0) && (not (f .number) ⇒ eqb (number s i) 0))))
+
+abbrev pub q14 : Bytes → Answer (Unit {0})
+q14 s = each 14 (records s) (ok14 s)
+
+-- 15. Named groups in table, and for kinds 1 to 5 ir ⊑ r?
+unfoldable pub ok15 : Bytes → Bytes → ℕ → Bool
+unfolding signature-of
+ok15 g s i =
+    let f = signature-of (kind s i) in
+    (f .r ⇒ ltb (r s i) (rows g)) && ((f .ir ⇒ ltb (ir s i) (rows g)) && (leb 1 (kind s i) && leb (kind s i) 5 ⇒ leq g (ir s i) (r s i)))
+
+abbrev pub q15 : Bytes → Bytes → Answer (Unit {0})
+q15 g s = each 15 (records s) (ok15 g s)
+
+-- 16. Does a named type exist, a sum for 4 and 5, a function for 11?
+unfoldable pub ok16 : Bytes → Bytes → ℕ → Bool
+unfolding signature-of
+ok16 t s i =
+    (signature-of (kind s i) .typed ⇒ ltb (number s i) (type-count t))
+    && ((eqb (kind s i) 4 || eqb (kind s i) 5 ⇒ eqb (type-kind t (number s i)) 1) && (eqb (kind s i) 11 ⇒ eqb (type-kind t (number s i)) 3))
+
+abbrev pub q16 : Bytes → Bytes → Answer (Unit {0})
+q16 t s = each 16 (records s) (ok16 t s)
+
+-- the record after the term that starts at record i
+unfoldable pub term-end : Bytes → ℕ → Option ℕ
+unfolding end-after arity
+term-end s i = end-after (λ j. arity (kind s j)) (records s - i) 1 i
+
+-- a term's end against the record count
+abbrev pub exactly : ℕ → Option ℕ → Answer (Unit {0})
+exactly n none = refused 17 n
+exactly n (some e) = ask 17 e (eqb e n)
+
+-- 17. Exactly one whole term? (the record count if cut short, else the first record left over)
+abbrev pub q17 : Bytes → Answer (Unit {0})
+q17 s = exactly (records s) (term-end s 0)
+
+-- 18. Depth at most 256? (first deeper record) `ds` are the depths of the records.
+unfoldable pub ok18 : List ℕ → ℕ → Bool
+ok18 ds i = leb (getD ds i 0) depth-limit
+
+abbrev pub q18 : Bytes → Answer (Unit {0})
+q18 s = each 18 (records s) (ok18 (depths (term s)))
+
+-- 19. Variable's number below its count of binders? `bs` are those counts.
+unfoldable pub ok19 : List ℕ → Bytes → ℕ → Bool
+ok19 bs s i = eqb (kind s i) 0 ⇒ ltb (number s i) (getD bs i 0)
+
+abbrev pub q19 : Bytes → Answer (Unit {0})
+q19 s = each 19 (records s) (ok19 (binders (term s)) s)
+
+abbrev pub slice : Bytes → ℕ → Option ℕ → Bytes
+slice s i none = []
+slice s i (some e) = take (script-width * (e - i)) (drop (script-width * i) s)
+
+abbrev pub part-if : Answer (Unit {0}) → Bytes → Bytes
+part-if (accepted u) part = part
+part-if (refused q p) part = []
+
+-- "The look-up of a subterm hands back that part of the caller's script, from its record to the end of its last operand. It
+-- gives the empty part when question 13, 14 or 17 is answered no or the index is past the end."
+unfoldable pub subterm : Bytes → ℕ → Bytes
+unfolding first-from ok14 term-end
+subterm s i =
+    part-if
+    (do
+      q13 [] s
+      q14 s
+      q17 s)
+    (slice s i (term-end s i))

@@ -1,0 +1,26 @@
+-- Document 01, 'Sheet'.
+use mathlib.Core.Bool.{cond}
+use mathlib.Core.List.{[], _∷_, _++_}
+use Prim.Native.Nat.{ℕ}
+use Rattle.calculus.specs.Security.{Property}
+use Rattle.calculus.specs.Terms.{choose, Term, var, unit, lam, pair, inj, app, proj, case, protect, mu}
+use Rattle.rules.specs.Answer.{Bytes}
+use Rattle.rules.specs.Groups.{leq}
+
+-- "4-byte records: kind, r, ir, 0. Kinds 0 unit, 1 first, 2 second, 3 pair, 4 function (body not shown), 5 closed."
+-- "An object with r ⋢ g is written closed with groups 0."
+abbrev pub sheet-record : Bytes → ℕ → ℕ → Property → Bytes
+sheet-record t g kind k = cond (leq t (k .r) g) (kind ∷ k .r ∷ k .ir ∷ 0 ∷ []) (5 ∷ 0 ∷ 0 ∷ 0 ∷ [])
+
+-- The sheet of a value for reader group g, in script order: an object, "then its parts, each judged by its own r".
+unfoldable pub sheet : Bytes → ℕ → Term → Bytes
+sheet t g (var n) = []
+sheet t g (unit k) = sheet-record t g 0 k
+sheet t g (lam k i e) = sheet-record t g 4 k
+sheet t g (pair k a b) = sheet-record t g 3 k ++ (sheet t g a ++ sheet t g b)
+sheet t g (inj d k i e) = sheet-record t g (choose d 1 2) k ++ sheet t g e
+sheet t g (app w f a) = []
+sheet t g (proj d w e) = []
+sheet t g (case w i e a b) = []
+sheet t g (protect m e) = []
+sheet t g (mu i e) = []
