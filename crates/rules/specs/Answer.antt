@@ -2,7 +2,7 @@
 use mathlib.Core.Bool.{Bool, true, false, not}
 use mathlib.Core.List.{List}
 use mathlib.Core.Option.{Option, none, some}
-use Prim.Native.Nat.{ℕ, zero, suc}
+use Prim.Native.Nat.{ℕ, zero, suc, _<_}
 use lib.Dec.{eqb}
 use lib.ListN.{getD}
 
@@ -13,6 +13,10 @@ Bytes = List ℕ
 -- byte i, counted from 0; 0 past the end
 abbrev pub byte : Bytes → ℕ → ℕ
 byte b i = getD b i 0
+
+-- What a lent slice holds are numbers below 256.
+abbrev pub Octets : Bytes → Type 0
+Octets b = (i : ℕ) → byte b i < 256
 
 -- accepted with a result, or refused with the question's number and the place
 pub data Answer (A : Type 0) : Type 0 where
