@@ -42,7 +42,6 @@ pub record Laws (S : Security) : Type 0 where
   pub le-refl : (k : Property) → So (S .secure k) → So (S .le k k)
   pub le-trans : (k l m : Property) → So (S .le k l) → So (S .le l m) → So (S .le k m)
   pub le-antisym : (k l : Property) → So (S .le k l) → So (S .le l k) → k ≡ l
-  pub le-self : (k l : Property) → So (S .le k l) → So (S .le k k) × So (S .le l l)
   pub leI-refl : (m : Indirect) → So (S .secureI m) → So (S .leI m m)
   pub raise-mono : (k l : Property) (m n : Indirect) → So (S .le k l) → So (S .leI m n) → So (S .le (S .raise k m) (S .raise l n))
   pub raise-secure : (k : Property) (m : Indirect) → So (S .secure k) → So (S .secureI m) → So (S .secure (S .raise k m))
