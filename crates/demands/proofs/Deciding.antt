@@ -1,0 +1,64 @@
+-- A call that asks its questions one after another answers its yes, or by the first no.
+use mathlib.Core.Path.{_≡_, refl, sym, ap, _∙_}
+use mathlib.Core.Bool.{Bool, true, false, not}
+use mathlib.Core.List.{List, [], _∷_, _++_}
+use mathlib.Core.Option.{Option, none, some}
+use Prim.Native.Nat.{ℕ}
+use lib.Dec.{eqb}
+use Rattle.rules.specs.Answer.{Answer, accepted, refused, _>>_, ask, refused-at, each, first-below}
+use Rattle.rules.specs.Script.{exactly}
+use Rattle.demands.specs.Questions.{Question, question, AllYes, none-left, yes, FirstNo, this-one, a-later, Decides, says-yes, refuses, Checks, refuses-before, goes-on}
+
+-- one question, which refuses with its own number
+pub data Own (n : ℕ) : Answer (Unit {0}) → Type 0 where
+  own-yes : Own n (accepted tt)
+  own-no : {place : ℕ} → Own n (refused n place)
+
+pub ask-own : (n place : ℕ) (b : Bool) → Own n (ask n place b)
+ask-own n place true = own-yes
+ask-own n place false = own-no
+
+pub each-own : (n count : ℕ) (ok : ℕ → Bool) → Own n (each n count ok)
+each-own n count ok = go (first-below (λ i. not (ok i)) count)
+  where
+    go : (o : Option ℕ) → Own n (refused-at n o)
+    go none = own-yes
+    go (some place) = own-no
+
+pub exactly-own : (n : ℕ) (o : Option ℕ) → Own 17 (exactly n o)
+exactly-own n none = own-no
+exactly-own n (some e) = ask-own 17 e (eqb e n)
+
+pub decides-one : {n : ℕ} {a : Answer (Unit {0})} → Own n a → Decides (question n a ∷ []) a
+decides-one own-yes = says-yes (yes refl none-left)
+decides-one own-no = refuses (this-one refl)
+
+-- questions after questions
+all-yes : {qs rs : List Question} → AllYes qs → AllYes rs → AllYes (qs ++ rs)
+all-yes none-left Y = Y
+all-yes (yes h X) Y = yes h (all-yes X Y)
+
+after-yes : {qs rs : List Question} {q place : ℕ} → AllYes qs → FirstNo rs q place → FirstNo (qs ++ rs) q place
+after-yes none-left F = F
+after-yes (yes h X) F = a-later h (after-yes X F)
+
+before-more : {qs : List Question} {q place : ℕ} (rs : List Question) → FirstNo qs q place → FirstNo (qs ++ rs) q place
+before-more rs (this-one h) = this-one h
+before-more rs (a-later h F) = a-later h (before-more rs F)
+
+pub decides-then : {A : Type 0} {qs rs : List Question} (m : Answer (Unit {0})) (n : Answer A) → Decides qs m → Decides rs n → Decides (qs ++ rs) (_>>_ m n)
+decides-then {A} {qs} {rs} m n (says-yes Y) D = later n D
+  where
+    later : (n : Answer A) → Decides rs n → Decides (qs ++ rs) n
+    later n (says-yes Z) = says-yes (all-yes Y Z)
+    later n (refuses F) = refuses (after-yes Y F)
+decides-then {A} {qs} {rs} m n (refuses F) D = refuses (before-more rs F)
+
+pub decides-yes : {A : Type 0} (a : A) → Decides [] (accepted a)
+decides-yes a = says-yes none-left
+
+pub checks-more : {A : Type 0} {qs rs : List Question} (l m : Answer (Unit {0})) (n : Answer A) → Decides qs l → Decides rs m
+    → Checks (qs ++ rs) n (_>>_ l (_>>_ m n))
+checks-more l m n (says-yes Y) (says-yes Z) = goes-on (all-yes Y Z)
+checks-more l m n (says-yes Y) (refuses F) = refuses-before (after-yes Y F)
+checks-more l m n (refuses F) D = refuses-before (before-more _ F)

@@ -1,0 +1,138 @@
+-- Demand 1.
+use mathlib.Core.Path.{_≡_, refl, sym, ap, _∙_}
+use mathlib.Core.Bool.{cond, _&&_}
+use mathlib.Core.List.{List, [], _∷_, _++_}
+use Prim.Native.Nat.{ℕ, _%_, _≤_, _<_}
+use native.Mathlib.Omega.{arith}
+use borrow.Author.Tests.{le-leb, lt-leb}
+use lib.Dec.{eqb, leb, ltb}
+use lib.ListN.{length, getD}
+use Rattle.calculus.specs.Types.{Ty}
+use Rattle.calculus.specs.Terms.{is-value}
+use Rattle.rules.specs.Answer.{Bytes, Answer, accepted, refused, all-below}
+use Rattle.rules.specs.Limits.{row-width, type-width, script-width, group-limit, table-limit, script-limit, work-length, answer-length}
+use Rattle.rules.specs.Groups.{rows, readers, ok3, ok4, ok5, ok6, ok7, q2, q3, q4, q5, q6, q7}
+use Rattle.rules.specs.Types.{type-count, type-at, ok9, ok10, ok11, ok12, q8, q9, q10, q11, q12}
+use Rattle.rules.specs.Script.{records, term, size, depths, binders, term-end, ok14, ok15, ok16, ok18, ok19, q13, q14, q15, q16, q17, q18, q19}
+use Rattle.rules.specs.Typing.{typing}
+use Rattle.rules.specs.Step.{End}
+use Rattle.rules.specs.Run.{Ran}
+use Rattle.rules.specs.Sheet.{sheet}
+use Rattle.rules.specs.Calls.{zeros, q1, q25, q26, q27, groups-check, types-check, at-or-below, script-check, checking, answer-after, work-after, stepping, written-after, running, first-after, scratch-after, sheeting, sheet-after}
+use Rattle.demands.specs.Questions.{question, of-groups, of-types, of-script, Decides, Checks}
+use Rattle.demands.specs.Demands.{Demand1}
+use Rattle.demands.proofs.Deciding.{Own, ask-own, each-own, exactly-own, decides-one, decides-then, decides-yes, checks-more}
+use Rattle.demands.proofs.Places.{typing-placed, placed-refusal}
+
+-- Each question refuses with its own number.
+own-1 : (work answer : ℕ) → Own 1 (q1 work answer)
+own-1 work answer = ask-own 1 0 (leb work-length work && leb answer-length answer)
+
+own-2 : (g : Bytes) → Own 2 (q2 g)
+own-2 g = ask-own 2 0 (eqb (length g % row-width) 0 && (leb 1 (rows g) && leb (rows g) group-limit))
+
+own-8 : (t : Bytes) → Own 8 (q8 t)
+own-8 t = ask-own 8 0 (eqb (length t % type-width) 0 && (leb 1 (type-count t) && leb (type-count t) table-limit))
+
+own-13 : (rooms : List ℕ) (s : Bytes) → Own 13 (q13 rooms s)
+own-13 rooms s =
+    ask-own 13 0
+    (eqb (length s % script-width) 0
+    && (leb 1 (records s) && (leb (records s) script-limit && all-below (λ i. leb (length s) (getD rooms i 0)) (length rooms))))
+
+groups-decide : (g : Bytes) → Decides (of-groups g) (groups-check g)
+unfolding groups-check
+groups-decide g =
+    decides-then (q2 g) _ (decides-one (own-2 g))
+    (decides-then (q3 g) _ (decides-one (each-own 3 (rows g) (ok3 g)))
+    (decides-then (q4 g) _ (decides-one (each-own 4 (rows g) (ok4 g)))
+    (decides-then (q5 g) _ (decides-one (each-own 5 (rows g) (ok5 g)))
+    (decides-then (q6 g) (q7 g) (decides-one (each-own 6 (rows g) (ok6 g))) (decides-one (ask-own 7 0 (ok7 g)))))))
+
+types-decide : (g t : Bytes) → Decides (of-groups g ++ of-types g t) (types-check g t)
+unfolding types-check
+types-decide g t =
+    decides-then (groups-check g) _ (groups-decide g)
+    (decides-then (q8 t) _ (decides-one (own-8 t))
+    (decides-then (q9 g t) _ (decides-one (each-own 9 (type-count t) (ok9 (rows g) t)))
+    (decides-then (q10 g t) _ (decides-one (each-own 10 (type-count t) (ok10 g t)))
+    (decides-then (q11 t) (q12 t) (decides-one (each-own 11 (type-count t) (ok11 t))) (decides-one (each-own 12 (type-count t) (ok12 t)))))))
+
+script-decide : (rooms : List ℕ) (g t s : Bytes) → Decides (of-groups g ++ of-types g t ++ of-script rooms g t s) (script-check rooms g t s)
+unfolding script-check
+script-decide rooms g t s =
+    decides-then (types-check g t) _ (types-decide g t)
+    (decides-then (q13 rooms s) _ (decides-one (own-13 rooms s))
+    (decides-then (q14 s) _ (decides-one (each-own 14 (records s) (ok14 s)))
+    (decides-then (q15 g s) _ (decides-one (each-own 15 (records s) (ok15 g s)))
+    (decides-then (q16 t s) _ (decides-one (each-own 16 (records s) (ok16 t s)))
+    (decides-then (q17 s) _ (decides-one (exactly-own (records s) (term-end s 0)))
+    (decides-then (q18 s) (q19 s) (decides-one (each-own 18 (records s) (ok18 (depths (term s)))))
+    (decides-one (each-own 19 (records s) (ok19 (binders (term s)) s)))))))))
+
+comparison-decides : (g t : Bytes) (i j : ℕ)
+    → Decides (of-groups g ++ of-types g t ++ (question 25 (q25 0 i (type-count t)) ∷ question 25 (q25 1 j (type-count t)) ∷ [])) (at-or-below g t i j)
+unfolding at-or-below
+comparison-decides g t i j =
+    decides-then (types-check g t) _ (types-decide g t)
+    (decides-then (q25 0 i (type-count t)) _ (decides-one (ask-own 25 0 (ltb i (type-count t))))
+    (decides-then (q25 1 j (type-count t)) _ (decides-one (ask-own 25 1 (ltb j (type-count t)))) (decides-yes _)))
+
+check-decides : (g t s : Bytes) (work answer : ℕ)
+    → Checks (question 1 (q1 work answer) ∷ [] ++ of-groups g ++ of-types g t ++ of-script [] g t s) (typing (readers g) (type-at t) [] 0 (term s))
+    (checking work answer g t s)
+unfolding checking
+check-decides g t s work answer =
+    checks-more (q1 work answer) (script-check [] g t s) (typing (readers g) (type-at t) [] 0 (term s)) (decides-one (own-1 work answer)) (script-decide [] g t s)
+
+step-decides : (g t s : Bytes) (room : ℕ) → Decides (of-groups g ++ of-types g t ++ of-script [] g t s) (stepping g t s room)
+unfolding stepping
+step-decides g t s room = decides-then (script-check [] g t s) _ (script-decide [] g t s) (decides-yes _)
+
+run-decides : (g t s : Bytes) (budget first scratch : ℕ)
+    → Decides (of-groups g ++ of-types g t ++ of-script (first ∷ scratch ∷ []) g t s) (running g t s budget first scratch)
+unfolding running
+run-decides g t s budget first scratch =
+    decides-then (script-check (first ∷ scratch ∷ []) g t s) _ (script-decide (first ∷ scratch ∷ []) g t s) (decides-yes _)
+
+page-decides : (g t s : Bytes) (group room : ℕ)
+    → Decides
+    (of-groups g
+    ++ of-types g t
+    ++ of-script [] g t s
+    ++ (question 25 (q25 0 group (rows g)) ∷ question 26 (q26 (term s)) ∷ question 27 (q27 (sheet g group (term s)) room) ∷ []))
+    (sheeting g t s group room)
+unfolding sheeting
+page-decides g t s group room =
+    decides-then (script-check [] g t s) _ (script-decide [] g t s)
+    (decides-then (q25 0 group (rows g)) _ (decides-one (ask-own 25 0 (ltb group (rows g))))
+    (decides-then (q26 (term s)) _ (decides-one (ask-own 26 0 (is-value (term s))))
+    (decides-then (q27 (sheet g group (term s)) room) _ (decides-one (ask-own 27 0 (leb (length (sheet g group (term s))) room))) (decides-yes _))))
+
+-- what a refusal leaves in the buffers
+work-kept : (q : ℕ) (old : Bytes) → q < 20 → cond (leb 20 q) (zeros (length old)) old ≡ old
+work-kept q old l = rw (lt-leb 20 q l)
+
+work-zeroed : (q : ℕ) (old : Bytes) → 20 ≤ q → cond (leb 20 q) (zeros (length old)) old ≡ zeros (length old)
+work-zeroed q old l = rw (le-leb 20 q l)
+
+pub first-demand : (g t s : Bytes) → Demand1 g t s
+first-demand g t s = record {
+  groups = groups-decide g;
+  types = types-decide g t;
+  comparison = comparison-decides g t;
+  check = check-decides g t s;
+  typing-asks = λ q place e.
+      placed-refusal (typing (readers g) (type-at t) [] 0 (term s)) (typing-placed (readers g) (type-at t) (size (term s)) [] 0 (term s) (omega arith)) e;
+  step = step-decides g t s;
+  run = run-decides g t s;
+  page = page-decides g t s;
+  check-keeps = λ work answer q place e old. (
+    ap (λ (x : Answer Ty). answer-after x old) e,
+    λ l. ap (λ (x : Answer Ty). work-after x old) e ∙ work-kept q old l,
+    λ l. ap (λ (x : Answer Ty). work-after x old) e ∙ work-zeroed q old l,
+  );
+  step-keeps = λ room q place e old. ap (λ (x : Answer End). written-after x old) e;
+  run-keeps = λ budget first scratch q place e old. (ap (λ (x : Answer Ran). first-after x old) e, ap (λ (x : Answer Ran). scratch-after x old) e);
+  page-keeps = λ group room q place e old. ap (λ (x : Answer Bytes). sheet-after x old) e;
+}

@@ -1,0 +1,204 @@
+-- Stripping bytes is erasure of what they encode.
+use mathlib.Core.Path.{_≡_, refl, sym, ap, _∙_}
+use mathlib.Core.Bool.{Bool, true, false, cond, _||_}
+use mathlib.Core.List.{List, [], _∷_, _++_, append-assoc, map}
+use Prim.Native.Nat.{ℕ, zero, suc, _+_, _*_, _/_, _%_, _<_}
+use native.Mathlib.Nat.{zero-add, suc-add, add-suc, add-zero}
+use native.Mathlib.Omega.{arith}
+use lib.Dec.{eqb}
+use lib.ListN.{length, getD, drop}
+use Rattle.calculus.specs.Security.{Property}
+use Rattle.calculus.specs.Types.{Ty, one, node, sum, product, function}
+use Rattle.calculus.specs.Terms.{first, second, Term, var, unit, lam, pair, inj, app, proj, case, protect, mu}
+use Rattle.calculus.specs.Erasure.{public, eraseT, erase}
+use Rattle.rules.specs.Answer.{Bytes, byte}
+use Rattle.rules.specs.Limits.{type-width, script-width}
+use Rattle.rules.specs.Types.{type-count, type-kind, type-r, type-ir, type-zero, sides, no-type, make-type, parse-types, type-at}
+use Rattle.rules.specs.Script.{encode, size, depth}
+use Rattle.rules.proofs.Prefix.{All, joined}
+use Rattle.rules.proofs.TermCode.{term-operands, term-head, term-induction, term-encode-is}
+use Rattle.rules.specs.Strip.{strip-from, strip-script, strip-types}
+
+-- Only the place within a record matters. `next` is what a width has to know of its remainders.
+module _ (w : ℕ) (next : (i j : ℕ) → i % w ≡ j % w → suc i % w ≡ suc j % w) where
+  strip-mod : (i j : ℕ) (s : Bytes) → i % w ≡ j % w → strip-from w i s ≡ strip-from w j s
+  unfolding strip-from
+  strip-mod i j [] e = refl
+  strip-mod i j (b ∷ s) e =
+      ap {B = Bytes} (λ (x : ℕ). cond (eqb x 1 || eqb x 2) 0 b ∷ strip-from w (suc i) s) e
+      ∙ ap {B = Bytes} (λ (r : Bytes). cond (eqb (j % w) 1 || eqb (j % w) 2) 0 b ∷ r) (strip-mod (suc i) (suc j) s (next i j e))
+
+pub strip-length : (w i : ℕ) (s : Bytes) → length (strip-from w i s) ≡ length s
+unfolding strip-from
+strip-length w i [] = refl
+strip-length w i (b ∷ s) = ap suc (strip-length w (suc i) s)
+
+pub strip-drop : (w i n : ℕ) (s : Bytes) → drop n (strip-from w i s) ≡ strip-from w (i + n) (drop n s)
+unfolding strip-from
+strip-drop w i zero s = ap (λ (x : ℕ). strip-from w x s) (sym (add-zero i))
+strip-drop w i (suc n) [] = refl
+strip-drop w i (suc n) (b ∷ s) = strip-drop w (suc i) n s ∙ ap (λ (x : ℕ). strip-from w x (drop n s)) (suc-add i n ∙ sym (add-suc i n))
+
+pub strip-byte : (w i j : ℕ) (s : Bytes) → byte (strip-from w i s) j ≡ cond (eqb ((i + j) % w) 1 || eqb ((i + j) % w) 2) 0 (byte s j)
+unfolding strip-from
+strip-byte w i j [] = sym (none (eqb ((i + j) % w) 1 || eqb ((i + j) % w) 2))
+  where
+    none : (b : Bool) → _≡_ {A = ℕ} (cond b 0 0) 0
+    none true = refl
+    none false = refl
+strip-byte w i zero (b ∷ s) = ap (λ (x : ℕ). cond (eqb (x % w) 1 || eqb (x % w) 2) 0 b) (sym (add-zero i))
+strip-byte w i (suc j) (b ∷ s) =
+    strip-byte w (suc i) j s ∙ ap (λ (x : ℕ). cond (eqb (x % w) 1 || eqb (x % w) 2) 0 (getD s j 0)) (suc-add i j ∙ sym (add-suc i j))
+
+-- scripts
+strip-six : (i j : ℕ) (s : Bytes) → i % 6 ≡ j % 6 → strip-from 6 i s ≡ strip-from 6 j s
+strip-six = strip-mod 6 (λ i j e. omega arith)
+
+strip-record : (k r ir z lo hi : ℕ) (s : Bytes) → strip-script (k ∷ r ∷ ir ∷ z ∷ lo ∷ hi ∷ s) ≡ k ∷ 0 ∷ 0 ∷ z ∷ lo ∷ hi ∷ strip-script s
+unfolding strip-from
+strip-record k r ir z lo hi s = ap {B = Bytes} (λ (x : Bytes). k ∷ 0 ∷ 0 ∷ z ∷ lo ∷ hi ∷ x) (strip-six 6 0 s refl)
+
+strip-head : (e : Term) (s : Bytes) → strip-script (term-head e ++ s) ≡ term-head (erase e) ++ strip-script s
+unfolding erase
+strip-head (var n) s = strip-record _ _ _ _ _ _ s
+strip-head (unit k) s = strip-record _ _ _ _ _ _ s
+strip-head (lam k i e) s = strip-record _ _ _ _ _ _ s
+strip-head (pair k a b) s = strip-record _ _ _ _ _ _ s
+strip-head (inj d k i e) s = strip-record _ _ _ _ _ _ s
+strip-head (app w f a) s = strip-record _ _ _ _ _ _ s
+strip-head (proj d w e) s = strip-record _ _ _ _ _ _ s
+strip-head (case w i e a b) s = strip-record _ _ _ _ _ _ s
+strip-head (protect m e) s = strip-record _ _ _ _ _ _ s
+strip-head (mu i e) s = strip-record _ _ _ _ _ _ s
+
+erase-operands : (e : Term) → term-operands (erase e) ≡ map erase (term-operands e)
+unfolding erase
+erase-operands (var n) = refl
+erase-operands (unit k) = refl
+erase-operands (lam k i e) = refl
+erase-operands (pair k a b) = refl
+erase-operands (inj d k i e) = refl
+erase-operands (app w f a) = refl
+erase-operands (proj d w e) = refl
+erase-operands (case w i e a b) = refl
+erase-operands (protect m e) = refl
+erase-operands (mu i e) = refl
+
+abbrev Erases : Term → Type 0
+Erases e = (s : Bytes) → strip-script (encode e ++ s) ≡ encode (erase e) ++ strip-script s
+
+strip-joined : (es : List Term) → All Erases es → (s : Bytes) → strip-script (joined encode es ++ s) ≡ joined encode (map erase es) ++ strip-script s
+strip-joined [] h s = refl
+strip-joined (e ∷ es) h s =
+    ap strip-script (append-assoc (encode e) (joined encode es) s)
+    ∙ h .0 (joined encode es ++ s)
+    ∙ ap (λ (x : Bytes). encode (erase e) ++ x) (strip-joined es (h .1) s)
+    ∙ sym (append-assoc (encode (erase e)) (joined encode (map erase es)) (strip-script s))
+
+pub strip-encode : (e : Term) (s : Bytes) → strip-script (encode e ++ s) ≡ encode (erase e) ++ strip-script s
+strip-encode = term-induction Erases node-case
+  where
+    node-case : (e : Term) → All Erases (term-operands e) → Erases e
+    node-case e h s =
+        let ops = joined encode (term-operands e) in
+        ap (λ (x : Bytes). strip-script (x ++ s)) (term-encode-is e)
+        ∙ ap strip-script (append-assoc (term-head e) ops s)
+        ∙ strip-head e (ops ++ s)
+        ∙ ap (λ (x : Bytes). term-head (erase e) ++ x) (strip-joined (term-operands e) h s)
+        ∙ sym (append-assoc (term-head (erase e)) (joined encode (map erase (term-operands e))) (strip-script s))
+        ∙ ap (λ (x : Bytes). x ++ strip-script s)
+        (ap (λ (os : List Term). term-head (erase e) ++ joined encode os) (sym (erase-operands e)) ∙ sym (term-encode-is (erase e)))
+
+-- types
+strip-four : (i j : ℕ) (s : Bytes) → i % 4 ≡ j % 4 → strip-from 4 i s ≡ strip-from 4 j s
+strip-four = strip-mod 4 (λ i j e. omega arith)
+
+erase-make : (kind : ℕ) (k : Property) (s t : Ty) → make-type kind public (eraseT s) (eraseT t) ≡ eraseT (make-type kind k s t)
+unfolding eraseT
+erase-make zero k s t = refl
+erase-make (suc zero) k s t = refl
+erase-make (suc (suc zero)) k s t = refl
+erase-make (suc (suc (suc zero))) k s t = refl
+erase-make (suc (suc (suc (suc n)))) k s t = refl
+
+erase-at : (ts : List Ty) (i : ℕ) → getD (map eraseT ts) i no-type ≡ eraseT (getD ts i no-type)
+unfolding eraseT
+erase-at [] i = refl
+erase-at (s ∷ ts) zero = refl
+erase-at (s ∷ ts) (suc i) = erase-at ts i
+
+drop-map : (n : ℕ) (ts : List Ty) → drop n (map eraseT ts) ≡ map eraseT (drop n ts)
+drop-map zero ts = refl
+drop-map (suc n) [] = refl
+drop-map (suc n) (s ∷ ts) = drop-map n ts
+
+erase-record : (k r ir : ℕ) (ts us : List Ty) → us ≡ map eraseT ts
+    → make-type k public (getD us 0 no-type) (getD us 1 no-type) ∷ drop (sides k) us
+    ≡ map eraseT (make-type k (record { r = r; ir = ir }) (getD ts 0 no-type) (getD ts 1 no-type) ∷ drop (sides k) ts)
+erase-record k r ir ts us e =
+    rw (e, erase-at ts 0, erase-at ts 1, drop-map (sides k) ts, erase-make k (record { r = r; ir = ir }) (getD ts 0 no-type) (getD ts 1 no-type))
+
+strip-parse : (t : Bytes) → parse-types (strip-types t) ≡ map eraseT (parse-types t)
+unfolding parse-types strip-from
+strip-parse [] = refl
+strip-parse (k ∷ []) = refl
+strip-parse (k ∷ r ∷ []) = refl
+strip-parse (k ∷ r ∷ ir ∷ []) = refl
+strip-parse (k ∷ r ∷ ir ∷ z ∷ t) =
+    erase-record k r ir (parse-types t) (parse-types (strip-from 4 4 t)) (ap parse-types (strip-four 4 0 t refl) ∙ strip-parse t)
+
+pub strip-type : (t : Bytes) (i : ℕ) → type-at (strip-types t) i ≡ eraseT (type-at t i)
+unfolding type-at
+strip-type t i =
+    ap (λ (b : Bytes). getD (parse-types b) 0 no-type) (strip-drop 4 0 (type-width * i) t ∙ strip-four (0 + type-width * i) 0 (drop (type-width * i) t) (omega arith))
+    ∙ ap (λ (ts : List Ty). getD ts 0 no-type) (strip-parse (drop (type-width * i) t))
+    ∙ erase-at (parse-types (drop (type-width * i) t)) 0
+
+-- the fields of a stripped record
+pub strip-type-count : (t : Bytes) → type-count (strip-types t) ≡ type-count t
+strip-type-count t = ap (λ (n : ℕ). n / type-width) (strip-length 4 0 t)
+
+stripped-byte : (t : Bytes) (i j x : ℕ) → (0 + (type-width * i + j)) % 4 ≡ x → byte (strip-types t) (type-width * i + j) ≡ cond (eqb x 1 || eqb x 2) 0 (byte t (type-width * i + j))
+stripped-byte t i j x e =
+    strip-byte 4 0 (type-width * i + j) t ∙ ap (λ (y : ℕ). cond (eqb y 1 || eqb y 2) 0 (byte t (type-width * i + j))) e
+
+pub strip-type-kind : (t : Bytes) (i : ℕ) → type-kind (strip-types t) i ≡ type-kind t i
+strip-type-kind t i =
+    strip-byte 4 0 (type-width * i) t
+    ∙ ap (λ (y : ℕ). cond (eqb y 1 || eqb y 2) 0 (byte t (type-width * i))) (let e : (0 + type-width * i) % 4 ≡ 0 = omega arith in e)
+
+pub strip-type-r : (t : Bytes) (i : ℕ) → type-r (strip-types t) i ≡ 0
+strip-type-r t i = stripped-byte t i 1 1 (omega arith)
+
+pub strip-type-ir : (t : Bytes) (i : ℕ) → type-ir (strip-types t) i ≡ 0
+strip-type-ir t i = stripped-byte t i 2 2 (omega arith)
+
+pub strip-type-zero : (t : Bytes) (i : ℕ) → type-zero (strip-types t) i ≡ type-zero t i
+strip-type-zero t i = stripped-byte t i 3 3 (omega arith)
+
+-- erasure keeps a term's records and depth
+pub erase-size : (e : Term) → size (erase e) ≡ size e
+unfolding size erase
+erase-size (var n) = refl
+erase-size (unit k) = refl
+erase-size (lam k i e) = rw (erase-size e)
+erase-size (pair k a b) = rw (erase-size a, erase-size b)
+erase-size (inj d k i e) = rw (erase-size e)
+erase-size (app w f a) = rw (erase-size f, erase-size a)
+erase-size (proj d w e) = rw (erase-size e)
+erase-size (case w i e a b) = rw (erase-size e, erase-size a, erase-size b)
+erase-size (protect m e) = rw (erase-size e)
+erase-size (mu i e) = rw (erase-size e)
+
+pub erase-depth : (e : Term) → depth (erase e) ≡ depth e
+unfolding depth erase
+erase-depth (var n) = refl
+erase-depth (unit k) = refl
+erase-depth (lam k i e) = rw (erase-depth e)
+erase-depth (pair k a b) = rw (erase-depth a, erase-depth b)
+erase-depth (inj d k i e) = rw (erase-depth e)
+erase-depth (app w f a) = rw (erase-depth f, erase-depth a)
+erase-depth (proj d w e) = rw (erase-depth e)
+erase-depth (case w i e a b) = rw (erase-depth e, erase-depth a, erase-depth b)
+erase-depth (protect m e) = rw (erase-depth e)
+erase-depth (mu i e) = rw (erase-depth e)

@@ -1,0 +1,121 @@
+-- The three demands, over the definitions of document 01 and the calculus.
+use mathlib.Core.Path.{_≡_}
+use mathlib.Core.Bool.{true, false}
+use mathlib.Core.Logic.{_↔_}
+use mathlib.Core.List.{List, [], _∷_, _++_}
+use Prim.Native.Nat.{ℕ, suc, zero, _-_, _≤_, _<_, min}
+use lib.ListN.{length}
+use Rattle.calculus.specs.Types.{Ty}
+use Rattle.calculus.specs.Subtyping.{Subtype}
+use Rattle.calculus.specs.Terms.{Term, is-value}
+use Rattle.calculus.specs.Reduction.{Reduces}
+use Rattle.calculus.specs.Stuck.{StuckAt, DeniedAt}
+use Rattle.calculus.specs.Typing.{HasType}
+use Rattle.rules.specs.Answer.{Bytes, Octets, Answer, accepted, refused}
+use Rattle.rules.specs.Limits.{work-length, answer-length}
+use Rattle.rules.specs.Groups.{rows, readers}
+use Rattle.rules.specs.Types.{type-count, type-at, encode-type}
+use Rattle.rules.specs.Script.{records, encode, term, size}
+use Rattle.rules.specs.Typing.{typing}
+use Rattle.rules.specs.Step.{End, at-value, moves, may-not, wrong-kind, too-big, exceeds, end-number}
+use Rattle.rules.specs.Run.{Ran}
+use Rattle.rules.specs.Strip.{strip-script, strip-types, one-group}
+use Rattle.rules.specs.Sheet.{sheet}
+use Rattle.rules.specs.Calls.{zeros, q1, q25, q26, q27, groups-check, types-check, at-or-below, script-check, checking, type-bytes, answer-after, work-after, stepping, written-after, running, run-report, first-after, scratch-after, sheeting, sheet-after}
+use Rattle.rules.specs.Reach.{verdict, Accepted, MovesTo, Reaches}
+use Rattle.demands.specs.Questions.{question, of-groups, of-types, of-script, AllYes, Decides, Checks}
+
+-- Demand 1. "Any groups table, types table or script, of any bytes and any length, gets an answer; a refusal has the number and
+-- place that document 01 fixes": a call's answer is its yes, or the first no among its questions in the document's order. "A
+-- refused call changes no lent byte, save that a scratch buffer already in use ends as zeros." Look-up and strip ask nothing
+-- that they could refuse.
+pub record Demand1 (g t s : Bytes) : Type 0 where
+  pub groups : Decides (of-groups g) (groups-check g)
+  pub types : Decides (of-groups g ++ of-types g t) (types-check g t)
+  pub comparison : (i j : ℕ)
+      → Decides (of-groups g ++ of-types g t ++ (question 25 (q25 0 i (type-count t)) ∷ question 25 (q25 1 j (type-count t)) ∷ [])) (at-or-below g t i j)
+  pub check : (work answer : ℕ)
+      → Checks (question 1 (q1 work answer) ∷ [] ++ of-groups g ++ of-types g t ++ of-script [] g t s) (typing (readers g) (type-at t) [] 0 (term s))
+      (checking work answer g t s)
+  -- typing asks 20 to 24 in the order of its definition, and each of a record of the script
+  pub typing-asks : (q place : ℕ) → typing (readers g) (type-at t) [] 0 (term s) ≡ refused q place → (20 ≤ q) × (q ≤ 24) × (place < size (term s))
+  pub step : (room : ℕ) → Decides (of-groups g ++ of-types g t ++ of-script [] g t s) (stepping g t s room)
+  pub run : (budget first scratch : ℕ)
+      → Decides (of-groups g ++ of-types g t ++ of-script (first ∷ scratch ∷ []) g t s) (running g t s budget first scratch)
+  pub page : (group room : ℕ)
+      → Decides
+      (of-groups g
+      ++ of-types g t
+      ++ of-script [] g t s
+      ++ (question 25 (q25 0 group (rows g)) ∷ question 26 (q26 (term s)) ∷ question 27 (q27 (sheet g group (term s)) room) ∷ []))
+      (sheeting g t s group room)
+  pub check-keeps : (work answer q place : ℕ) → checking work answer g t s ≡ refused q place → (old : Bytes)
+      → (answer-after (checking work answer g t s) old ≡ old)
+      × (q < 20 → work-after (checking work answer g t s) old ≡ old)
+      × (20 ≤ q → work-after (checking work answer g t s) old ≡ zeros (length old))
+  pub step-keeps : (room q place : ℕ) → stepping g t s room ≡ refused q place → (old : Bytes) → written-after (stepping g t s room) old ≡ old
+  pub run-keeps : (budget first scratch q place : ℕ) → running g t s budget first scratch ≡ refused q place → (old : Bytes)
+      → (first-after (running g t s budget first scratch) old ≡ old) × (scratch-after (running g t s budget first scratch) old ≡ old)
+  pub page-keeps : (group room q place : ℕ) → sheeting g t s group room ≡ refused q place → (old : Bytes) → sheet-after (sheeting g t s group room) old ≡ old
+
+-- what the rules give the script's term
+abbrev pub Typed : Bytes → Bytes → Bytes → Ty → Type 0
+Typed g t s type = HasType (readers g) (type-at t) [] (term s) type
+
+-- the term of one step's new bytes
+abbrev pub StepsTo : Bytes → Bytes → Bytes → Term → Type 0
+StepsTo g t s e = Reduces (readers g) (type-at t) (term s) e
+
+-- Repeating the step, with the budget's rule: "0, 2, 3 and 4 end it. When as many steps have moved as the budget has, a value ends
+-- 0 and any other term 1." The indexes are the budget, the script, the end, the steps made, and the last term's bytes.
+pub data Repeats (g t : Bytes) (room : ℕ) : ℕ → Bytes → ℕ → ℕ → Bytes → Type 0 where
+  spent-on-value : {s : Bytes} → is-value (term s) ≡ true → Repeats g t room 0 s 0 0 s
+  spent : {s : Bytes} → is-value (term s) ≡ false → Repeats g t room 0 s 1 0 s
+  stops : {budget : ℕ} {s : Bytes} {x : End} → stepping g t s room ≡ accepted x → (end-number x ≡ 1 → ⊥) → Repeats g t room (suc budget) s (end-number x) 0 s
+  goes-on : {budget end steps : ℕ} {s s′ last : Bytes} → MovesTo g t room s s′ → Repeats g t room budget s′ end steps last
+      → Repeats g t room (suc budget) s end (suc steps) last
+
+-- Demand 2. "A script is accepted when the calculus's typing rules, within the document's limits, give it a type, and in no other
+-- case. The reported type is one that those rules give it, at or below every other. Each step, and so each run, goes to the term
+-- that the reduction rules name."
+pub record Demand2 (g t s : Bytes) : Type 0 where
+  pub accepts : script-check [] g t s ≡ accepted tt → (type : Ty) → Typed g t s type → (least : Ty) × Accepted g t s least × Subtype (readers g) least type
+  pub only : (type : Ty) → Accepted g t s type → (script-check [] g t s ≡ accepted tt) × Typed g t s type
+  -- the reported bytes are the type's
+  pub reports : (type : Ty) → Accepted g t s type → type-bytes (verdict g t s) ≡ accepted (encode-type type)
+  -- a script that passes is its term, as bytes
+  pub encoded : script-check [] g t s ≡ accepted tt → encode (term s) ≡ s
+  pub moves-when : (room : ℕ) (e : Term) → script-check [] g t s ≡ accepted tt
+      → (stepping g t s room ≡ accepted (moves e)) ↔ (StepsTo g t s e × (exceeds room e ≡ false))
+  pub too-big-when : (room : ℕ) → script-check [] g t s ≡ accepted tt
+      → (stepping g t s room ≡ accepted too-big) ↔ ((e : Term) × StepsTo g t s e × (exceeds room e ≡ true))
+  pub value-when : (room : ℕ) → script-check [] g t s ≡ accepted tt → (stepping g t s room ≡ accepted at-value) ↔ (is-value (term s) ≡ true)
+  pub wrong-when : (room : ℕ) → script-check [] g t s ≡ accepted tt → (stepping g t s room ≡ accepted wrong-kind) ↔ StuckAt (type-at t) (term s)
+  pub denied-when : (room : ℕ) → script-check [] g t s ≡ accepted tt → (stepping g t s room ≡ accepted may-not) ↔ DeniedAt (readers g) (term s)
+  pub repeats : (budget first scratch : ℕ) (ran : Ran) → running g t s budget first scratch ≡ accepted ran
+      → Repeats g t (min first scratch) budget s (ran .end) (ran .steps) (encode (ran .last))
+
+-- Demand 3, about a whole run. "For any tables and any accepted script with reported type T, whatever the budget and the two buffers
+-- (each with room for the script): the run isn't refused and never ends 2 or 3; every term it reaches has a type at or below T.
+-- Stripped of groups over the one-group table, with the same budget and lengths, it has the same end, steps and record count, and
+-- its last term is the first run's, stripped."
+pub record Demand3 (g t s : Bytes) (type : Ty) (budget : ℕ) (first scratch : Bytes) : Type 0 where
+  pub ran : Ran
+  pub runs : running g t s budget (length first) (length scratch) ≡ accepted ran
+  pub not-2 : ran .end ≡ 2 → ⊥
+  pub not-3 : ran .end ≡ 3 → ⊥
+  pub reached : (u : Bytes) → Reaches g t (min (length first) (length scratch)) budget s u → (lower : Ty) × Accepted g t u lower × Subtype (readers g) lower type
+  -- the stripped run
+  pub bare : Ran
+  pub bare-runs : running one-group (strip-types t) (strip-script s) budget (length first) (length scratch) ≡ accepted bare
+  pub same-report : run-report (accepted bare) ≡ run-report (accepted ran)
+  pub last-stripped : first-after (accepted bare) first
+      ≡ strip-script (encode (ran .last)) ++ zeros (length first - length (encode (ran .last)))
+  pub scratches : (scratch-after (accepted ran) scratch ≡ zeros (length scratch)) × (scratch-after (accepted bare) scratch ≡ zeros (length scratch))
+
+-- The demands hold of all bytes.
+pub record Demands : Type 0 where
+  pub first : (g t s : Bytes) → Demand1 g t s
+  pub second : (g t s : Bytes) → Octets g → Octets s → Demand2 g t s
+  pub third : (g t s : Bytes) (type : Ty) (budget : ℕ) (first scratch : Bytes) → Octets g → Octets s → Accepted g t s type
+      → length s ≤ length first → length s ≤ length scratch → Demand3 g t s type budget first scratch

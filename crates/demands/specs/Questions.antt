@@ -1,0 +1,54 @@
+-- "The first no gives its number and the place": a call's questions as a list, and what its answer says of them.
+use mathlib.Core.Path.{_≡_}
+use mathlib.Core.List.{List, [], _∷_, _++_}
+use Prim.Native.Nat.{ℕ}
+use Rattle.rules.specs.Answer.{Bytes, Answer, accepted, refused}
+use Rattle.rules.specs.Groups.{q2, q3, q4, q5, q6, q7}
+use Rattle.rules.specs.Types.{q8, q9, q10, q11, q12}
+use Rattle.rules.specs.Script.{q13, q14, q15, q16, q17, q18, q19}
+
+-- a question's number and its answer
+pub record Question : Type 0 where
+  pub number : ℕ
+  pub answer : Answer (Unit {0})
+
+abbrev pub question : ℕ → Answer (Unit {0}) → Question
+question n a = record { number = n; answer = a }
+
+-- Questions 2 to 7, 8 to 12 and 13 to 19, in the document's order.
+abbrev pub of-groups : Bytes → List Question
+of-groups g = question 2 (q2 g) ∷ question 3 (q3 g) ∷ question 4 (q4 g) ∷ question 5 (q5 g) ∷ question 6 (q6 g) ∷ question 7 (q7 g) ∷ []
+
+abbrev pub of-types : Bytes → Bytes → List Question
+of-types g t = question 8 (q8 t) ∷ question 9 (q9 g t) ∷ question 10 (q10 g t) ∷ question 11 (q11 t) ∷ question 12 (q12 t) ∷ []
+
+abbrev pub of-script : List ℕ → Bytes → Bytes → Bytes → List Question
+of-script rooms g t s =
+    question 13 (q13 rooms s)
+    ∷ question 14 (q14 s)
+    ∷ question 15 (q15 g s)
+    ∷ question 16 (q16 t s)
+    ∷ question 17 (q17 s)
+    ∷ question 18 (q18 s)
+    ∷ question 19 (q19 s)
+    ∷ []
+
+-- all are answered yes
+pub data AllYes : List Question → Type 0 where
+  none-left : AllYes []
+  yes : {x : Question} {qs : List Question} → x .answer ≡ accepted tt → AllYes qs → AllYes (x ∷ qs)
+
+-- the first that is answered no has this number, and this is its place
+pub data FirstNo : List Question → ℕ → ℕ → Type 0 where
+  this-one : {x : Question} {qs : List Question} {place : ℕ} → x .answer ≡ refused (x .number) place → FirstNo (x ∷ qs) (x .number) place
+  a-later : {x : Question} {qs : List Question} {q place : ℕ} → x .answer ≡ accepted tt → FirstNo qs q place → FirstNo (x ∷ qs) q place
+
+-- a call that asks these questions and nothing else: its yes, or its refusal by the first no
+pub data Decides {A : Type 0} (qs : List Question) : Answer A → Type 0 where
+  says-yes : {a : A} → AllYes qs → Decides qs (accepted a)
+  refuses : {q place : ℕ} → FirstNo qs q place → Decides qs (refused q place)
+
+-- Checking asks these questions first; where all are answered yes, it goes on to typing, whose answer is its own.
+pub data Checks {A : Type 0} (qs : List Question) (typed : Answer A) : Answer A → Type 0 where
+  refuses-before : {q place : ℕ} → FirstNo qs q place → Checks qs typed (refused q place)
+  goes-on : AllYes qs → Checks qs typed typed
