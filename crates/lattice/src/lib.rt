@@ -1,3 +1,5 @@
+// The lattice of groups over a table of rows: order, join, and questions 2 to 7.
+
 ghost use mathlib.Core.Path.{_≡_};
 ghost use Prim.Native.Nat.{_≤_, _<_};
 ghost use Rattle.rules.specs.Answer.{byte};

@@ -1,0 +1,5 @@
+pub mod Parts
+pub mod Pass
+pub mod Order
+pub mod Questions
+pub mod Table

@@ -1,0 +1,128 @@
+//! The inputs of cases A to L.
+
+use crate::generate::words;
+use crate::limits::SCRIPT_BYTES;
+use crate::script::Record;
+
+/// The three files a call is given.
+#[derive(Debug, Clone, PartialEq, Eq)]
+pub struct Inputs {
+    pub groups: Vec<u8>,
+    pub types: Vec<u8>,
+    pub script: Vec<u8>,
+}
+
+/// One script record.
+pub fn record(kind: u8, r: u8, ir: u8, number: u16) -> [u8; SCRIPT_BYTES] {
+    Record { kind, r, ir, zero: 0, number }.write()
+}
+
+/// "Groups 0 ⊑ 1 (words 3, 2)."
+pub fn two_groups() -> Vec<u8> {
+    words(&[3, 2])
+}
+
+/// "Types: records 0 to 2 the sum (0,0) of units (0,0); 3 to 5 the function (0,0) from unit to unit,
+/// all (0,0)."
+pub fn case_types() -> Vec<u8> {
+    [[1, 0, 0, 0], [0; 4], [0; 4], [3, 0, 0, 0], [0; 4], [0; 4]].concat()
+}
+
+/// "The case term has 7 records: tested first injection of unit, branches first and second injection
+/// (0,0), every unit (0,0), type 0."
+pub fn case_term(tested_r: u8, tested_ir: u8, case_r: u8) -> Vec<u8> {
+    [
+        record(9, case_r, 0, 0),
+        record(4, tested_r, tested_ir, 0),
+        record(1, 0, 0, 0),
+        record(4, 0, 0, 0),
+        record(1, 0, 0, 0),
+        record(5, 0, 0, 0),
+        record(1, 0, 0, 0),
+    ]
+    .concat()
+}
+
+/// "application of recursion (type 3) of function (type 4) of variable 1 applied to 0, to unit".
+pub fn loop_term(outer_r: u8) -> Vec<u8> {
+    [
+        record(6, outer_r, 0, 0),
+        record(11, 0, 0, 3),
+        record(2, 0, 0, 4),
+        record(6, 0, 0, 0),
+        record(0, 0, 0, 1),
+        record(0, 0, 0, 0),
+        record(1, 0, 0, 0),
+    ]
+    .concat()
+}
+
+fn with_script(script: Vec<u8>) -> Inputs {
+    Inputs { groups: two_groups(), types: case_types(), script }
+}
+
+pub fn a() -> Inputs {
+    with_script(case_term(1, 1, 0))
+}
+
+/// Also E, with budget 1.
+pub fn b() -> Inputs {
+    with_script(case_term(1, 1, 1))
+}
+
+pub fn c() -> Inputs {
+    with_script(case_term(1, 0, 1))
+}
+
+pub fn d() -> Inputs {
+    with_script(case_term(0, 1, 1))
+}
+
+pub fn f() -> Inputs {
+    with_script(record(0, 0, 0, 0).to_vec())
+}
+
+/// Also H, in short buffers.
+pub fn g() -> Inputs {
+    with_script(loop_term(0))
+}
+
+pub fn i() -> Inputs {
+    let mut types = case_types();
+    types[3 * 4 + 1] = 1;
+    types[3 * 4 + 2] = 1;
+    Inputs { types, ..with_script(loop_term(1)) }
+}
+
+/// J to L name only groups; the rest is B's.
+fn with_groups(rows: &[u32]) -> Inputs {
+    Inputs { groups: words(rows), ..b() }
+}
+
+pub fn j() -> Inputs {
+    with_groups(&[15, 10, 12, 8])
+}
+
+pub fn k() -> Inputs {
+    with_groups(&[1, 2])
+}
+
+pub fn l() -> Inputs {
+    with_groups(&[5, 6, 4])
+}
+
+/// Every case's inputs with its letter.
+pub fn all() -> Vec<(char, Inputs)> {
+    vec![
+        ('A', a()),
+        ('B', b()),
+        ('C', c()),
+        ('D', d()),
+        ('F', f()),
+        ('G', g()),
+        ('I', i()),
+        ('J', j()),
+        ('K', k()),
+        ('L', l()),
+    ]
+}

@@ -1,0 +1,35 @@
+//! The document's numbers, each named once.
+
+/// "1 to 32 rows".
+pub const MOST_GROUPS: usize = 32;
+/// "rows of 4 bytes".
+pub const ROW_BYTES: usize = 4;
+
+/// Types: "Records of 4 bytes".
+pub const TYPE_BYTES: usize = 4;
+/// "1 to 4,096 records".
+pub const MOST_TABLE_RECORDS: usize = 4096;
+/// Questions 12 and 24: "at most 63 records".
+pub const MOST_TYPE_RECORDS: usize = 63;
+
+/// Scripts: "Records of 6 bytes".
+pub const SCRIPT_BYTES: usize = 6;
+/// Question 13 and "too big": 8,192 records.
+pub const MOST_SCRIPT_RECORDS: usize = 8192;
+/// Question 18 and "too big": depth 256, the outermost record has depth 1.
+pub const MOST_DEPTH: usize = 256;
+
+/// Sheet: "4-byte records".
+pub const SHEET_BYTES: usize = 4;
+
+/// Question 1, answer buffer: one type of the largest size, 252 bytes.
+pub const ANSWER_BYTES: usize = MOST_TYPE_RECORDS * TYPE_BYTES;
+/// Question 1, work buffer: one such type for each depth, 64,512 bytes.
+pub const WORK_BYTES: usize = MOST_DEPTH * ANSWER_BYTES;
+
+/// Report program: "two buffers of 49,152 bytes".
+pub const REPORT_RUN_BYTES: usize = MOST_SCRIPT_RECORDS * SCRIPT_BYTES;
+/// Report program: "a buffer of 8,192 sheet records".
+pub const REPORT_SHEET_BYTES: usize = MOST_SCRIPT_RECORDS * SHEET_BYTES;
+/// Report program and cases: "budget 1,000".
+pub const REPORT_BUDGET: u64 = 1000;

@@ -1,0 +1,204 @@
+//! Types: trees, the types table with questions 8 to 12, at or below, raising.
+
+use std::rc::Rc;
+
+use crate::groups::{read_groups, Group, Groups};
+use crate::limits::{MOST_TABLE_RECORDS, MOST_TYPE_RECORDS, TYPE_BYTES};
+use crate::refusal::{ask, refuse, Answer};
+
+/// "(r, ir) are readers and indirect readers."
+#[derive(Debug, Clone, Copy, PartialEq, Eq)]
+pub struct Marks {
+    pub r: Group,
+    pub ir: Group,
+}
+
+/// A secure type: its own groups, and its form.
+#[derive(Debug, Clone, PartialEq, Eq)]
+pub struct Type {
+    pub marks: Marks,
+    pub form: Form,
+}
+
+/// "Kinds: 0 unit, 1 sum, 2 pair, 3 function; all but unit are followed by their left and then
+/// their right type."
+#[derive(Debug, Clone, PartialEq, Eq)]
+pub enum Form {
+    Unit,
+    Sum(Rc<Type>, Rc<Type>),
+    Pair(Rc<Type>, Rc<Type>),
+    Function(Rc<Type>, Rc<Type>),
+}
+
+impl Type {
+    /// The record's kind byte.
+    pub fn kind(&self) -> u8 {
+        match self.form {
+            Form::Unit => 0,
+            Form::Sum(..) => 1,
+            Form::Pair(..) => 2,
+            Form::Function(..) => 3,
+        }
+    }
+
+    /// Left and right type, of all but unit.
+    pub fn sides(&self) -> Option<(&Rc<Type>, &Rc<Type>)> {
+        match &self.form {
+            Form::Unit => None,
+            Form::Sum(a, b) | Form::Pair(a, b) | Form::Function(a, b) => Some((a, b)),
+        }
+    }
+
+    /// How many records the type is written with.
+    pub fn size(&self) -> usize {
+        1 + self.sides().map_or(0, |(a, b)| a.size() + b.size())
+    }
+
+    /// The type's records: its own in front, then left, then right.
+    pub fn write(&self) -> Vec<u8> {
+        let mut bytes = vec![self.kind(), self.marks.r, self.marks.ir, 0];
+        if let Some((a, b)) = self.sides() {
+            bytes.extend(a.write());
+            bytes.extend(b.write());
+        }
+        bytes
+    }
+}
+
+/// "At or below (table 2): same kind, r ⊑ r', ir ⊑ ir', both sides at or below; at a function the
+/// left sides are compared the other way round."
+pub fn at_or_below(groups: &Groups, s: &Type, t: &Type) -> bool {
+    let marks = groups.below(s.marks.r, t.marks.r) && groups.below(s.marks.ir, t.marks.ir);
+    let sides = match (&s.form, &t.form) {
+        (Form::Unit, Form::Unit) => true,
+        (Form::Sum(a, b), Form::Sum(c, d)) | (Form::Pair(a, b), Form::Pair(c, d)) => {
+            at_or_below(groups, a, c) && at_or_below(groups, b, d)
+        }
+        (Form::Function(a, b), Form::Function(c, d)) => {
+            at_or_below(groups, c, a) && at_or_below(groups, b, d)
+        }
+        _ => false,
+    };
+    marks && sides
+}
+
+/// κ • g: g joined into both r and ir.
+pub fn raise_marks(groups: &Groups, marks: Marks, g: Group) -> Marks {
+    Marks { r: groups.join(marks.r, g), ir: groups.join(marks.ir, g) }
+}
+
+/// "s • g joins g into both r and ir of the first record of s, and nowhere deeper."
+pub fn raise(groups: &Groups, s: &Type, g: Group) -> Type {
+    Type { marks: raise_marks(groups, s.marks, g), form: s.form.clone() }
+}
+
+/// The types table. "Every record starts a type and is named by its index."
+#[derive(Debug, Clone, PartialEq, Eq)]
+pub struct Types {
+    records: Vec<[u8; TYPE_BYTES]>,
+}
+
+impl Types {
+    /// How many records, and so indexes, the table has.
+    pub fn count(&self) -> usize {
+        self.records.len()
+    }
+
+    /// Is this number a type of the table?
+    pub fn has(&self, index: u64) -> bool {
+        index < self.count() as u64
+    }
+
+    /// The type that starts at this record.
+    pub fn at(&self, index: usize) -> Type {
+        parse(&self.records, index).0
+    }
+}
+
+/// The type starting at `index`, and the index after its last record.
+fn parse(records: &[[u8; TYPE_BYTES]], index: usize) -> (Type, usize) {
+    let [kind, r, ir, _] = records[index];
+    let marks = Marks { r, ir };
+    if kind == 0 {
+        return (Type { marks, form: Form::Unit }, index + 1);
+    }
+    let (left, middle) = parse(records, index + 1);
+    let (right, end) = parse(records, middle);
+    let (left, right) = (Rc::new(left), Rc::new(right));
+    let form = match kind {
+        1 => Form::Sum(left, right),
+        2 => Form::Pair(left, right),
+        3 => Form::Function(left, right),
+        _ => panic!("question 9: kind at most 3"),
+    };
+    (Type { marks, form }, end)
+}
+
+/// A single whole type from its bytes, such as checking writes to the answer buffer.
+pub fn read_type(bytes: &[u8]) -> Type {
+    assert_eq!(bytes.len() % TYPE_BYTES, 0, "whole records");
+    let records: Vec<[u8; TYPE_BYTES]> =
+        bytes.chunks(TYPE_BYTES).map(|record| record.try_into().expect("whole records")).collect();
+    let (found, end) = parse(&records, 0);
+    assert_eq!(end, records.len(), "one whole type");
+    found
+}
+
+/// The index after the type that starts at `start`, if it ends within the table.
+fn end_of_type(records: &[[u8; TYPE_BYTES]], start: usize) -> Option<usize> {
+    let mut wanted = 1;
+    let mut at = start;
+    while wanted > 0 {
+        let kind = records.get(at)?[0];
+        wanted = wanted - 1 + if kind == 0 { 0 } else { 2 };
+        at += 1;
+    }
+    Some(at)
+}
+
+/// Questions 8 to 12, then the table.
+pub fn read_types(groups: &Groups, bytes: &[u8]) -> Answer<Types> {
+    // 8. Types: whole records, 1 to 4,096? (0)
+    let count = bytes.len() / TYPE_BYTES;
+    ask(bytes.len() % TYPE_BYTES == 0 && (1..=MOST_TABLE_RECORDS).contains(&count), 8, 0)?;
+    let records: Vec<[u8; TYPE_BYTES]> =
+        bytes.chunks(TYPE_BYTES).map(|record| record.try_into().expect("whole records")).collect();
+
+    // 9. Kind at most 3, byte 3 (counted from 0) equal to 0, groups in table?
+    for (index, &[kind, r, ir, zero]) in records.iter().enumerate() {
+        ask(kind <= 3 && zero == 0 && groups.has(r.into()) && groups.has(ir.into()), 9, index)?;
+    }
+    // 10. ir ⊑ r?
+    for (index, &[_, r, ir, _]) in records.iter().enumerate() {
+        ask(groups.below(ir, r), 10, index)?;
+    }
+    // 11. Does the last type end with the table? (start of the outermost unfinished type)
+    let mut outermost = Vec::new();
+    let mut start = 0;
+    while start < count {
+        let Some(end) = end_of_type(&records, start) else {
+            return refuse(11, start);
+        };
+        outermost.push((start, end));
+        start = end;
+    }
+    // 12. Has every type at most 63 records? (start of the first outermost one that hasn't)
+    for (start, end) in outermost {
+        ask(end - start <= MOST_TYPE_RECORDS, 12, start)?;
+    }
+    Ok(Types { records })
+}
+
+/// The two tables every script is judged over.
+#[derive(Debug, Clone, PartialEq, Eq)]
+pub struct Tables {
+    pub groups: Groups,
+    pub types: Types,
+}
+
+/// Questions 2 to 12, then both tables.
+pub fn read_tables(groups: &[u8], types: &[u8]) -> Answer<Tables> {
+    let groups = read_groups(groups)?;
+    let types = read_types(&groups, types)?;
+    Ok(Tables { groups, types })
+}

@@ -1,0 +1,147 @@
+//! Typing: table 3 with the document's departures, questions 20 to 24.
+//!
+//! "Typing goes operands first, left to right; 20, 21 and 22 come as soon as the operand concerned
+//! has its type, 23 before the body, 24 last. The place is the node."
+
+use std::rc::Rc;
+
+use crate::groups::{Group, Groups};
+use crate::limits::MOST_TYPE_RECORDS;
+use crate::refusal::{ask, refuse, Answer};
+use crate::script::{Side, Term};
+use crate::types::{at_or_below, raise, Form, Marks, Tables, Type};
+
+/// The lowest type of a script, or the first no.
+pub fn type_of(tables: &Tables, term: &Term) -> Answer<Type> {
+    find(tables, &mut Vec::new(), term, 0)
+}
+
+/// The type of `term`, whose record is `place`, its binders' types in `context`, outermost first.
+fn find(tables: &Tables, context: &mut Vec<Type>, term: &Term, place: usize) -> Answer<Type> {
+    let groups = &tables.groups;
+    match term {
+        // [Var]
+        Term::Variable(number) => Ok(context[context.len() - 1 - *number as usize].clone()),
+
+        // [Unit]
+        Term::Unit(marks) => Ok(Type { marks: *marks, form: Form::Unit }),
+
+        // [Lam]
+        Term::Function(marks, parameter, body) => {
+            let parameter = tables.types.at((*parameter).into());
+            let result = find_under(tables, context, parameter.clone(), body, place + 1)?;
+            small(
+                Type { marks: *marks, form: Form::Function(Rc::new(parameter), Rc::new(result)) },
+                place,
+            )
+        }
+
+        // [Pair]
+        Term::Pair(marks, left, right) => {
+            let first = find(tables, context, left, place + 1)?;
+            let second = find(tables, context, right, place + 1 + left.size())?;
+            small(Type { marks: *marks, form: Form::Pair(Rc::new(first), Rc::new(second)) }, place)
+        }
+
+        // [Inj], the sides given: "the injection's operand is at or below its side"; "that
+        // record's own groups aren't read".
+        Term::Injection(side, marks, sum, operand) => {
+            let found = find(tables, context, operand, place + 1)?;
+            let Form::Sum(first, second) = tables.types.at((*sum).into()).form else {
+                panic!("question 16: a sum for 4 and 5");
+            };
+            let wanted = if *side == Side::First { &first } else { &second };
+            wanted_type(groups, &found, wanted, place)?;
+            Ok(Type { marks: *marks, form: Form::Sum(first, second) })
+        }
+
+        // [App]
+        Term::Application(r, function, argument) => {
+            let found = find(tables, context, function, place + 1)?;
+            let Form::Function(parameter, result) = &found.form else {
+                return refuse(20, place);
+            };
+            readable(groups, found.marks, *r, place)?;
+            let given = find(tables, context, argument, place + 1 + function.size())?;
+            wanted_type(groups, &given, parameter, place)?;
+            Ok(raise(groups, result, found.marks.ir))
+        }
+
+        // [Proj]
+        Term::Projection(side, r, operand) => {
+            let found = find(tables, context, operand, place + 1)?;
+            let Form::Pair(first, second) = &found.form else {
+                return refuse(20, place);
+            };
+            readable(groups, found.marks, *r, place)?;
+            let part = if *side == Side::First { first } else { second };
+            Ok(raise(groups, part, found.marks.ir))
+        }
+
+        // [Case], the result given: "both branches are at or below the result type s, and the
+        // case has s • ir of the tested operand".
+        Term::Case(r, result, tested, first, second) => {
+            let found = find(tables, context, tested, place + 1)?;
+            let Form::Sum(left, right) = &found.form else {
+                return refuse(20, place);
+            };
+            readable(groups, found.marks, *r, place)?;
+            let result = tables.types.at((*result).into());
+            let at = place + 1 + tested.size();
+            let one = find_under(tables, context, (**left).clone(), first, at)?;
+            wanted_type(groups, &one, &result, place)?;
+            let at = at + first.size();
+            let other = find_under(tables, context, (**right).clone(), second, at)?;
+            wanted_type(groups, &other, &result, place)?;
+            Ok(raise(groups, &result, found.marks.ir))
+        }
+
+        // [Protect]
+        Term::Protect(ir, operand) => {
+            let found = find(tables, context, operand, place + 1)?;
+            Ok(raise(groups, &found, *ir))
+        }
+
+        // [Rec]; 23: "A recursion of type (s1 → s2, (r, ir)) needs ir ⊑ the indirect readers of s2".
+        Term::Recursion(function, body) => {
+            let own = tables.types.at((*function).into());
+            let Form::Function(_, result) = &own.form else {
+                panic!("question 16: a function for 11");
+            };
+            ask(groups.below(own.marks.ir, result.marks.ir), 23, place)?;
+            let found = find_under(tables, context, own.clone(), body, place + 1)?;
+            wanted_type(groups, &found, &own, place)?;
+            Ok(own)
+        }
+    }
+}
+
+/// The type of a term under one more binder.
+fn find_under(
+    tables: &Tables,
+    context: &mut Vec<Type>,
+    binder: Type,
+    term: &Term,
+    place: usize,
+) -> Answer<Type> {
+    context.push(binder);
+    let found = find(tables, context, term, place);
+    context.pop();
+    found
+}
+
+/// Question 21. Its r ⊑ the node's r?
+fn readable(groups: &Groups, operand: Marks, node: Group, place: usize) -> Answer<()> {
+    ask(groups.below(operand.r, node), 21, place)
+}
+
+/// Question 22. Operand, argument, branch or body at or below what is wanted?
+fn wanted_type(groups: &Groups, found: &Type, wanted: &Type, place: usize) -> Answer<()> {
+    ask(at_or_below(groups, found, wanted), 22, place)
+}
+
+/// Question 24. Function and pair: found type at most 63 records?
+fn small(found: Type, place: usize) -> Answer<Type> {
+    ask(found.size() <= MOST_TYPE_RECORDS, 24, place)?;
+    Ok(found)
+}

@@ -1,0 +1,636 @@
+//! Claims about the second implementation itself, on examples drawn at random.
+
+mod common;
+
+use std::cell::Cell;
+use std::rc::Rc;
+
+use common::*;
+use wigneld_tests::cases::Inputs;
+use wigneld_tests::generate::*;
+use wigneld_tests::groups::{read_groups, Group, Groups};
+use wigneld_tests::limits::*;
+use wigneld_tests::refusal::Refusal;
+use wigneld_tests::script::{read_script, Term};
+use wigneld_tests::sheet::CLOSED;
+use wigneld_tests::steps::{is_value, End};
+use wigneld_tests::strip::ONE_GROUP;
+use wigneld_tests::types::{self, raise, raise_marks, read_type, Marks, Type};
+
+/// The inputs of a term over a world's tables.
+fn inputs_of(world: &World, term: &Term) -> Inputs {
+    Inputs { groups: world.groups.clone(), types: world.types.clone(), script: term.write() }
+}
+
+/// Checking in buffers as long as question 1 asks: the reported type.
+fn reported(inputs: &Inputs) -> Result<Type, Refusal> {
+    let (result, _, answer) = check_in(inputs, WORK_BYTES, ANSWER_BYTES);
+    result.map(|records| read_type(&answer[..records as usize * TYPE_BYTES]))
+}
+
+/// A well-typed script of any of the generators' shapes.
+fn typed(rng: &mut Rng, world: &World) -> Rc<Term> {
+    let fuel = match rng.below(4) {
+        0 => rng.below(8),
+        1 => rng.below(200),
+        _ => rng.below(60),
+    };
+    if rng.one_in(3) {
+        if let Some(term) = typed_recursion(rng, &world.tables, fuel) {
+            return term;
+        }
+    }
+    typed_script(rng, &world.tables, fuel)
+}
+
+fn groups_of(world: &World) -> &Groups {
+    &world.tables.groups
+}
+
+fn any_group(rng: &mut Rng, groups: &Groups) -> Group {
+    rng.below(groups.count()) as Group
+}
+
+// ---------------------------------------------------------------------------------------------
+// Groups
+
+#[test]
+fn drawn_lattices_are_accepted_and_their_joins_are_least() {
+    examples(300, |rng| {
+        let bytes = random_groups(rng);
+        let groups = read_groups(&bytes).expect("every lattice so numbered is accepted");
+        let all = 0..groups.count() as Group;
+        for g in all.clone() {
+            assert!(groups.below(0, g), "0 is the lowest");
+            assert_eq!(groups.join(g, g), g);
+            for h in all.clone() {
+                if groups.below(g, h) {
+                    assert!(g <= h, "numbered upward");
+                }
+                let join = groups.join(g, h);
+                assert_eq!(join, groups.join(h, g));
+                assert!(groups.below(g, join) && groups.below(h, join), "an upper bound");
+                for k in all.clone() {
+                    let upper = groups.below(g, k) && groups.below(h, k);
+                    assert_eq!(upper, groups.below(join, k), "the least one");
+                }
+            }
+        }
+    });
+}
+
+#[test]
+fn groups_are_accepted_exactly_when_the_rows_are_such_a_lattice() {
+    // Judged again from the order's laws rather than from bits.
+    let (yes, no) = (Cell::new(0), Cell::new(0));
+    let enough = examples(4000, |rng| {
+        let mut bytes = if rng.one_in(2) {
+            random_groups(rng)
+        } else {
+            let count = rng.between(1, 5);
+            let rows: Vec<u32> = (0..count)
+                .map(|g| {
+                    1 << g
+                        | 1 << (count - 1)
+                        | rng.word() as u32 & ((1 << count) - 1) & !((1 << g) - 1)
+                })
+                .collect();
+            words(&rows)
+        };
+        if rng.one_in(2) {
+            let at = rng.below(bytes.len());
+            bytes[at] ^= 1 << rng.below(8);
+        }
+        let count = bytes.len() / 4;
+        let set = |g: usize, h: usize| bytes[g * 4 + h / 8] >> (h % 8) & 1 == 1;
+        let all = 0..count;
+        let stray = all.clone().any(|g| (count..32).any(|h| set(g, h)));
+        let numbered = all.clone().all(|g| set(g, g) && (0..g).all(|h| !set(g, h)));
+        let transitive = all.clone().all(|a| {
+            all.clone().all(|b| all.clone().all(|c| !(set(a, b) && set(b, c)) || set(a, c)))
+        });
+        let joins = all.clone().all(|a| {
+            all.clone().all(|b| {
+                let upper: Vec<usize> = all.clone().filter(|&c| set(a, c) && set(b, c)).collect();
+                upper.iter().any(|&least| upper.iter().all(|&c| set(least, c)))
+            })
+        });
+        let bottom = all.clone().all(|h| set(0, h));
+        let lattice = !stray && numbered && transitive && joins && bottom;
+        assert_eq!(groups_check(&bytes).is_ok(), lattice);
+        let tally = if lattice { &yes } else { &no };
+        tally.set(tally.get() + 1);
+    });
+    assert!(!enough || yes.get() > 0 && no.get() > 0, "both answers were drawn");
+}
+
+// ---------------------------------------------------------------------------------------------
+// Types
+
+#[test]
+fn at_or_below_is_a_partial_order() {
+    let (above, beside) = (Cell::new(0), Cell::new(0));
+    let enough = examples(1500, |rng| {
+        let world = World::random(rng);
+        let groups = groups_of(&world);
+        let size = 1 + 2 * rng.below(6);
+        let first = random_type(rng, groups, size);
+        let near = |rng: &mut Rng| random_variant(rng, groups, &first);
+        let (s, t, u) = (near(rng), near(rng), near(rng));
+        for one in [&s, &t, &u] {
+            assert!(types::at_or_below(groups, one, one), "reflexive");
+        }
+        let mut order = [&s, &t, &u];
+        for _ in 0..3 {
+            order.rotate_left(1);
+            let (a, b, c) = (order[0], order[1], order[2]);
+            for (a, b, c) in [(a, b, c), (b, a, c)] {
+                if types::at_or_below(groups, a, b) && types::at_or_below(groups, b, a) {
+                    assert_eq!(a, b, "antisymmetric");
+                }
+                if types::at_or_below(groups, a, b) && types::at_or_below(groups, b, c) {
+                    assert!(types::at_or_below(groups, a, c), "transitive");
+                }
+            }
+        }
+        let tally = if types::at_or_below(groups, &s, &t) && s != t { &above } else { &beside };
+        tally.set(tally.get() + 1);
+    });
+    assert!(!enough || above.get() > 0 && beside.get() > 0, "both answers were drawn");
+}
+
+#[test]
+fn at_or_below_of_indexes_is_that_of_the_types_there() {
+    examples(400, |rng| {
+        let world = World::random(rng);
+        let types = &world.tables.types;
+        for _ in 0..20 {
+            let (i, j) = (rng.below(types.count()), rng.below(types.count()));
+            let expected = types::at_or_below(groups_of(&world), &types.at(i), &types.at(j));
+            let found = common::at_or_below(&world.groups, &world.types, i as u64, j as u64);
+            assert_eq!(found, Ok(expected));
+            // Shapes that differ are never comparable.
+            if types.at(i).size() != types.at(j).size() {
+                assert!(!expected);
+            }
+        }
+    });
+}
+
+#[test]
+fn raising_is_monotone_and_commutes() {
+    // Propositions A.1 and A.2 of the source.
+    examples(1500, |rng| {
+        let world = World::random(rng);
+        let groups = groups_of(&world);
+        let size = 1 + 2 * rng.below(6);
+        let s = random_type(rng, groups, size);
+        let t = random_variant(rng, groups, &s);
+        let (g, h) = (any_group(rng, groups), any_group(rng, groups));
+        let join = groups.join(g, h);
+        assert!(types::at_or_below(groups, &s, &raise(groups, &s, g)), "raising raises");
+        assert!(types::at_or_below(groups, &raise(groups, &s, g), &raise(groups, &s, join)));
+        if types::at_or_below(groups, &s, &t) {
+            assert!(types::at_or_below(groups, &raise(groups, &s, g), &raise(groups, &t, join)));
+        }
+        let both = raise(groups, &raise(groups, &s, g), h);
+        assert_eq!(both, raise(groups, &raise(groups, &s, h), g));
+        assert_eq!(both, raise(groups, &s, join));
+        assert_eq!(both.form, s.form, "nowhere deeper");
+        assert_eq!(raise(groups, &s, 0), s, "the lowest group changes nothing");
+        let Marks { r, ir } = raise_marks(groups, s.marks, g);
+        assert!(groups.below(ir, r), "still ir ⊑ r");
+    });
+}
+
+// ---------------------------------------------------------------------------------------------
+// Scripts
+
+#[test]
+fn scripts_read_back_as_written() {
+    examples(1000, |rng| {
+        let world = World::random(rng);
+        let fuel = rng.below(80);
+        let term = untyped_script(rng, &world.tables, fuel);
+        let bytes = term.write();
+        assert_eq!(bytes.len(), term.size() * SCRIPT_BYTES);
+        let read = read_script(&world.tables, &bytes, &[]).expect("questions 13 to 19 are met");
+        assert_eq!(read, term);
+        assert_eq!(read.write(), bytes);
+    });
+}
+
+#[test]
+fn a_subterm_is_one_whole_part() {
+    examples(500, |rng| {
+        let world = World::random(rng);
+        let fuel = rng.below(60);
+        let term = untyped_script(rng, &world.tables, fuel);
+        let script = term.write();
+        let count = term.size();
+        assert_eq!(subterm(&script, 0), &script[..]);
+        // Each node's part is its record, then its operands' parts.
+        fn walk(term: &Term, script: &[u8], at: usize) -> usize {
+            let part = subterm(script, at as u64);
+            assert_eq!(part, term.write());
+            assert_eq!(part.as_ptr(), script[at * 6..].as_ptr(), "a part of the caller's script");
+            term.operands().iter().fold(at + 1, |at, (operand, _)| walk(operand, script, at))
+        }
+        assert_eq!(walk(&term, &script, 0), count);
+        for past in [count as u64, count as u64 + 1, 1 << 32, u64::MAX] {
+            assert_eq!(subterm(&script, past), &[] as &[u8]);
+        }
+        let cut = script.len() - 6;
+        assert_eq!(subterm(&script[..cut], 0), &[] as &[u8], "cut short");
+        assert_eq!(subterm(&script[..cut + 5], 0), &[] as &[u8], "no whole records");
+        let over = [script.clone(), script.clone()].concat();
+        assert_eq!(subterm(&over, 0), &[] as &[u8], "left over");
+    });
+}
+
+// ---------------------------------------------------------------------------------------------
+// Typing, and demand 3
+
+#[test]
+fn scripts_made_to_be_typed_are_accepted() {
+    let mut seen = [0; 12];
+    let enough = examples(1500, |rng| {
+        let world = World::random(rng);
+        let inputs = inputs_of(&world, &typed(rng, &world));
+        let found = reported(&inputs).expect("typed by construction");
+        check_finds(&inputs, &found.write());
+        for record in inputs.script.chunks(SCRIPT_BYTES) {
+            seen[record[0] as usize] += 1;
+        }
+    });
+    assert!(
+        !enough || seen.iter().all(|&count| count > 0),
+        "all twelve kinds were drawn: {seen:?}"
+    );
+}
+
+#[test]
+fn demand_3_holds_of_whole_runs() {
+    let mut ends = [0; 5];
+    let mut longest = 0;
+    let enough = examples(900, |rng| {
+        let world = World::random(rng);
+        let inputs = inputs_of(&world, &typed(rng, &world));
+        let found = reported(&inputs).expect("typed by construction");
+        let budget = if rng.one_in(10) { 300 } else { rng.below(60) as u64 };
+        let room = match rng.below(4) {
+            0 => inputs.script.len() + rng.below(400),
+            _ => REPORT_RUN_BYTES,
+        };
+
+        // Never refused, no end 2 or 3.
+        let (result, first, scratch) = run_in(&inputs, budget, room, room);
+        let report = result.expect("an accepted script's run is not refused");
+        assert!(!matches!(report.end, End::MayNot | End::WrongKind), "{report:?}");
+        ends[report.end as usize] += 1;
+        longest = longest.max(report.steps);
+
+        // Every reached term is accepted at or below the reported type.
+        let mut reached = inputs.clone();
+        for step in 0..=report.steps {
+            let own = reported(&reached).unwrap_or_else(|refusal| {
+                panic!("the term after {step} steps is refused: {refusal:?}")
+            });
+            assert!(types::at_or_below(groups_of(&world), &own, &found), "after {step} steps");
+            if step < report.steps {
+                let (moved, written) = step_in(&reached, room);
+                let moved = moved.expect("not refused");
+                assert_eq!(moved.end, End::Moved);
+                reached.script = written[..moved.records as usize * SCRIPT_BYTES].to_vec();
+            }
+        }
+        assert_eq!(first[..reached.script.len()], reached.script[..], "the run is its steps");
+        if report.end == End::Value {
+            let term = read_script(&world.tables, &reached.script, &[]).expect("accepted");
+            assert!(is_value(&term));
+        }
+
+        // The stripped run over the stripped types and the one group goes the same way.
+        let mut bare = Inputs { groups: ONE_GROUP.to_vec(), ..inputs.clone() };
+        strip_types(&mut bare.types);
+        strip_script(&mut bare.script);
+        let (stripped, bare_first, bare_scratch) = run_in(&bare, budget, room, room);
+        assert_eq!(stripped, Ok(report));
+        let mut last = first.clone();
+        strip_script(&mut last);
+        assert_eq!(bare_first, last, "the last term stripped, then zeros");
+        assert!(scratch.iter().chain(&bare_scratch).all(|&byte| byte == 0));
+    });
+    assert!(!enough || ends[0] > 0 && ends[1] > 0 && ends[4] > 0, "all three drawn: {ends:?}");
+    assert!(!enough || longest > 50, "some run is long: {longest}");
+}
+
+#[test]
+fn demand_3_holds_of_large_scripts() {
+    let mut largest = 0;
+    let enough = long_examples(12, |rng| {
+        let world = World::random(rng);
+        let most = if rng.one_in(3) { MOST_SCRIPT_RECORDS } else { 2000 };
+        let inputs = inputs_of(&world, &large_typed_script(rng, &world.tables, most));
+        largest = largest.max(inputs.script.len() / SCRIPT_BYTES);
+        let found = reported(&inputs).expect("typed by construction");
+        let (result, first, _) = run_in(&inputs, 150, REPORT_RUN_BYTES, REPORT_RUN_BYTES);
+        let report = result.expect("an accepted script's run is not refused");
+        assert!(!matches!(report.end, End::MayNot | End::WrongKind), "{report:?}");
+        let script = first[..report.records as usize * SCRIPT_BYTES].to_vec();
+        let last = reported(&Inputs { script, ..inputs.clone() }).expect("the last term is typed");
+        assert!(types::at_or_below(groups_of(&world), &last, &found));
+        let mut bare = Inputs { groups: ONE_GROUP.to_vec(), ..inputs };
+        strip_types(&mut bare.types);
+        strip_script(&mut bare.script);
+        let (stripped, bare_first, _) = run_in(&bare, 150, REPORT_RUN_BYTES, REPORT_RUN_BYTES);
+        assert_eq!(stripped, Ok(report));
+        let mut last = first;
+        strip_script(&mut last);
+        assert_eq!(bare_first, last);
+    });
+    assert!(!enough || largest > 4000, "some script is large: {largest}");
+}
+
+#[test]
+fn near_misses_that_pass_obey_demand_3_too() {
+    let (mut passed, mut refused) = (0, [0; 28]);
+    let enough = examples(4000, |rng| {
+        let world = World::random(rng);
+        let script = typed(rng, &world).write();
+        let (script, types) = if rng.one_in(3) {
+            (script, near_miss_types(rng, &world))
+        } else {
+            (near_miss(rng, &world.tables, &script), world.types.clone())
+        };
+        let inputs = Inputs { script, groups: world.groups.clone(), types };
+        match reported(&inputs) {
+            Err(refusal) => {
+                check_refuses(&inputs, refusal.question, refusal.place);
+                assert!(refusal.place as usize <= inputs.script.len() / SCRIPT_BYTES);
+                refused[refusal.question as usize] += 1;
+                // What stands before typing is asked by a run too.
+                if refusal.question < 20 {
+                    run_refuses(&inputs, refusal.question, refusal.place);
+                }
+            }
+            Ok(found) => {
+                passed += 1;
+                let (result, first, _) = run_in(&inputs, 40, REPORT_RUN_BYTES, REPORT_RUN_BYTES);
+                let report = result.expect("an accepted script's run is not refused");
+                assert!(!matches!(report.end, End::MayNot | End::WrongKind), "{report:?}");
+                let script = first[..report.records as usize * SCRIPT_BYTES].to_vec();
+                let last = reported(&Inputs { script, ..inputs }).expect("the last term is typed");
+                assert!(types::at_or_below(groups_of(&world), &last, &found));
+            }
+        }
+    });
+    assert!(!enough || passed > 0);
+    for question in [14, 15, 16, 17, 19, 20, 21, 22, 23] {
+        assert!(!enough || refused[question] > 0, "question {question} was drawn: {refused:?}");
+    }
+}
+
+#[test]
+fn the_reported_type_does_not_depend_on_how_the_script_is_wrapped() {
+    // Protecting raises, projecting a pair gives its part back, applying the identity the same.
+    examples(500, |rng| {
+        let world = World::random(rng);
+        let groups = groups_of(&world);
+        let term = typed(rng, &world);
+        let found = reported(&inputs_of(&world, &term)).expect("typed by construction");
+        let marks = random_marks(rng, groups);
+        let top = (groups.count() - 1) as Group;
+
+        let protect = Term::Protect(marks.ir, term.clone());
+        let own = reported(&inputs_of(&world, &protect)).expect("typed");
+        assert_eq!(own, raise(groups, &found, marks.ir));
+
+        if found.size() + 2 <= MOST_TYPE_RECORDS {
+            for side in [wigneld_tests::script::Side::First, wigneld_tests::script::Side::Second] {
+                let pair = match side {
+                    wigneld_tests::script::Side::First => Term::Pair(marks, term.clone(), unit()),
+                    _ => Term::Pair(marks, unit(), term.clone()),
+                };
+                let part = Term::Projection(side, top, Rc::new(pair));
+                let own = reported(&inputs_of(&world, &part)).expect("typed");
+                assert_eq!(own, raise(groups, &found, marks.ir));
+            }
+        }
+    });
+}
+
+// ---------------------------------------------------------------------------------------------
+// Steps and runs of any closed script
+
+#[test]
+fn a_run_is_its_steps() {
+    let mut ends = [0; 5];
+    let enough = examples(1500, |rng| {
+        let world = World::random(rng);
+        let fuel = rng.below(100);
+        let inputs = inputs_of(&world, &untyped_script(rng, &world.tables, fuel));
+        let budget = rng.below(40) as u64;
+        let length = inputs.script.len();
+        let (first, scratch) = (length + rng.below(900), length + rng.below(900));
+        let (result, buffer, _) = run_in(&inputs, budget, first, scratch);
+        let report = result.expect("not refused");
+
+        let mut reached = inputs.clone();
+        let (mut steps, mut end) = (0, None);
+        while steps < budget {
+            let (moved, written) = step_in(&reached, first.min(scratch));
+            let moved = moved.expect("a reached term is never refused");
+            if moved.end != End::Moved {
+                end = Some(moved.end);
+                assert_eq!(moved.records as usize * SCRIPT_BYTES, reached.script.len());
+                break;
+            }
+            reached.script = written[..moved.records as usize * SCRIPT_BYTES].to_vec();
+            steps += 1;
+        }
+        let end = end.unwrap_or_else(|| {
+            let term = read_script(&world.tables, &reached.script, &[]).expect("closed");
+            if is_value(&term) {
+                End::Value
+            } else {
+                End::Moved
+            }
+        });
+        ends[end as usize] += 1;
+        assert_eq!((report.end, report.steps), (end, steps));
+        assert_eq!(report.records as usize * SCRIPT_BYTES, reached.script.len());
+        let mut expected = reached.script;
+        expected.resize(first, 0);
+        assert_eq!(buffer, expected);
+    });
+    assert!(!enough || ends.iter().all(|&count| count > 0), "all five ends were drawn: {ends:?}");
+}
+
+#[test]
+fn a_longer_budget_continues_the_run() {
+    examples(500, |rng| {
+        let world = World::random(rng);
+        let fuel = rng.below(60);
+        let inputs = inputs_of(&world, &untyped_script(rng, &world.tables, fuel));
+        // At least one more step is tried, or a stuck term would count as merely unfinished.
+        let (one, more) = (rng.below(10) as u64, rng.between(1, 10) as u64);
+        let room = REPORT_RUN_BYTES;
+        let (whole, whole_first, _) = run_in(&inputs, one + more, room, room);
+        let (half, half_first, _) = run_in(&inputs, one, room, room);
+        let (whole, half) = (whole.expect("not refused"), half.expect("not refused"));
+        let script = half_first[..half.records as usize * SCRIPT_BYTES].to_vec();
+        let (rest, rest_first, _) = run_in(&Inputs { script, ..inputs }, more, room, room);
+        let rest = rest.expect("not refused");
+        assert_eq!((rest.end, rest.records), (whole.end, whole.records));
+        assert_eq!(half.steps + rest.steps, whole.steps);
+        assert_eq!(rest_first, whole_first);
+    });
+}
+
+#[test]
+fn stripping_clears_groups_and_nothing_else() {
+    examples(2000, |rng| {
+        let length = rng.below(60);
+        let before = rng.bytes(length);
+        let mut script = before.clone();
+        strip_script(&mut script);
+        let mut types = before.clone();
+        strip_types(&mut types);
+        assert_eq!((script.len(), types.len()), (length, length));
+        for at in 0..length {
+            let cleared = [1, 2].contains(&(at % 6));
+            assert_eq!(script[at], if cleared { 0 } else { before[at] });
+            let cleared = [1, 2].contains(&(at % 4));
+            assert_eq!(types[at], if cleared { 0 } else { before[at] });
+        }
+    });
+}
+
+#[test]
+fn a_stripped_script_keeps_its_shape() {
+    examples(500, |rng| {
+        let world = World::random(rng);
+        let fuel = rng.below(60);
+        let mut inputs = inputs_of(&world, &untyped_script(rng, &world.tables, fuel));
+        strip_script(&mut inputs.script);
+        strip_types(&mut inputs.types);
+        inputs.groups = ONE_GROUP.to_vec();
+        let world = World::of(inputs.groups.clone(), inputs.types.clone());
+        let term = read_script(&world.tables, &inputs.script, &[]).expect("13 to 19 are met");
+        let (report, _, _) = run_in(&inputs, 30, REPORT_RUN_BYTES, REPORT_RUN_BYTES);
+        assert_ne!(report.expect("not refused").end, End::MayNot, "one group reads everything");
+        assert_eq!(term.write(), inputs.script);
+    });
+}
+
+// ---------------------------------------------------------------------------------------------
+// Sheets
+
+#[test]
+fn sheets_show_more_to_higher_groups() {
+    examples(800, |rng| {
+        let world = World::random(rng);
+        let groups = groups_of(&world);
+        let fuel = rng.below(40);
+        let value = untyped_value(rng, &world.tables, fuel);
+        let inputs = inputs_of(&world, &value);
+        let sheet = |group: Group| {
+            let (count, bytes) = sheet_in(&inputs, group.into(), inputs.script.len() + 4);
+            let length = count.expect("a value that fits") as usize * SHEET_BYTES;
+            assert_eq!(bytes[length..], filled(inputs.script.len() + 4)[length..]);
+            bytes[..length].to_vec()
+        };
+        let top = sheet((groups.count() - 1) as Group);
+        let (g, h) = (any_group(rng, groups), any_group(rng, groups));
+        let (low, high) = (sheet(g), sheet(groups.join(g, h)));
+        assert!(top.chunks(4).all(|record| record[0] != CLOSED), "the top reads everything");
+        assert_eq!((low.len(), high.len()), (top.len(), top.len()));
+        for ((low, high), full) in low.chunks(4).zip(high.chunks(4)).zip(top.chunks(4)) {
+            let readable = groups.below(full[1], g);
+            assert_eq!(low, if readable { full } else { &[CLOSED, 0, 0, 0] });
+            if readable {
+                assert_eq!(high, full, "what g reads, a higher group reads");
+            }
+        }
+    });
+}
+
+#[test]
+fn only_values_have_sheets() {
+    let (mut values, mut others) = (0, 0);
+    let enough = examples(800, |rng| {
+        let world = World::random(rng);
+        let fuel = rng.below(10);
+        let term = untyped_script(rng, &world.tables, fuel);
+        let inputs = inputs_of(&world, &term);
+        let length = inputs.script.len();
+        let (answer, bytes) = sheet_in(&inputs, 0, length);
+        if is_value(&term) {
+            values += 1;
+            assert!(answer.is_ok());
+        } else {
+            others += 1;
+            assert_eq!(answer, no(26, 0));
+            assert_eq!(bytes, filled(length));
+        }
+    });
+    assert!(!enough || values > 0 && others > 0, "both answers were drawn");
+}
+
+// ---------------------------------------------------------------------------------------------
+// Damage
+
+#[test]
+fn refusals_leave_lent_memory_as_the_document_says() {
+    let mut refused = [0; 28];
+    let enough = examples(6000, |rng| {
+        let world = World::random(rng);
+        let term = match rng.below(3) {
+            0 => typed(rng, &world),
+            1 => untyped_value(rng, &world.tables, 12),
+            _ => untyped_script(rng, &world.tables, 40),
+        };
+        let mut inputs = inputs_of(&world, &term);
+        match rng.below(6) {
+            0 => inputs.groups = damaged(rng, &inputs.groups),
+            1 => inputs.types = damaged(rng, &inputs.types),
+            _ => inputs.script = damaged(rng, &inputs.script),
+        }
+        let (work, answer) = match rng.below(12) {
+            0 => (WORK_BYTES - 1, ANSWER_BYTES),
+            1 => (WORK_BYTES, ANSWER_BYTES - 1),
+            _ => (WORK_BYTES, ANSWER_BYTES + 9),
+        };
+        let (checked, work_after, answer_after) = check_in(&inputs, work, answer);
+        if let Err(Refusal { question, .. }) = checked {
+            refused[question as usize] += 1;
+            assert_eq!(answer_after, filled(answer));
+            let expected = if question >= 20 { vec![0; work] } else { filled(work) };
+            assert_eq!(work_after, expected);
+        }
+        let room = inputs.script.len() + rng.below(60);
+        let room = if rng.one_in(8) { room / 2 } else { room };
+        let (ran, first, scratch) = run_in(&inputs, 20, room, room + 1);
+        if ran.is_err() {
+            assert_eq!((first, scratch), (filled(room), filled(room + 1)));
+        }
+        let (stepped, written) = step_in(&inputs, room);
+        if stepped.map_or(true, |report| report.end != End::Moved) {
+            assert_eq!(written, filled(room));
+        }
+        let length = rng.below(40);
+        let (seen, sheet) = sheet_in(&inputs, rng.below(34) as u64, length);
+        if let Err(Refusal { question, .. }) = seen {
+            refused[question as usize] += 1;
+            assert_eq!(sheet, filled(length));
+        }
+        // A run, a step and a sheet ask 2 to 19 alike; only a run looks at its buffers in 13.
+        if let (Err(one), Err(other)) = (ran, stepped) {
+            assert!(one == other || one.question == 13);
+        }
+    });
+    for question in [1, 2, 3, 4, 5, 6, 8, 9, 10, 11, 13, 14, 15, 16, 17, 19, 20, 22, 25, 26, 27] {
+        assert!(!enough || refused[question] > 0, "question {question} was drawn: {refused:?}");
+    }
+}
