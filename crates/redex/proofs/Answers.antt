@@ -1,0 +1,104 @@
+-- The answers that are read off records: whether a type is a function, and the fate of a node.
+use mathlib.Core.Path.{_≡_, refl, sym, ap, ap₂, _∙_}
+use mathlib.Core.Bool.{Bool, cond, So, false≢true}
+use mathlib.Core.List.{[], _∷_}
+use Prim.Native.Nat.{ℕ, zero, suc, _+_, _*_, _≤_, _<_}
+use native.Mathlib.Omega.{arith}
+use native.Mathlib.Decide.{decLt}
+use lib.Dec.{eqb}
+use borrow.Author.Tests.{ne-eqb}
+use lib.ListN.{length, getD, drop, length-drop}
+use lib.Seq.{getD-drop}
+use Rattle.calculus.specs.Security.{Property, Security}
+use Rattle.calculus.specs.Types.{Ty, top}
+use Rattle.calculus.specs.Terms.{Term}
+use Rattle.rules.specs.Answer.{Bytes, byte}
+use Rattle.rules.specs.Limits.{type-width}
+use Rattle.rules.specs.Groups.{leq, readers}
+use Rattle.rules.specs.Types.{type-count, type-kind, type-r, type-ir, type-at, parse-types, make-type, no-type}
+use Rattle.rules.specs.Script.{kind, r, number}
+use Rattle.script.specs.Place.{At}
+use Rattle.script.proofs.Stands.{kind-of, stands-kind}
+use Rattle.rules.proofs.TypePlaces.{type-at-outside}
+use Rattle.redex.specs.Fates.{goes, misfit, property-of, first-operand, is-function, reading-fate, fate}
+use Rattle.redex.specs.Found.{answer, takes-apart}
+use Rattle.redex.proofs.Places.{reader-at, number-at}
+use Rattle.redex.proofs.Forms.{first-position, recursion-turn, reading-is}
+use Rattle.redex.proofs.Searches.{position-at}
+
+-- a type is a function by its first byte
+made-function : (k : ℕ) (p : Property) (s t : Ty) → eqb k 3 ≡ is-function (make-type k p s t)
+made-function zero p s t = refl
+made-function (suc zero) p s t = refl
+made-function (suc (suc zero)) p s t = refl
+made-function (suc (suc (suc zero))) p s t = refl
+made-function (suc (suc (suc (suc k)))) p s t = ne-eqb (suc (suc (suc (suc k)))) 3 (λ e. omega arith)
+
+first-function : (b : Bytes) → 4 ≤ length b → eqb (byte b 0) 3 ≡ is-function (getD (parse-types b) 0 no-type)
+unfolding parse-types
+first-function [] l = absurd (omega arith)
+first-function (k ∷ []) l = absurd (omega arith)
+first-function (k ∷ r ∷ []) l = absurd (omega arith)
+first-function (k ∷ r ∷ ir ∷ []) l = absurd (omega arith)
+first-function (k ∷ r ∷ ir ∷ z ∷ b) l = made-function k _ _ _
+
+pub function-at : (t : Bytes) (i : ℕ) → type-width * i + 4 ≤ length t → eqb (type-kind t i) 3 ≡ is-function (type-at t i)
+unfolding type-at
+function-at t i l =
+    let z : type-width * i + 0 ≡ type-width * i = omega arith in
+    ap (λ n. eqb (byte t n) 3) (sym z) ∙ ap (λ n. eqb n 3) (sym (getD-drop (type-width * i) t 0 0))
+    ∙ first-function (drop (type-width * i) t) (omega (arith, length-drop (type-width * i) t))
+
+-- A function type is in the table, and its first record has its groups.
+pub function-inside : (t : Bytes) (i : ℕ) → So (is-function (type-at t i)) → i < type-count t
+function-inside t i h = by (decLt i (type-count t))
+  where
+    by : Dec (i < type-count t) → i < type-count t
+    by (yes l) = l
+    by (no n) = absurd (false≢true (sym (ap is-function (type-at-outside t i (omega arith))) ∙ h))
+
+made-top : (k : ℕ) (p : Property) (s t : Ty) → So (is-function (make-type k p s t)) → top (make-type k p s t) ≡ p
+made-top zero p s t h = absurd (false≢true h)
+made-top (suc zero) p s t h = absurd (false≢true h)
+made-top (suc (suc zero)) p s t h = absurd (false≢true h)
+made-top (suc (suc (suc zero))) p s t h = refl
+made-top (suc (suc (suc (suc k)))) p s t h = absurd (false≢true h)
+
+first-top : (b : Bytes) → So (is-function (getD (parse-types b) 0 no-type))
+    → top (getD (parse-types b) 0 no-type) ≡ record { r = byte b 1; ir = byte b 2 }
+unfolding parse-types
+first-top [] h = absurd (false≢true h)
+first-top (k ∷ []) h = absurd (false≢true h)
+first-top (k ∷ r ∷ []) h = absurd (false≢true h)
+first-top (k ∷ r ∷ ir ∷ []) h = absurd (false≢true h)
+first-top (k ∷ r ∷ ir ∷ z ∷ b) h = made-top k _ _ _ h
+
+pub function-top : (t : Bytes) (i : ℕ) → So (is-function (type-at t i)) → top (type-at t i) ≡ record { r = type-r t i; ir = type-ir t i }
+unfolding type-at
+function-top t i h =
+    let b = drop (type-width * i) t in
+    first-top b h ∙ ap₂ (λ x y. record { r = x; ir = y }) (getD-drop (type-width * i) t 1 0) (getD-drop (type-width * i) t 2 0)
+
+module _ {s : Bytes} {i : ℕ} {e : Term} (a : At s i e) where
+  -- of a recursion, by the kind of the type that it names
+  pub recursion-answer : (S : Security) (t : Bytes) (n d : ℕ) (b : Bool) → kind s i ≡ 11 → n ≡ number s i → is-function (type-at t n) ≡ b
+      → answer (cond b goes misfit) i d ≡ answer (fate S (type-at t) e) i d
+  recursion-answer S t n d b h p q =
+      ap (λ x. answer x i d)
+      (ap (λ x. cond x goes misfit) (sym q) ∙ ap (λ m. cond (is-function (type-at t m)) goes misfit) (p ∙ number-at a)
+      ∙ sym (recursion-turn S (type-at t) e (sym (stands-kind s i e a) ∙ h) .1))
+
+  -- of a destructor, by its own record and the next
+  pub reading-answer : (g : Bytes) (tab : ℕ → Ty) (d : ℕ) (fits may : Bool) → 6 ≤ kind s i → kind s i ≤ 9
+      → takes-apart (kind s i) (kind s (i + 1)) ≡ fits → leq g (r s (i + 1)) (r s i) ≡ may
+      → answer (reading-fate fits may) i d ≡ answer (fate (readers g) tab e) i d
+  reading-answer g tab d fits may l h p q =
+      let k = stands-kind s i e a in
+      let o = position-at (i + 1) (first-position e (omega (arith, k)) (omega (arith, k))) a refl in
+      ap (λ x. answer x i d)
+      (ap (λ x. reading-fate x may) (sym p) ∙ ap (λ x. reading-fate (takes-apart (kind s i) (kind s (i + 1))) x) (sym q)
+      ∙ ap (λ x. reading-fate (takes-apart x (kind s (i + 1))) (leq g (r s (i + 1)) (r s i))) k
+      ∙ ap (λ x. reading-fate (takes-apart (kind-of e) x) (leq g (r s (i + 1)) (r s i))) (stands-kind s (i + 1) (first-operand e) o)
+      ∙ ap (λ x. reading-fate (takes-apart (kind-of e) (kind-of (first-operand e))) (leq g x (r s i))) (reader-at o)
+      ∙ ap (λ x. reading-fate (takes-apart (kind-of e) (kind-of (first-operand e))) (leq g (property-of (first-operand e) .r) x)) (reader-at a)
+      ∙ sym (reading-is (readers g) tab e (omega (arith, k)) (omega (arith, k))))

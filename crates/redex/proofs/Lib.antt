@@ -1,0 +1,6 @@
+pub mod Splice
+pub mod Places
+pub mod Turns
+pub mod Forms
+pub mod Searches
+pub mod Answers

@@ -1,0 +1,95 @@
+-- What stands around the hole of an evaluation context: the bytes, the records and the depths are the same for every term in the hole.
+use mathlib.Core.List.{[], _++_}
+use Prim.Native.Nat.{ℕ, _+_, max}
+use Rattle.calculus.specs.Terms.{choose}
+use Rattle.calculus.specs.Reduction.{
+  Context,
+  hole,
+  app-left,
+  app-right,
+  in-proj,
+  in-inj,
+  pair-left,
+  pair-right,
+  in-protect,
+  in-case,
+}
+use Rattle.rules.specs.Answer.{Bytes}
+use Rattle.rules.specs.Script.{script-record, encode, size, depth}
+
+-- the bytes before the hole
+unfoldable pub before : Context → Bytes
+unfolding encode
+before hole = []
+before (app-left w E a) = script-record 6 w 0 0 ++ before E
+before (app-right w v h E) = script-record 6 w 0 0 ++ (encode v ++ before E)
+before (in-proj d w E) = script-record (choose d 7 8) w 0 0 ++ before E
+before (in-inj d k i E) = script-record (choose d 4 5) (k .r) (k .ir) i ++ before E
+before (pair-left k E b) = script-record 3 (k .r) (k .ir) 0 ++ before E
+before (pair-right k v h E) = script-record 3 (k .r) (k .ir) 0 ++ (encode v ++ before E)
+before (in-protect m E) = script-record 10 0 m 0 ++ before E
+before (in-case w i E a b) = script-record 9 w 0 i ++ before E
+
+-- the bytes after it
+unfoldable pub after : Context → Bytes
+unfolding encode
+after hole = []
+after (app-left w E a) = after E ++ encode a
+after (app-right w v h E) = after E
+after (in-proj d w E) = after E
+after (in-inj d k i E) = after E
+after (pair-left k E b) = after E ++ encode b
+after (pair-right k v h E) = after E
+after (in-protect m E) = after E
+after (in-case w i E a b) = after E ++ (encode a ++ encode b)
+
+-- the records before the hole
+unfoldable pub offset : Context → ℕ
+unfolding size
+offset hole = 0
+offset (app-left w E a) = 1 + offset E
+offset (app-right w v h E) = 1 + (size v + offset E)
+offset (in-proj d w E) = 1 + offset E
+offset (in-inj d k i E) = 1 + offset E
+offset (pair-left k E b) = 1 + offset E
+offset (pair-right k v h E) = 1 + (size v + offset E)
+offset (in-protect m E) = 1 + offset E
+offset (in-case w i E a b) = 1 + offset E
+
+-- the records before and after it
+unfoldable pub beside : Context → ℕ
+unfolding size
+beside hole = 0
+beside (app-left w E a) = 1 + (beside E + size a)
+beside (app-right w v h E) = 1 + (size v + beside E)
+beside (in-proj d w E) = 1 + beside E
+beside (in-inj d k i E) = 1 + beside E
+beside (pair-left k E b) = 1 + (beside E + size b)
+beside (pair-right k v h E) = 1 + (size v + beside E)
+beside (in-protect m E) = 1 + beside E
+beside (in-case w i E a b) = 1 + (beside E + (size a + size b))
+
+-- the records around it: each is one level of depth
+unfoldable pub level : Context → ℕ
+level hole = 0
+level (app-left w E a) = 1 + level E
+level (app-right w v h E) = 1 + level E
+level (in-proj d w E) = 1 + level E
+level (in-inj d k i E) = 1 + level E
+level (pair-left k E b) = 1 + level E
+level (pair-right k v h E) = 1 + level E
+level (in-protect m E) = 1 + level E
+level (in-case w i E a b) = 1 + level E
+
+-- the depth of the deepest record before or after it, 0 where there is none
+unfoldable pub depth-beside : Context → ℕ
+unfolding depth
+depth-beside hole = 0
+depth-beside (app-left w E a) = 1 + max (depth-beside E) (depth a)
+depth-beside (app-right w v h E) = 1 + max (depth v) (depth-beside E)
+depth-beside (in-proj d w E) = 1 + depth-beside E
+depth-beside (in-inj d k i E) = 1 + depth-beside E
+depth-beside (pair-left k E b) = 1 + max (depth-beside E) (depth b)
+depth-beside (pair-right k v h E) = 1 + max (depth v) (depth-beside E)
+depth-beside (in-protect m E) = 1 + depth-beside E
+depth-beside (in-case w i E a b) = 1 + max (depth-beside E) (max (depth a) (depth b))

@@ -1,0 +1,122 @@
+-- What becomes of a node once its evaluated operands are values, apart from what it contracts to.
+use mathlib.Core.Bool.{Bool, true, false, cond, _&&_}
+use Prim.Native.Nat.{ℕ, zero}
+use Rattle.calculus.specs.Security.{Property, Security}
+use Rattle.calculus.specs.Types.{sum, product, function, Ty, one, node, same, top}
+use Rattle.calculus.specs.Terms.{Side, first, choose, Term, var, unit, lam, pair, inj, app, proj, case, protect, mu, is-value, subst, raise-value}
+use Rattle.calculus.specs.Reduction.{unrolled, Outcome, moved, denied, stuck}
+use Rattle.calculus.specs.Stuck.{built-by}
+
+-- the groups of a term's own record: "unnamed fields are 0"
+abbrev pub property-of : Term → Property
+property-of (var n) = record { r = 0; ir = 0 }
+property-of (unit k) = k
+property-of (lam k i e) = k
+property-of (pair k a b) = k
+property-of (inj d k i e) = k
+property-of (app w f a) = record { r = w; ir = 0 }
+property-of (proj d w e) = record { r = w; ir = 0 }
+property-of (case w i e a b) = record { r = w; ir = 0 }
+property-of (protect m e) = record { r = 0; ir = m }
+property-of (mu i e) = record { r = 0; ir = 0 }
+
+-- The parts of a term that a rule of table 1 takes apart. Each is total: a term without the part has a stand-in, which no rule uses.
+abbrev pub side-of : Term → Side
+side-of (var n) = first
+side-of (unit k) = first
+side-of (lam k i e) = first
+side-of (pair k a b) = first
+side-of (inj d k i e) = d
+side-of (app w f a) = first
+side-of (proj d w e) = d
+side-of (case w i e a b) = first
+side-of (protect m e) = first
+side-of (mu i e) = first
+
+abbrev pub first-operand : Term → Term
+first-operand (var n) = var n
+first-operand (unit k) = unit k
+first-operand (lam k i e) = e
+first-operand (pair k a b) = a
+first-operand (inj d k i e) = e
+first-operand (app w f a) = f
+first-operand (proj d w e) = e
+first-operand (case w i e a b) = e
+first-operand (protect m e) = e
+first-operand (mu i e) = e
+
+abbrev pub second-operand : Term → Term
+second-operand (var n) = var n
+second-operand (unit k) = unit k
+second-operand (lam k i e) = e
+second-operand (pair k a b) = b
+second-operand (inj d k i e) = e
+second-operand (app w f a) = a
+second-operand (proj d w e) = e
+second-operand (case w i e a b) = a
+second-operand (protect m e) = e
+second-operand (mu i e) = e
+
+abbrev pub is-function : Ty → Bool
+is-function (one k) = false
+is-function (node f k s t) = same function f
+
+-- Is it the node's own turn: no value, and its evaluated operands are values?
+unfoldable pub ready : Term → Bool
+unfolding is-value
+ready (var n) = true
+ready (unit k) = false
+ready (lam k i e) = false
+ready (pair k a b) = false
+ready (inj d k i e) = false
+ready (app w f a) = is-value f && is-value a
+ready (proj d w e) = is-value e
+ready (case w i e a b) = is-value e
+ready (protect m e) = is-value e
+ready (mu i e) = true
+
+pub data Fate : Type 0 where
+  -- it contracts
+  goes : Fate
+  -- its reader may not
+  barred : Fate
+  -- no rule has its kind of operand
+  misfit : Fate
+
+-- a reading of a value that has the wanted kind or not, by one who may or not: "wrong kind (decided before 2)"
+abbrev pub reading-fate : Bool → Bool → Fate
+reading-fate fits may = cond fits (cond may goes barred) misfit
+
+unfoldable pub fate : Security → (ℕ → Ty) → Term → Fate
+unfolding built-by
+fate S tab (var n) = misfit
+fate S tab (unit k) = misfit
+fate S tab (lam k i e) = misfit
+fate S tab (pair k a b) = misfit
+fate S tab (inj d k i e) = misfit
+fate S tab (app w f a) = reading-fate (built-by function f) (S .permits (property-of f) w)
+fate S tab (proj d w e) = reading-fate (built-by product e) (S .permits (property-of e) w)
+fate S tab (case w i e a b) = reading-fate (built-by sum e) (S .permits (property-of e) w)
+fate S tab (protect m e) = goes
+fate S tab (mu i e) = cond (is-function (tab i)) goes misfit
+
+-- Table 1's right sides. What no left side of table 1 fits is its own contractum.
+unfoldable pub contractum : Security → (ℕ → Ty) → Term → Term
+unfolding subst raise-value
+contractum S tab (var n) = var n
+contractum S tab (unit k) = unit k
+contractum S tab (lam k i e) = lam k i e
+contractum S tab (pair k a b) = pair k a b
+contractum S tab (inj d k i e) = inj d k i e
+contractum S tab (app w f a) = protect (S .influence (property-of f) w) (subst zero a (first-operand f))
+contractum S tab (proj d w e) = protect (S .influence (property-of e) w) (choose d (first-operand e) (second-operand e))
+contractum S tab (case w i e a b) =
+    protect (S .influence (property-of e) w) (subst zero (first-operand e) (choose (side-of e) a b))
+contractum S tab (protect m e) = raise-value S e m
+contractum S tab (mu i e) = subst zero (unrolled S i (top (tab i)) e) e
+
+-- the step of a node whose own turn it is
+abbrev pub fated : Fate → Term → Outcome
+fated goes e = moved e
+fated barred e = denied
+fated misfit e = stuck

@@ -1,0 +1,146 @@
+ghost use mathlib.Core.Path.{_≡_};
+ghost use Prim.Native.Nat.{ℕ, _+_, _*_, _≤_, _<_};
+ghost use lib.ListN.{length};
+ghost use Rattle.calculus.specs.Security.{Security};
+ghost use Rattle.calculus.specs.Types.{Ty};
+ghost use Rattle.calculus.specs.Terms.{Term};
+ghost use Rattle.rules.specs.Limits.{script-width};
+ghost use Rattle.rules.specs.Groups.{leq, readers};
+ghost use Rattle.rules.specs.Types.{type-at};
+ghost use Rattle.rules.specs.Script.{kind, r, size};
+ghost use Rattle.script.specs.Place.{At, Here};
+ghost use Rattle.redex.specs.Fates.{is-function, fate};
+ghost use Rattle.redex.specs.Found.{Shallow, Finds, answer, takes-apart};
+use script::Ended;
+
+const TYPE_WIDTH: usize = 4;
+
+// What the search for the redex reports: a value and the record after it; the redex and the number of records around it; or why no
+// step moves the term, a reader that may not (end 2) or a wrong kind (end 3).
+pub enum Found {
+    Value(usize),
+    Redex(usize, usize),
+    Denied,
+    Stuck,
+}
+
+fn index(n: u16) -> usize
+    ensures { λ a. ⌜ (a ≡ n) × (a < 65536) ⌝ }
+{
+    n as usize
+}
+
+// The record after the term at record `at`.
+pub fn end_of(script: &[u8], at: usize) -> usize
+    requires { ⌜ Here (now script) at ⌝ }
+    ensures { λ a. ⌜ ((e : Term) → At (now (script .entry)) at e → a ≡ at + size e) ⌝ }
+{
+    let end = script::term_end(script, at);
+    let Ended::Before(next) = end else {
+        return at;
+    };
+    next
+}
+
+// Is type i a function? Asked again here, and of any index, so that no step has to keep question 16.
+fn unrolls(types: &[u8], i: usize) -> bool
+    ensures { λ a. ⌜ a ≡ is-function (type-at (now (types .entry)) i) ⌝ }
+{
+    if types.len() / TYPE_WIDTH <= i {
+        return false;
+    }
+    types[TYPE_WIDTH * i] == 3
+}
+
+// Does a destructor of this kind take apart a value of that kind?
+fn takes_apart(destructor: u8, value: u8) -> bool
+    ensures { λ a. ⌜ a ≡ takes-apart destructor value ⌝ }
+{
+    match destructor {
+        6 => value == 2,
+        7 => value == 3,
+        8 => value == 3,
+        9 => (value == 4) | (value == 5),
+        _ => false,
+    }
+}
+
+// May the destructor at record `at` read the value at the next record?
+fn may_read(groups: &[u8], script: &[u8], at: usize) -> bool
+    requires { ⌜ script-width * at + 12 ≤ length (now script) ⌝ }
+    ensures { λ a. ⌜ a ≡ leq (now (groups .entry)) (r (now (script .entry)) (at + 1)) (r (now (script .entry)) at) ⌝ }
+{
+    let read = script::reader(script, at + 1);
+    let reader = script::reader(script, at);
+    read.at_or_below(groups, reader)
+}
+
+// The answer of the destructor at record `at`, whose evaluated operands are values: the kind is asked before the reader.
+fn reading(groups: &[u8], script: &[u8], at: usize, depth: usize) -> Found
+    requires { ⌜ script-width * at + 12 ≤ length (now script) ⌝ }
+    ensures { λ a. ⌜ ((tab : ℕ → Ty) (e : Term) → At (now (script .entry)) at e → 6 ≤ kind (now (script .entry)) at → kind (now (script .entry)) at ≤ 9 → a ≡ answer (fate (readers (now (groups .entry))) tab e) at depth) ⌝ }
+{
+    let destructor = script::kind(script, at);
+    let value = script::kind(script, at + 1);
+    if takes_apart(destructor, value) {
+        if may_read(groups, script, at) {
+            return Found::Redex(at, depth);
+        }
+        return Found::Denied;
+    }
+    Found::Stuck
+}
+
+// The answer of the recursion at record `at`.
+fn unrolling(types: &[u8], script: &[u8], at: usize, depth: usize) -> Found
+    requires { ⌜ script-width * at + 6 ≤ length (now script) ⌝ }
+    ensures { λ a. ⌜ ((S : Security) (e : Term) → At (now (script .entry)) at e → kind (now (script .entry)) at ≡ 11 → a ≡ answer (fate S (type-at (now (types .entry))) e) at depth) ⌝ }
+{
+    let named = index(script::number(script, at));
+    if !unrolls(types, named) {
+        return Found::Stuck;
+    }
+    Found::Redex(at, depth)
+}
+
+// One pass from left to right over the term at record `at`, which has `depth` records around it. A value tells its end, so none is
+// passed over twice, and no call is deeper than the term.
+pub fn find(groups: &[u8], types: &[u8], script: &[u8], at: usize, depth: usize) -> Found
+    requires { ⌜ Shallow (now script) at depth ⌝ }
+    ensures { λ a. ⌜ ((e : Term) → At (now (script .entry)) at e → Finds (readers (now (groups .entry))) (type-at (now (types .entry))) at depth e a) ⌝ }
+{
+    let kind = script::kind(script, at);
+    if kind == 0 {
+        return Found::Stuck;
+    }
+    if kind == 1 {
+        return Found::Value(at + 1);
+    }
+    if kind == 2 {
+        return Found::Value(end_of(script, at));
+    }
+    if kind == 11 {
+        return unrolling(types, script, at, depth);
+    }
+    let first = find(groups, types, script, at + 1, depth + 1);
+    let Found::Value(next) = first else {
+        return first;
+    };
+    if (kind == 4) | (kind == 5) {
+        return first;
+    }
+    if kind == 10 {
+        return Found::Redex(at, depth);
+    }
+    if 6 < kind {
+        return reading(groups, script, at, depth);
+    }
+    let second = find(groups, types, script, next, depth + 1);
+    let Found::Value(end) = second else {
+        return second;
+    };
+    if kind == 3 {
+        return Found::Value(end);
+    }
+    reading(groups, script, at, depth)
+}

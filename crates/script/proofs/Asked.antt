@@ -1,0 +1,55 @@
+-- The look-up's part, and what the questions say together.
+use mathlib.Core.Path.{_≡_, refl, ap, sym}
+use mathlib.Core.List.{List, []}
+use mathlib.Core.Option.{some}
+use Prim.Native.Nat.{ℕ, _*_, _-_}
+use native.Mathlib.Omega.{arith}
+use lib.ListN.{take, drop}
+use Rattle.rules.specs.Answer.{Bytes, Answer, accepted, refused, _>>_}
+use Rattle.rules.specs.Script.{part-if, slice, q13, q14, q15, q16, q17, q18, q19}
+use Rattle.rules.specs.Calls.{types-check, script-check}
+use Rattle.lattice.specs.declared.Checked.{Checked}
+use Rattle.lattice.specs.declared.Checked.the-variants.{Passed, Refused}
+use Rattle.lattice.specs.Said.{said}
+use Rattle.lattice.proofs.Passed.{Yes, No, accepts}
+use Rattle.script.specs.Check.{terms-check}
+
+pub no-part : (x : Checked) (o : Answer (Unit {0})) (part : Bytes) → No x → said x ≡ o → part-if o part ≡ []
+no-part Passed o part k e = absurd (omega arith)
+no-part (Refused q p) o part k e = ap (λ a. part-if a part) (sym e)
+
+pub whole-part : (x : Checked) (o : Answer (Unit {0})) (part : Bytes) → Yes x → said x ≡ o → part-if o part ≡ part
+whole-part x o part k e = ap (λ a. part-if a part) (accepts x o k e)
+
+pub slice-is : (s : Bytes) (i e : ℕ) → take (6 * e - 6 * i) (drop (6 * i) s) ≡ slice s i (some e)
+slice-is s i e = let p : 6 * e - 6 * i ≡ 6 * (e - i) = omega arith in ap (λ n. take n (drop (6 * i) s)) p
+
+-- a call's questions 2 to 19 are those of the types and then those of the script
+pub script-check-is : (rooms : List ℕ) (g t s : Bytes) → script-check rooms g t s ≡ _>>_ (types-check g t) (terms-check rooms g t s)
+unfolding script-check terms-check
+script-check-is rooms g t s = refl
+
+-- What a yes to 13 to 19 says.
+pub record Terms-pass (rooms : List ℕ) (g t s : Bytes) : Type 0 where
+  pub q13-yes : q13 rooms s ≡ accepted tt
+  pub q14-yes : q14 s ≡ accepted tt
+  pub q15-yes : q15 g s ≡ accepted tt
+  pub q16-yes : q16 t s ≡ accepted tt
+  pub q17-yes : q17 s ≡ accepted tt
+  pub q18-yes : q18 s ≡ accepted tt
+  pub q19-yes : q19 s ≡ accepted tt
+
+both-yes : (a b : Answer (Unit {0})) → _>>_ a b ≡ accepted tt → (a ≡ accepted tt) × (b ≡ accepted tt)
+both-yes (accepted u) b h = (refl, h)
+both-yes (refused q p) b h = let x : _≡_ {A = ℕ} 0 1 = cc in absurd (omega arith)
+
+pub terms-pass : (rooms : List ℕ) (g t s : Bytes) → terms-check rooms g t s ≡ accepted tt → Terms-pass rooms g t s
+unfolding terms-check
+terms-pass rooms g t s h =
+    let a = both-yes (q13 rooms s) _ h in
+    let b = both-yes (q14 s) _ (a .1) in
+    let c = both-yes (q15 g s) _ (b .1) in
+    let d = both-yes (q16 t s) _ (c .1) in
+    let e = both-yes (q17 s) _ (d .1) in
+    let f = both-yes (q18 s) (q19 s) (e .1) in
+    record { q13-yes = a .0; q14-yes = b .0; q15-yes = c .0; q16-yes = d .0; q17-yes = e .0; q18-yes = f .0; q19-yes = f .1 }

@@ -1,0 +1,29 @@
+-- `script::term_records` meets its contract: a term that stands there ends there.
+use Rattle.rules.specs.Script.{size}
+use Rattle.script.proofs.Ends.{not-short, is-before, before-inj}
+use Rattle.script.proofs.Stands.{stands-end}
+use borrow.Author.Needs.{needs}
+use Rattle.script.proofs.term_records.Statement.{statement}
+use Rattle.script.proofs.term_records.Tie as tie
+
+term-end-requires : tie.Need-term-end-requires
+term-end-requires c κs = search needs
+
+enum-known-e : tie.Need-enum-known-e
+enum-known-e c = search needs
+
+enum-told : tie.Need-enum-told
+enum-told c = search needs
+
+returns : tie.Need-returns
+returns c e w =
+    absurd (not-short (c .before .before .term-end .result) _ (size e) (c .before .match .keys2) (c .before .before .term-end .ensures)
+    (stands-end _ e w))
+
+returns-2 : tie.Need-returns-2
+returns-2 c e w =
+    before-inj _ _ (size e) (is-before (c .before .before .before .term-end .result) _ (c .before .e .given .0 .0) (c .before .e .given .1)
+    (c .before .before .before .term-end .ensures)) (stands-end _ e w)
+
+pub term-records-spec : {M : Type 1} → statement M
+term-records-spec = tie.close (tie.spec term-end-requires enum-known-e enum-told returns returns-2)

@@ -1,0 +1,44 @@
+-- The questions of a script, in order.
+use mathlib.Core.Bool.{Bool, _&&_}
+use mathlib.Core.List.{List, []}
+use Prim.Native.Nat.{ℕ, _%_}
+use lib.Dec.{eqb, leb}
+use lib.ListN.{length}
+use Rattle.rules.specs.Answer.{Bytes, Answer, first-from, _>>_}
+use Rattle.rules.specs.Limits.{script-width, script-limit}
+use Rattle.rules.specs.Script.{records, ok14, ok15, ok16, term-end, ok18, ok19, counts, term, q13, q14, q15, q16, q17, q18, q19}
+
+-- whole records, 1 to 8,192: question 13 of a script alone
+abbrev pub whole-records : Bytes → Bool
+whole-records s = eqb (length s % script-width) 0 && (leb 1 (records s) && leb (records s) script-limit)
+
+-- 13, 14 and 17: what the look-up of a subterm asks
+unfoldable pub shape-check : Bytes → Answer (Unit {0})
+unfolding first-from ok14 term-end
+shape-check s = do
+  q13 [] s
+  q14 s
+  q17 s
+
+-- 14 to 19
+unfoldable pub later-check : Bytes → Bytes → Bytes → Answer (Unit {0})
+unfolding first-from ok14 ok15 ok16 term-end ok18 ok19 counts term
+later-check g t s = do
+  q14 s
+  q15 g s
+  q16 t s
+  q17 s
+  q18 s
+  q19 s
+
+-- 13 to 19; `rooms` are the lengths of a run's buffers
+unfoldable pub terms-check : List ℕ → Bytes → Bytes → Bytes → Answer (Unit {0})
+unfolding first-from ok14 ok15 ok16 term-end ok18 ok19 counts term
+terms-check rooms g t s = do
+  q13 rooms s
+  q14 s
+  q15 g s
+  q16 t s
+  q17 s
+  q18 s
+  q19 s

@@ -1,0 +1,4 @@
+pub mod Place
+pub mod Said
+pub mod Walk
+pub mod Check

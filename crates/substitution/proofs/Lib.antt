@@ -1,0 +1,5 @@
+pub mod Placed
+pub mod Nodes
+pub mod Reading
+pub mod Counting
+pub mod Writing
