@@ -1,0 +1,192 @@
+-- `look` meets its contract: what it finds at a node follows from what it finds at the operands. A call's record falls to the
+-- right in the script.
+use mathlib.Core.Path.{_≡_, sym, _∙_}
+use Prim.Native.Nat.{ℕ, _+_, _-_, _≤_, _<_}
+use native.Mathlib.Omega.{arith}
+use borrow.Author.Needs.{needs}
+use borrow.Fn.Kinds.{In}
+use borrow.Fn.PlainCycle.{Measures, is, falls, and}
+use lib.ListN.{length}
+use Rattle.calculus.specs.Terms.{Term}
+use Rattle.script.specs.Place.{At}
+use Rattle.script.proofs.Stands.{kind-of, op1, op2, here, room-one, stands-kind, at-op1, at-op2}
+use Rattle.sheet.specs.Value.{looked}
+use Rattle.sheet.proofs.Values.{Found, found, lost, is-other, looked-no, looked-yes, no-object, no-parts, first-part, injects, pairs, look-injection, look-pair, lines-size}
+use Rattle.sheet.proofs.look.Reads as look
+use Rattle.sheet.proofs.look.Kinds as look-kinds
+use Rattle.sheet.proofs.+look.Lts-look as lts
+use Rattle.script.proofs.kind.Reads as kind-reads
+use Rattle.sheet.proofs.end_of.Reads as end-of-reads
+use Rattle.sheet.proofs.+look.{statement}
+use Rattle.sheet.proofs.+look.Tie.{close}
+
+abbrev μ-look : Measures 1 look-kinds.ps ℕ
+μ-look κs a = length (a .0 .now) - a .1 .0
+
+abbrev look-at : ℕ → In 1 look-kinds.ps
+look-at t = and 1 look-kinds.ps (is 1 look-kinds.ps μ-look t) look.Pre
+
+abbrev look-below : ℕ → In 1 look-kinds.ps
+look-below t = and 1 look-kinds.ps (falls 1 look-kinds.ps _<_ μ-look t) look.Pre
+
+-- what `look` is given of the functions that it calls
+abbrev claims : ℕ → lts.Claims
+claims t = (kind-reads.Asked, kind-reads.Learnt, end-of-reads.Asked, end-of-reads.Learnt, look-below t, look.Post)
+
+module _ (t : ℕ) where
+  abbrev Start : Type 0
+  Start = lts.Start (claims t) (look-at t) look.Post
+
+  -- the term that the function is about
+  abbrev Stands : Start → Term → Type 0
+  Stands c u = At (c .args .value .now) (c .args .i) u
+
+  record-fits : (c : Start) → c .args .i + 1 ≤ length (c .args .value .now)
+  record-fits c = omega (arith, room-one _ _ _ (c .pre .1 .0 .at))
+
+  -- the record's kind is known
+  abbrev Known : Type 0
+  Known = lts.After-kind (claims t) (look-at t) look.Post
+
+  abbrev start : Known → Start
+  start c = c .before .before
+
+  kind-is : (c : Known) (u : Term) → Stands (start c) u → c .kind .result ≡ kind-of u
+  kind-is c u w = c .kind .ensures ∙ stands-kind _ _ u w
+
+  -- the node has parts
+  abbrev Parts : Type 0
+  Parts = lts.Else3 (claims t) (look-at t) look.Post
+
+  abbrev known : Parts → Known
+  known c = c .before .before .before
+
+  abbrev enter : Parts → Start
+  enter c = start (known c)
+
+  has-parts : (c : Parts) (u : Term) → Stands (enter c) u → 2 < kind-of u
+  has-parts c u w = omega (arith, kind-is (known c) u w, c .if3 .left)
+
+  is-object : (c : Parts) (u : Term) → Stands (enter c) u → kind-of u ≤ 5
+  is-object c u w = omega (arith, kind-is (known c) u w, c .before .if2 .left)
+
+  first-at : (c : Parts) (u : Term) → Stands (enter c) u → At (enter c .args .value .now) (enter c .args .i + 1) (op1 u)
+  first-at c u w = at-op1 _ _ u w (first-part u (has-parts c u w) (is-object c u w) .0)
+
+  -- the first part is a value
+  abbrev Past : Type 0
+  Past = lts.After-known-told (claims t) (look-at t) look.Post
+
+  abbrev parts : Past → Parts
+  parts c = c .before .before .before .before
+
+  abbrev begin : Past → Start
+  begin c = enter (parts c)
+
+  abbrev next : Past → ℕ
+  next c = c .before .first .given .0 .0
+
+  abbrev so-far : Past → ℕ
+  so-far c = c .before .first .given .0 .1 .0
+
+  first-is : (c : Past) (u : Term) → Stands (begin c) u → c .before .before .before .look .result ≡ looked (op1 u) (begin c .args .i + 1) (begin c .args .count + 1)
+  first-is c u w = c .before .before .before .look .ensures (op1 u) (first-at (parts c) u w)
+
+  first-found : (c : Past) (u : Term) → Stands (begin c) u → Found (op1 u) (begin c .args .i + 1) (begin c .args .count + 1) (next c) (so-far c)
+  first-found c u w = found (op1 u) _ _ _ _ (sym (first-is c u w) ∙ c .before .first .given .1)
+
+  -- the node is a pair
+  abbrev Both : Type 0
+  Both = lts.Else4 (claims t) (look-at t) look.Post
+
+  a-pair : (c : Both) (u : Term) → Stands (begin (c .before)) u → kind-of u ≡ 3
+  a-pair c u w = sym (kind-is (known (parts (c .before))) u w) ∙ c .if4 .left
+
+  second-at : (c : Both) (u : Term) → Stands (begin (c .before)) u → At (begin (c .before) .args .value .now) (next (c .before)) (op2 u)
+  second-at c u w = at-op2 _ _ u w (next (c .before)) (pairs u (a-pair c u w) .two) (first-found (c .before) u w .end)
+
+  look-kind-requires : lts.Need-kind-requires (claims t) (look-at t) look.Post
+  look-kind-requires c κs = room-one _ _ _ (c .before .pre .1 .0 .at)
+
+  look-returns : lts.Need-returns (claims t) (look-at t) look.Post
+  look-returns c u w = sym (looked-no u _ _ (no-object u (λ l. absurd (omega (arith, kind-is (c .before) u w, c .if1 .taken)))))
+
+  look-returns-2 : lts.Need-returns-2 (claims t) (look-at t) look.Post
+  look-returns-2 c u w = sym (looked-no u _ _ (no-object u (λ l. omega (arith, kind-is (c .before .before) u w, c .if2 .taken))))
+
+  look-end-of-requires : lts.Need-end-of-requires (claims t) (look-at t) look.Post
+  look-end-of-requires c κs = start (c .before .before .before) .pre .1 .0
+
+  look-add-t10 : lts.Need-add-t10 (claims t) (look-at t) look.Post
+  look-add-t10 c = let s = start (c .before .before .before .before) in omega (arith, record-fits s, s .pre .1 .1, s .good)
+
+  look-returns-3 : lts.Need-returns-3 (claims t) (look-at t) look.Post
+  look-returns-3 c u w =
+      let k = c .before .before .before .before in
+      let p = no-parts u (omega (arith, kind-is k u w, c .before .before .before .if1 .left)) (omega (arith, kind-is k u w, c .before .if3 .taken)) in
+      looked-yes u _ _ _ _ (p .0) (c .end-of .ensures u w) (omega (arith, p .1))
+
+  look-add-look : lts.Need-add-look (claims t) (look-at t) look.Post
+  look-add-look c = let s = enter c in omega (arith, record-fits s, s .good)
+
+  look-add-look-2 : lts.Need-add-look-2 (claims t) (look-at t) look.Post
+  look-add-look-2 c = let s = enter c in omega (arith, record-fits s, s .pre .1 .1, s .good)
+
+  look-look-requires : lts.Need-look-requires (claims t) (look-at t) look.Post
+  look-look-requires c κs =
+      let s = enter c in
+      (omega (arith, s .pre .0, record-fits s), (here (first-at c _ (s .pre .1 .0 .at)), omega (arith, s .pre .1 .1)))
+
+  look-enum-known-first : lts.Need-enum-known-first (claims t) (look-at t) look.Post
+  look-enum-known-first c = search needs
+
+  look-enum-told : lts.Need-enum-told (claims t) (look-at t) look.Post
+  look-enum-told c = search needs
+
+  look-returns-4 : lts.Need-returns-4 (claims t) (look-at t) look.Post
+  look-returns-4 c u w =
+      let d = c .before .before in
+      let p = d .before in
+      let x = d .look .result in
+      let v = lost (op1 u) _ _ x (c .before .match .keys2) (d .look .ensures (op1 u) (first-at p u w)) in
+      is-other x (c .before .match .keys2) ∙ sym (looked-no u _ _ (first-part u (has-parts p u w) (is-object p u w) .1 v))
+
+  look-returns-5 : lts.Need-returns-5 (claims t) (look-at t) look.Post
+  look-returns-5 c u w =
+      let d = c .before in
+      let p = parts d in
+      sym (d .before .first .given .1) ∙ first-is d u w
+      ∙ look-injection u _ _ (injects u (has-parts p u w) (is-object p u w) (λ h. c .if4 .taken (kind-is (known p) u w ∙ h)))
+
+  look-look-requires-2 : lts.Need-look-requires-2 (claims t) (look-at t) look.Post
+  look-look-requires-2 c κs =
+      let s = begin (c .before) in
+      let u = s .pre .1 .0 .tree in
+      let w = s .pre .1 .0 .at in
+      let f = first-found (c .before) u w in
+      (omega (arith, s .pre .0, record-fits s, f .end, room-one _ _ _ (second-at c u w)), (here (second-at c u w), omega (arith, s .pre .1 .1, f .end, f .count, lines-size (op1 u))))
+
+  look-returns-6 : lts.Need-returns-6 (claims t) (look-at t) look.Post
+  look-returns-6 c u w =
+      let b = c .before in
+      c .look2 .ensures (op2 u) (second-at b u w) ∙ look-pair u _ _ _ _ (pairs u (a-pair b u w)) (first-found (b .before) u w)
+
+pub +look-spec : {M : Type 1} → statement M
++look-spec =
+    close μ-look λ t.
+    lts.spec (claims t) (look-at t) look.Post
+    (look-kind-requires t)
+    (look-returns t)
+    (look-returns-2 t)
+    (look-end-of-requires t)
+    (look-add-t10 t)
+    (look-returns-3 t)
+    (look-add-look t)
+    (look-add-look-2 t)
+    (look-look-requires t)
+    (look-enum-known-first t)
+    (look-enum-told t)
+    (look-returns-4 t)
+    (look-returns-5 t)
+    (look-look-requires-2 t)
+    (look-returns-6 t)

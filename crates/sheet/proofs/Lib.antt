@@ -1,0 +1,4 @@
+pub mod Placed
+pub mod Values
+pub mod Sheets
+pub mod Questions

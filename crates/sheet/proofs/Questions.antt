@@ -1,0 +1,136 @@
+-- The questions in order, and the answer from what was asked.
+use mathlib.Core.Path.{_≡_, refl, sym, ap, _∙_}
+use mathlib.Core.Bool.{true, false}
+use mathlib.Core.List.{[]}
+use Prim.Native.Nat.{ℕ, _*_, _/_, _≤_, _<_}
+use native.Mathlib.Omega.{arith}
+use borrow.Author.Tests.{le-leb, lt-leb, lt-ltb, le-ltb, ltb-true}
+use lib.Dec.{ltb}
+use lib.ListN.{length}
+use Rattle.calculus.specs.Terms.{is-value}
+use Rattle.rules.specs.Answer.{Bytes, Octets, Answer, accepted, refused, _>>_}
+use Rattle.rules.specs.Groups.{rows, q2}
+use Rattle.rules.specs.Script.{encode, term}
+use Rattle.rules.specs.Sheet.{sheet}
+use Rattle.rules.specs.Calls.{groups-check, types-check, script-check, q25, q26, q27, sheeting, sheet-records, sheet-after}
+use Rattle.rules.proofs.Asked.{ask-true}
+use Rattle.rules.proofs.Scripts.{whole}
+use Rattle.lattice.specs.declared.Checked.{Checked}
+use Rattle.lattice.specs.declared.Checked.the-variants.{Passed, Refused}
+use Rattle.lattice.specs.Said.{said}
+use Rattle.lattice.proofs.Passed.{No, few-rows}
+use Rattle.script.specs.Check.{terms-check}
+use Rattle.types.proofs.Questions.{all-yes}
+use Rattle.script.proofs.Asked.{script-check-is, Terms-pass, terms-pass}
+use Rattle.sheet.specs.Place.{place}
+use Rattle.sheet.specs.Value.{lines}
+use Rattle.sheet.specs.Said.{reported, refusal, before-26}
+use Rattle.sheet.specs.declared.Sheet.{Sheet}
+use Rattle.sheet.specs.declared.Sheet.the-variants as the
+use Rattle.sheet.proofs.Placed.{place-front}
+use Rattle.sheet.proofs.Sheets.{sheet-length}
+
+regroup : {A : Type 0} (a b : Answer (Unit {0})) (c : Answer A) → _>>_ (_>>_ a b) c ≡ _>>_ a (_>>_ b c)
+regroup (accepted u) b c = refl
+regroup (refused q p) b c = refl
+
+-- a yes to all is a yes to the first and to the others
+both-yes : (a b : Answer (Unit {0})) → _>>_ a b ≡ accepted tt → (a ≡ accepted tt) × (b ≡ accepted tt)
+both-yes (accepted u) b e = (refl, e)
+both-yes (refused q p) b e = let z : _≡_ {A = ℕ} 0 1 = cc in absurd (omega arith)
+
+pub before-26-is : (g t s : Bytes) (group : ℕ) → _>>_ (types-check g t) (_>>_ (terms-check [] g t s) (q25 0 group (rows g))) ≡ before-26 g t s group
+unfolding before-26
+before-26-is g t s group =
+    sym (regroup (types-check g t) (terms-check [] g t s) (q25 0 group (rows g)))
+    ∙ ap (λ (a : Answer (Unit {0})). _>>_ a (q25 0 group (rows g))) (sym (script-check-is [] g t s))
+
+pub outside : (n group : ℕ) → n ≤ group → refused 25 0 ≡ q25 0 group n
+outside n group l = rw (le-ltb group n l)
+
+pub inside : (n group : ℕ) → group < n → accepted tt ≡ q25 0 group n
+inside n group l = rw (lt-ltb group n l)
+
+-- what a yes to all of them says
+record All (g t s : Bytes) (group : ℕ) : Type 0 where
+  few : rows g ≤ 32
+  terms : Terms-pass [] g t s
+  in-table : group < rows g
+
+few-of : (g : Bytes) → groups-check g ≡ accepted tt → rows g ≤ 32
+unfolding groups-check
+few-of g e = few-rows g (both-yes (q2 g) _ e .0)
+
+all-of : (g t s : Bytes) (group : ℕ) → before-26 g t s group ≡ accepted tt → All g t s group
+all-of g t s group e =
+    let a = both-yes (types-check g t) (_>>_ (terms-check [] g t s) (q25 0 group (rows g))) (before-26-is g t s group ∙ e) in
+    let b = both-yes (terms-check [] g t s) (q25 0 group (rows g)) (a .1) in
+    record {
+      few = few-of g (all-yes g t (a .0) .to-7);
+      terms = terms-pass [] g t s (b .0);
+      in-table = ltb-true group (rows g) (ask-true 25 0 (ltb group (rows g)) (b .1));
+    }
+
+-- the questions after 25, and the sheet
+abbrev pub from-26 : Bytes → Bytes → ℕ → ℕ → Answer Bytes
+from-26 g s group room = do
+  q26 (term s)
+  q27 (sheet g group (term s)) room
+  accepted (sheet g group (term s))
+
+sheeting-is : (g t s : Bytes) (group room : ℕ) → sheeting g t s group room ≡ _>>_ (before-26 g t s group) (from-26 g s group room)
+unfolding sheeting before-26 script-check is-value sheet term
+sheeting-is g t s group room = sym (regroup (script-check [] g t s) (q25 0 group (rows g)) (from-26 g s group room))
+
+-- the answer and the buffer, from the call's
+pub record Paged (o : Answer Bytes) (old : Bytes) (a : Sheet) (new : Bytes) : Type 0 where
+  pub answer : reported a ≡ sheet-records o
+  pub after : new ≡ sheet-after o old
+
+no-sheet : (o : Answer Bytes) (old : Bytes) (q p : ℕ) → o ≡ refused q p → Paged o old (the.Refused q p) old
+unfolding sheet-records
+no-sheet o old q p e = record { answer = sym (ap sheet-records e); after = sym (ap (λ x. sheet-after x old) e) }
+
+the-sheet : (o : Answer Bytes) (b old new : Bytes) (n : ℕ) → o ≡ accepted b → length b ≡ 4 * n → new ≡ place 0 b old → Paged o old (the.Written n) new
+unfolding sheet-records
+the-sheet o b old new n e l h =
+    let k : n ≡ length b / 4 = omega arith in
+    record { answer = ap accepted k ∙ sym (ap sheet-records e); after = h ∙ place-front b old ∙ sym (ap (λ x. sheet-after x old) e) }
+
+module _ (g t s : Bytes) (group : ℕ) (old : Bytes) where
+  abbrev call : Answer Bytes
+  call = sheeting g t s group (length old)
+
+  pub stopped : (x : Checked) → No x → said x ≡ before-26 g t s group → Paged call old (refusal x) old
+  stopped Passed k e = absurd (omega arith)
+  stopped (Refused q p) k e =
+      no-sheet call old q p (sheeting-is g t s group (length old) ∙ ap (λ a. _>>_ a (from-26 g s group (length old))) (sym e))
+
+  module _ (yes : before-26 g t s group ≡ accepted tt) where
+    after-25 : call ≡ from-26 g s group (length old)
+    after-25 = sheeting-is g t s group (length old) ∙ ap (λ a. _>>_ a (from-26 g s group (length old))) yes
+
+    pub no-value : is-value (term s) ≡ false → Paged call old (the.Refused 26 0) old
+    no-value v = no-sheet call old 26 0 (after-25 ∙ rw v)
+
+    pub no-room : is-value (term s) ≡ true → length old < 4 * lines (term s) → Paged call old (the.Refused 27 0) old
+    no-room v l =
+        no-sheet call old 27 0 (after-25 ∙ rw (v, lt-leb (length (sheet g group (term s))) (length old) (omega (arith, sheet-length g group (term s)))))
+
+    pub written : is-value (term s) ≡ true → 4 * lines (term s) ≤ length old → (n : ℕ) → n ≡ lines (term s) → (new : Bytes)
+        → new ≡ place 0 (sheet g group (term s)) old → Paged call old (the.Written n) new
+    written v l n h new e =
+        the-sheet call (sheet g group (term s)) old new n
+        (after-25 ∙ rw (v, le-leb (length (sheet g group (term s))) (length old) (omega (arith, sheet-length g group (term s)))))
+        (sheet-length g group (term s) ∙ ap (λ x. 4 * x) (sym h)) e
+
+    passed : All g t s group
+    passed = all-of g t s group yes
+
+    -- a group of the table is a byte
+    pub narrow : group < 256
+    narrow = omega (arith, passed .in-table, passed .few)
+
+    -- the script is the encoding of its term
+    pub encoded : Octets s → encode (term s) ≡ s
+    encoded o = let p = passed .terms in whole [] s o (p .q13-yes) (p .q14-yes) (p .q17-yes) .encoded

@@ -1,0 +1,4 @@
+pub mod Place
+pub mod Shown
+pub mod Value
+pub mod Said

@@ -1,0 +1,27 @@
+-- The document's numbers of the crate's answers.
+use mathlib.Core.List.{[]}
+use Prim.Native.Nat.{ℕ}
+use Rattle.rules.specs.Answer.{Bytes, Answer, accepted, refused, _>>_}
+use Rattle.rules.specs.Groups.{rows}
+use Rattle.rules.specs.Calls.{script-check, q25}
+use Rattle.lattice.specs.declared.Checked.{Checked}
+use Rattle.lattice.specs.declared.Checked.the-variants as checked
+use Rattle.sheet.specs.declared.Sheet.{Sheet}
+use Rattle.sheet.specs.declared.Sheet.the-variants.{Written, Refused}
+
+-- the sheet's record count, or the question and the place
+abbrev pub reported : Sheet → Answer ℕ
+reported (Written count) = accepted count
+reported (Refused question place) = refused question place
+
+-- a refusal, passed on
+abbrev pub refusal : Checked → Sheet
+refusal checked.Passed = Written 0
+refusal (checked.Refused question place) = Refused question place
+
+-- questions 2 to 19 and 25
+unfoldable pub before-26 : Bytes → Bytes → Bytes → ℕ → Answer (Unit {0})
+unfolding script-check
+before-26 g t s group = do
+  script-check [] g t s
+  q25 0 group (rows g)

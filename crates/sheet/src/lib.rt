@@ -1,0 +1,234 @@
+use lattice::Checked;
+use lattice::Indirect;
+use lattice::Reader;
+use script::Ended;
+ghost use mathlib.Core.Path.{_≡_};
+ghost use mathlib.Core.Bool.{true};
+ghost use Prim.Native.Nat.{_+_, _*_, _≤_, _<_};
+ghost use lib.ListN.{length};
+ghost use Rattle.calculus.specs.Terms.{Term, is-value};
+ghost use Rattle.rules.specs.Limits.{script-width, sheet-width};
+ghost use Rattle.rules.specs.Script.{kind, size};
+ghost use Rattle.rules.specs.Calls.{sheeting, sheet-records, sheet-after};
+ghost use Rattle.lattice.specs.Said.{said};
+ghost use Rattle.script.specs.Place.{At, Here};
+ghost use Rattle.sheet.specs.Place.{place};
+ghost use Rattle.sheet.specs.Shown.{shown-kind, shown, bytes-of};
+ghost use Rattle.sheet.specs.Value.{looked, Room, Wrote};
+ghost use Rattle.sheet.specs.Said.{reported, refusal, before-26};
+
+pub const SHEET_WIDTH: usize = 4;
+
+// Kinds of script records: those of a value's objects are from UNIT to SECOND.
+const UNIT: u8 = 1;
+
+const FUNCTION: u8 = 2;
+
+const PAIR: u8 = 3;
+
+const FIRST: u8 = 4;
+
+const SECOND: u8 = 5;
+
+// Kinds of sheet records.
+pub const SHOWN_UNIT: u8 = 0;
+
+pub const SHOWN_FIRST: u8 = 1;
+
+pub const SHOWN_SECOND: u8 = 2;
+
+pub const SHOWN_PAIR: u8 = 3;
+
+pub const SHOWN_FUNCTION: u8 = 4;
+
+pub const CLOSED: u8 = 5;
+
+// The answer of a sheet: its record count, or the number of the first question answered no, and its place.
+pub enum Sheet {
+    Written(usize),
+    Refused(u8, usize),
+}
+
+// What a look over a term finds: a value, with the record after it and the count of sheet records up to there, or another term.
+enum Looked {
+    Value(usize, usize),
+    Other,
+}
+
+// A sheet record.
+struct Line {
+    pub kind: u8,
+    pub r: Reader,
+    pub ir: Indirect,
+}
+
+// Where writing has come to: the script record after the value, and the sheet record after its own.
+struct Reached {
+    pub next: usize,
+    pub line: usize,
+}
+
+// The record after the term at record i. Pending terms are counted, so the body of a function may have any depth.
+fn end_of(value: &[u8], i: usize) -> usize
+    requires { ⌜ Here (now value) i ⌝ }
+    ensures { λ a. ⌜ ((e : Term) → At (now (value .entry)) i e → a ≡ i + size e) ⌝ }
+{
+    let ended = script::term_end(value, i);
+    let Ended::Before(end) = ended else {
+        // Not reached: a term stands here.
+        return i;
+    };
+    end
+}
+
+// Is the term at record i a value, where does it end, and how many records has the sheet by then? `count` are before it. Calls are
+// as deep as the value, which question 18 bounds.
+fn look(value: &[u8], i: usize, count: usize) -> Looked
+    requires { ⌜ Here (now value) i × (count ≤ i) ⌝ }
+    ensures { λ a. ⌜ ((e : Term) → At (now (value .entry)) i e → a ≡ looked e i count) ⌝ }
+{
+    let kind = script::kind(value, i);
+    if kind < UNIT {
+        return Looked::Other;
+    }
+    if SECOND < kind {
+        return Looked::Other;
+    }
+    // A function's body is neither asked to be a value nor counted.
+    if kind <= FUNCTION {
+        return Looked::Value(end_of(value, i), count + 1);
+    }
+    let first = look(value, i + 1, count + 1);
+    let Looked::Value(next, so_far) = first else {
+        return first;
+    };
+    if kind != PAIR {
+        return first;
+    }
+    look(value, next, so_far)
+}
+
+// The sheet's kind for an object's kind.
+fn shown_kind(kind: u8) -> u8
+    ensures { λ a. ⌜ a ≡ shown-kind kind ⌝ }
+{
+    match kind {
+        FUNCTION => SHOWN_FUNCTION,
+        PAIR => SHOWN_PAIR,
+        FIRST => SHOWN_FIRST,
+        SECOND => SHOWN_SECOND,
+        _ => SHOWN_UNIT,
+    }
+}
+
+// The sheet record of the object at record i: closed where r ⋢ group, and then nothing of it is told.
+fn line_of(groups: &[u8], value: &[u8], i: usize, group: Reader) -> Line
+    requires { ⌜ script-width * i + 6 ≤ length (now value) ⌝ }
+    ensures { λ a. ⌜ bytes-of a ≡ shown (now (groups .entry)) (group .0) (now (value .entry)) i ⌝ }
+{
+    let r = script::reader(value, i);
+    if r.at_or_below(groups, group) {
+        let kind = shown_kind(script::kind(value, i));
+        let ir = script::indirect(value, i);
+        return Line { kind, r, ir };
+    }
+    Line {
+        kind: CLOSED,
+        r: Reader(0),
+        ir: Indirect(0),
+    }
+}
+
+// Writes a sheet record at its place.
+fn put(sheet: &mut [u8], at: usize, line: Line)
+    requires { ⌜ sheet-width * at + 4 ≤ length (now sheet) ⌝ }
+    ensures { λ _. ⌜ now (sheet .exit) ≡ place (sheet-width * at) (bytes-of line) (now (sheet .entry)) ⌝ }
+{
+    let i = SHEET_WIDTH * at;
+    let r = line.r;
+    let ir = line.ir;
+    sheet[i] = line.kind;
+    sheet[i + 1] = r.0;
+    sheet[i + 2] = ir.0;
+    sheet[i + 3] = 0;
+}
+
+// Writes the sheet of the value at record i from sheet record `at` on: the object, then its parts, each judged by its own r.
+fn write(
+    groups: &[u8],
+    value: &[u8],
+    i: usize,
+    group: Reader,
+    sheet: &mut [u8],
+    at: usize,
+) -> Reached
+    requires { ⌜ Room (now value) i (now sheet) at ⌝ }
+    ensures { λ a. ⌜ ((e : Term) → At (now (value .entry)) i e → is-value e ≡ true
+        → Wrote (now (groups .entry)) (group .0) i at e (now (sheet .entry)) a (now (sheet .exit))) ⌝ }
+{
+    put(sheet, at, line_of(groups, value, i, group));
+    let kind = script::kind(value, i);
+    // Only pairs and injections have parts to show.
+    if kind < PAIR {
+        return Reached {
+            next: end_of(value, i),
+            line: at + 1,
+        };
+    }
+    let first = write(groups, value, i + 1, group, sheet, at + 1);
+    if kind != PAIR {
+        return first;
+    }
+    let next = first.next;
+    let line = first.line;
+    write(groups, value, next, group, sheet, line)
+}
+
+// Questions 2 to 19 and 25, in order. The group is compared as it comes, before it is narrowed.
+fn asked(groups: &[u8], types: &[u8], value: &[u8], group: u64) -> Checked
+    ensures { λ a. ⌜ said a ≡ before-26 (now (groups .entry)) (now (types .entry)) (now (value .entry)) group ⌝ }
+{
+    let a12 = types::types_check(groups, types);
+    let Checked::Passed = a12 else {
+        return a12;
+    };
+    let a19 = script::terms_check(groups, types, value);
+    let Checked::Passed = a19 else {
+        return a19;
+    };
+    if lattice::row_count(groups) as u64 <= group {
+        return Checked::Refused(25, 0);
+    }
+    Checked::Passed
+}
+
+// A refusal, as the answer of a sheet.
+fn refused(a: Checked) -> Sheet
+    ensures { λ x. ⌜ x ≡ refusal a ⌝ }
+{
+    match a {
+        Checked::Passed => Sheet::Written(0),
+        Checked::Refused(question, place) => Sheet::Refused(question, place),
+    }
+}
+
+// The sheet of a value for a reader group, written to the front of `sheet`: questions 2 to 19, 25, 26 and 27. The count of records
+// is known before the first is written, so that a refusal writes nothing.
+pub fn page(groups: &[u8], types: &[u8], value: &[u8], group: u64, sheet: &mut [u8]) -> Sheet
+    ensures { λ a. ⌜ (reported a ≡ sheet-records (sheeting (now (groups .entry)) (now (types .entry)) (now (value .entry)) group (length (now (sheet .entry)))))
+        × (now (sheet .exit) ≡ sheet-after (sheeting (now (groups .entry)) (now (types .entry)) (now (value .entry)) group (length (now (sheet .entry)))) (now (sheet .entry))) ⌝ }
+{
+    let a25 = asked(groups, types, value, group);
+    let Checked::Passed = a25 else {
+        return refused(a25);
+    };
+    let found = look(value, 0, 0);
+    let Looked::Value(_, count) = found else {
+        return Sheet::Refused(26, 0);
+    };
+    if sheet.len() < SHEET_WIDTH * count {
+        return Sheet::Refused(27, 0);
+    }
+    write(groups, value, 0, Reader(group as u8), sheet, 0);
+    Sheet::Written(count)
+}
