@@ -15,7 +15,7 @@ use Rattle.rules.specs.Groups.{rows, join, ok3, ok4, ok5, ok6, ok7, q2, 
 use Rattle.rules.specs.Types.{type-count, encode-type, parse-types, type-at, end-after, type-end, pending, ok9, ok10, ok11, ok12, q8, q9, q10, q11, q12}
 use Rattle.rules.specs.Script.{records, encode, parse, term, size, depth, counts, signature-of, arity, term-end, ok14, ok15, ok16, ok18, ok19, q13, q14, q15, q16, q17, q18, q19}
 use Rattle.rules.specs.Typing.{typing}
-use Rattle.rules.specs.Step.{End, at-value, moves, may-not, wrong-kind, too-big, step-in, exceeds}
+use Rattle.rules.specs.Step.{End, at-value, moves, may-not, wrong-kind, too-big, end-number, end-count, step-in, exceeds}
 use Rattle.rules.specs.Run.{Ran, run}
 use Rattle.rules.specs.Sheet.{sheet}
 
@@ -115,6 +115,16 @@ unfolding script-check step-in step operand-first reading apply project branch u
 stepping g t s room = do
   script-check [] g t s
   accepted (step-in (readers g) (type-at t) room (term s))
+
+-- "A step reports its end and a record count, the script's own unless it moved."
+pub record StepReport : Type 0 where
+  pub end : ℕ
+  pub count : ℕ
+
+unfoldable pub step-report : Bytes → Answer End → Answer StepReport
+unfolding size
+step-report s (accepted x) = accepted (record { end = end-number x; count = end-count (records s) x })
+step-report s (refused q p) = refused q p
 
 -- "On 1 the new term fills the front of the written buffer and later bytes keep their content; otherwise nothing is written."
 abbrev pub front-after : End → Bytes → Bytes

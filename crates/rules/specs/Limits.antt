@@ -39,8 +39,10 @@ work-length = depth-limit * answer-length
 abbrev pub report-budget : ℕ
 report-budget = 1000
 
+-- 49,152 bytes: the longest script
 abbrev pub report-buffer : ℕ
-report-buffer = 49152
+report-buffer = script-limit * script-width
 
+-- 8,192 sheet records: a value has no more
 abbrev pub report-sheet : ℕ
-report-sheet = 8192 * sheet-width
+report-sheet = script-limit * sheet-width

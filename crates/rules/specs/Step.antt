@@ -38,7 +38,7 @@ limited room stuck = wrong-kind
 unfoldable pub step-in : Security → (ℕ → Ty) → ℕ → Term → End
 step-in S tab room e = limited room (step S tab e)
 
--- "A step reports its end and a record count, the script's own unless it moved."
+-- the record count that a step reports, where the script's own is given
 abbrev pub end-count : ℕ → End → ℕ
 end-count own at-value = own
 end-count own (moves e) = size e
