@@ -1,0 +1,10 @@
+pub mod Front
+pub mod Regions
+pub mod Shapes
+pub mod Rules
+pub mod Names
+pub mod Apart
+pub mod Below
+pub mod Steps
+pub mod Accepted
+pub mod Outcome

@@ -1,0 +1,511 @@
+-- One call of the checker, stage by stage, over plain lists.
+use mathlib.Core.Path.{_≡_, refl, sym, ap, _∙_, subst}
+use mathlib.Core.Bool.{Bool, true, false, cond}
+use mathlib.Core.List.{List, [], _∷_, _++_}
+use Prim.Native.Nat.{ℕ, suc, _+_, _-_, _*_, _≤_, _<_}
+use native.Mathlib.Omega.{arith}
+use borrow.Rule.Slice.PartMut.{putMid}
+use denote.Enum.Declared.{tagOf}
+use lib.ListN.{length, take, drop, length-drop}
+use Rattle.calculus.specs.Types.{sum, function, Ty, top, raiseT}
+use Rattle.calculus.specs.Terms.{Term, case}
+use Rattle.rules.specs.Answer.{Bytes, Answer, accepted, refused, _>>=_ as bind, _>>_ as then, ask}
+use Rattle.rules.specs.Groups.{readers}
+use Rattle.rules.specs.Types.{no-type, type-at, type-count}
+use Rattle.rules.specs.Script.{encode, size, depth, kind, r, ir, number}
+use Rattle.rules.specs.Typing.{left, right, q22, typing}
+use Rattle.types.specs.Held.{Held, Starts, kind-of, left-of, right-of}
+use Rattle.typing.specs.Operands.{operand-count, first-operand, second-operand, third-operand, Formed}
+use Rattle.typing.specs.Memory.{high, Slot, Sized, Holds, Wrote, Meets, finds, refuses, Ready, Entered, Enters, enters, stops, Named, Beside, Some-sides}
+use Rattle.typing.specs.Stages.{before-first, first-context, kept-front, after-one, between, second-context, after-two, wanting, reads, may-read, Leaf, One, Some, Aside, Passes, passes, denies, Two, kept-between}
+use Rattle.typing.specs.declared.Found.{Found}
+use Rattle.typing.specs.declared.Found.the-variants.{Typed, Refused}
+use Rattle.typing.proofs.Found.{the-type}
+use Rattle.typing.proofs.Front.{right-is}
+use Rattle.typing.proofs.Regions.{high-drop, lent-rest, drop-lent, length-lent, high-lent, high-within, sized-lent, rebase}
+use Rattle.typing.proofs.Shapes.{of-fields, case-kind, depth-positive}
+use Rattle.typing.proofs.Rules.{meets-of, Typed-as, typed-as, refused-as, refused-meets, read-two}
+use Rattle.typing.proofs.Names.{named, case-index}
+use Rattle.typing.proofs.Apart.{after-second, stops-before, stops-first, one-typed, first-typed, second-typed, branch-typed, first-plain}
+use Rattle.typing.proofs.Below.{Smaller, first-smaller, second-smaller, third-smaller, first-formed, second-formed, third-formed, first-room, second-room, several-front, branch-binders, is-case}
+
+-- ---- answers taken apart
+
+pub went : {A : Answer (Unit {0})} {Γ : List Ty} {b : ℕ} {w : Bytes} {x : Found} {c : ℕ} {w₁ : Bytes} → x ≡ Typed c → Enters A Γ b w x w₁ → (A ≡ accepted tt) × Entered Γ b w c w₁
+went {Γ = Γ} {b = b} {w = w} {c = c} {w₁ = w₁} e (enters {c = d} h) = let q : d ≡ c = cc in (refl, subst (λ j. Entered Γ b w j w₁) q h)
+went e (stops {q = q} {p = p}) = let z : _≡_ {A = ℕ} 0 1 = cc in absurd (omega arith)
+
+pub stopped : {A : Answer (Unit {0})} {Γ : List Ty} {b : ℕ} {w : Bytes} {x : Found} {w₁ : Bytes} → tagOf the-type x ≡ 1 → Enters A Γ b w x w₁ → (q : ℕ) × (p : ℕ) × (A ≡ refused q p) × (x ≡ Refused q p)
+stopped e (enters h) = absurd (omega arith)
+stopped e (stops {q = q} {p = p}) = (q, p, refl, refl)
+
+entered-some : {A : Answer (Unit {0})} {Γ : List Ty} {b : ℕ} {w : Bytes} {x : Found} {w₁ : Bytes} → tagOf the-type x ≡ 0 → Enters A Γ b w x w₁ → (A ≡ accepted tt) × (c : ℕ) × Entered Γ b w c w₁
+entered-some e (enters {c = c} h) = (refl, c, h)
+entered-some e stops = absurd (omega arith)
+
+found-some : {o : Answer Ty} {b : ℕ} {w : Bytes} {x : Found} {v : Bytes} → tagOf the-type x ≡ 0 → Meets o b w x v → (n : ℕ) × Typed-as o b w n v
+found-some e (finds {t = t} {n = m} h) = (m, record { type = t; is = refl; wrote = h })
+found-some e refuses = absurd (omega arith)
+
+record Passed (A : Answer (Unit {0})) (e : Term) (s : Ty) (Γ : List Ty) (b : ℕ) (w : Bytes) (n c : ℕ) (w₁ : Bytes) : Type 0 where
+  asked : A ≡ accepted tt
+  entered : Entered Γ b w c w₁
+  aside : Aside e s b w₁ n
+
+passed : {A : Answer (Unit {0})} {e : Term} {s : Ty} {Γ : List Ty} {b : ℕ} {w : Bytes} {n : ℕ} {x : Found} {c : ℕ} {w₁ : Bytes} → x ≡ Typed c → Passes A e s Γ b w n x w₁ → Passed A e s Γ b w n c w₁
+passed {Γ = Γ} {b = b} {w = w} {c = c} {w₁ = w₁} f (passes {c = d} h k) = let q : d ≡ c = cc in record { asked = refl; entered = subst (λ j. Entered Γ b w j w₁) q h; aside = k }
+passed f (denies {q = q} {p = p}) = let z : _≡_ {A = ℕ} 0 1 = cc in absurd (omega arith)
+
+denied : {A : Answer (Unit {0})} {e : Term} {s : Ty} {Γ : List Ty} {b : ℕ} {w : Bytes} {n : ℕ} {x : Found} {w₁ : Bytes} → tagOf the-type x ≡ 1 → Passes A e s Γ b w n x w₁
+    → (q : ℕ) × (p : ℕ) × (A ≡ refused q p) × (x ≡ Refused q p)
+denied f (passes h k) = absurd (omega arith)
+denied f (denies {q = q} {p = p}) = (q, p, refl, refl)
+
+-- ---- a part that was lent
+
+beside-same : {t : Ty} {b : ℕ} {w w′ : Bytes} → high (b + 1) w′ ≡ high (b + 1) w → Beside t b w → Beside t b w′
+beside-same e d = record { left = rw e (d .left); right = rw e (d .right); fits = d .fits }
+
+record Back (b : ℕ) (w₁ w₂ z : Bytes) (low : ℕ) : Type 0 where
+  is : w₂ ≡ take low w₁ ++ z
+  behind : drop low w₂ ≡ z
+  kept : high b w₂ ≡ high b w₁
+  same : length w₂ ≡ length w₁
+
+back : (b c low : ℕ) (w₁ u z w₂ : Bytes) → b ≤ c → low + 252 * c ≤ length w₁ → u ≡ drop low w₁ → length z ≡ length u → high c z ≡ high c u
+    → w₂ ≡ putMid low (length w₁ - low) w₁ z → Back b w₁ w₂ z low
+back b c low w₁ u z w₂ m l eu n k e =
+    let i : w₂ ≡ take low w₁ ++ z = e ∙ lent-rest low w₁ z in
+    let lu : length u ≡ length w₁ - low = ap length eu ∙ length-drop low w₁ in
+    record {
+      is = i;
+      behind = ap (drop low) i ∙ drop-lent low w₁ z (omega arith);
+      kept = ap (high b) i ∙ high-lent low b w₁ z (omega arith) (omega arith) ∙ high-within b c u z m (omega arith) n k ∙ ap (high b) eu ∙ high-drop low b w₁ (omega arith);
+      same = ap length i ∙ length-lent low w₁ z (omega arith) (omega arith);
+    }
+
+-- ---- the first operand
+
+pub record Went (g : Bytes) {types s : Bytes} {place b : ℕ} {w : Bytes} (v : Ready types s place b w) (c : ℕ) (w₁ : Bytes) : Type 0 where
+  pub asked : before-first (readers g) (type-at types) place (v .tree) ≡ accepted tt
+  pub entered : Entered (first-context (type-at types) (v .ctx) (v .tree)) b w c w₁
+  pub same : length w₁ ≡ length w
+
+pub record Done1 (g : Bytes) {types s : Bytes} {place b : ℕ} {w : Bytes} (v : Ready types s place b w) (n : ℕ) (w₂ : Bytes) : Type 0 where
+  pub asked : before-first (readers g) (type-at types) place (v .tree) ≡ accepted tt
+  pub type : Ty
+  pub is : typing (readers g) (type-at types) (first-context (type-at types) (v .ctx) (v .tree)) (1 + place) (first-operand (v .tree)) ≡ accepted type
+  pub sized : Sized (drop (kept-front (v .tree)) w₂) n type
+  pub kept : high b w₂ ≡ high b w
+  pub same : length w₂ ≡ length w
+
+module _ (g : Bytes) {types s : Bytes} {place b : ℕ} {w : Bytes} (v : Ready types s place b w) where
+  pub level : 252 * (b + 1) ≤ length w
+  level = omega (arith, v .room, depth-positive (v .tree))
+
+  pub enter-refuses : {x : Found} {w₁ : Bytes} {Γ : List Ty} → tagOf the-type x ≡ 1 → Enters (before-first (readers g) (type-at types) place (v .tree)) Γ b w x w₁
+      → Meets (typing (readers g) (type-at types) (v .ctx) place (v .tree)) b w x w₁
+  enter-refuses t h = let z = stopped t h in refused-meets (stops-before (readers g) (type-at types) (v .ctx) place (v .tree) (z .0) (z .1) (z .2)) (z .3)
+
+  module _ (o : 1 ≤ operand-count (v .tree)) {c : ℕ} {w₁ : Bytes} (h : Went g v c w₁) {low : ℕ} (el : low ≡ kept-front (v .tree)) where
+    pub low-fits : low + 252 * c ≤ 252 * (b + 1)
+    low-fits = omega (arith, first-room (type-at types) (v .ctx) (v .tree), h .entered .binders, v .binders)
+
+    pub low-within : low ≤ length w₁
+    low-within = omega (arith, low-fits, level, h .same)
+
+    pub first-holds : {u : Bytes} → u ≡ drop low w₁ → Holds (first-context (type-at types) (v .ctx) (v .tree)) (high c u)
+    first-holds eu = rw (eu, high-drop low c w₁ (omega (arith, low-fits, level, h .same))) (h .entered .holds)
+
+    pub first-room-left : {u : Bytes} → u ≡ drop low w₁ → 252 * (c + depth (first-operand (v .tree))) ≤ length u
+    first-room-left eu = rw eu (simp length-drop (omega (arith, low-fits, v .room, h .same, first-smaller (v .tree) o .deeper)))
+
+    pub first-formed-at : Formed types c (first-operand (v .tree))
+    first-formed-at =
+        subst (λ j. Formed types j (first-operand (v .tree))) (h .entered .binders)
+        (first-formed types (type-at types) (v .ctx) (v .tree) o (subst (λ j. Formed types j (v .tree)) (sym (v .binders)) (v .formed)))
+
+    pub first-placed : place + 1 + size (first-operand (v .tree)) ≤ 8192
+    first-placed = omega (arith, v .placed, first-smaller (v .tree) o .larger)
+
+    abbrev pub ready1 : {s₁ u : Bytes} → s₁ ≡ encode (first-operand (v .tree)) → u ≡ drop low w₁ → Ready types s₁ (place + 1) c u
+    ready1 es eu =
+        record {
+          table = v .table;
+          ctx = first-context (type-at types) (v .ctx) (v .tree);
+          binders = h .entered .binders;
+          holds = first-holds eu;
+          tree = first-operand (v .tree);
+          is = es;
+          formed = first-formed-at;
+          room = first-room-left eu;
+          placed = first-placed;
+        }
+
+    module _ {u z : Bytes} {x : Found} (m : Meets (typing (readers g) (type-at types) (first-context (type-at types) (v .ctx) (v .tree)) (place + 1) (first-operand (v .tree))) c u x z) where
+      placed1 : typing (readers g) (type-at types) (first-context (type-at types) (v .ctx) (v .tree)) (1 + place) (first-operand (v .tree))
+          ≡ typing (readers g) (type-at types) (first-context (type-at types) (v .ctx) (v .tree)) (place + 1) (first-operand (v .tree))
+      placed1 =
+          let q : 1 + place ≡ place + 1 = omega arith in
+          ap (λ p. typing (readers g) (type-at types) (first-context (type-at types) (v .ctx) (v .tree)) p (first-operand (v .tree))) q
+
+      pub first-refuses : {w₂ : Bytes} → tagOf the-type x ≡ 1 → Meets (typing (readers g) (type-at types) (v .ctx) place (v .tree)) b w x w₂
+      first-refuses t =
+          let y = refused-as t m in
+          refused-meets (stops-first (readers g) (type-at types) (v .ctx) place (v .tree) (y .0) (y .1) o (h .asked) (placed1 ∙ y .2)) (y .3)
+
+      pub done1 : {n : ℕ} {w₂ : Bytes} → u ≡ drop low w₁ → length z ≡ length u → x ≡ Typed n → w₂ ≡ putMid low (length w₁ - low) w₁ z → Done1 g v n w₂
+      done1 {n} {w₂} eu lz f e₂ =
+          let a = typed-as f m in
+          let k = back b c low w₁ u z w₂ (h .entered .least) (omega (arith, low-fits, level, h .same)) eu lz (a .wrote .kept) e₂ in
+          record {
+            asked = h .asked;
+            type = a .type;
+            is = placed1 ∙ a .is;
+            sized = subst (λ j. Sized (drop j w₂) n (a .type)) el (rw (k .behind) (a .wrote .sized));
+            kept = k .kept ∙ h .entered .kept;
+            same = k .same ∙ h .same;
+          }
+
+  -- ---- one operand
+
+  module _ {n : ℕ} {w₂ : Bytes} (d : Done1 g v n w₂) where
+    pub room2 : 252 * (b + 1) ≤ length w₂
+    room2 = omega (arith, level, d .same)
+
+    pub slot-room : 252 ≤ length w₂
+    slot-room = omega (arith, room2)
+
+    abbrev pub one-of : operand-count (v .tree) ≡ 1 → One types s w₂ n
+    one-of o =
+        record {
+          table = v .table;
+          tree = v .tree;
+          is = v .is;
+          one = o;
+          binders = b;
+          formed = v .formed;
+          type = d .type;
+          sized = d .sized;
+          room = slot-room;
+        }
+
+    pub last-meets : (o : operand-count (v .tree) ≡ 1) {x : Found} {w₃ : Bytes} → Meets (after-one (readers g) (type-at types) place (v .tree) (d .type)) b w₂ x w₃
+        → Meets (typing (readers g) (type-at types) (v .ctx) place (v .tree)) b w x w₃
+    last-meets o m = rebase (d .kept) (meets-of (one-typed (readers g) (type-at types) (v .ctx) place (v .tree) (d .type) o (d .asked) (d .is)) m)
+
+    -- ---- several operands
+
+    module _ (o : 2 ≤ operand-count (v .tree)) where
+      pub front : Sized w₂ n (d .type)
+      front = subst (λ j. Sized (drop j w₂) n (d .type)) (several-front (v .tree) o) (d .sized)
+
+      pub holds2 : Holds (v .ctx) (high b w₂)
+      holds2 = rw (d .kept) (v .holds)
+
+      pub two-levels : 252 * (b + 2) ≤ length w₂
+      two-levels = omega (arith, v .room, d .same, depth-positive (first-operand (v .tree)), first-smaller (v .tree) (omega arith) .deeper)
+
+      abbrev pub some-of : Some s b w₂ n
+      some-of =
+          record {
+            tree = v .tree;
+            is = v .is;
+            some = o;
+            type = d .type;
+            sized = front;
+            ctx = v .ctx;
+            binders = v .binders;
+            holds = holds2;
+            room = two-levels;
+          }
+
+      under-first : typing (readers g) (type-at types) (v .ctx) place (v .tree)
+          ≡ then (between (readers g) place (v .tree) (d .type))
+          (bind (typing (readers g) (type-at types) (second-context (v .ctx) (v .tree) (d .type)) (1 + place + size (first-operand (v .tree))) (second-operand (v .tree)))
+          (after-second (readers g) (type-at types) (v .ctx) place (v .tree) (d .type)))
+      under-first = first-typed (readers g) (type-at types) (v .ctx) place (v .tree) (d .type) o (d .is)
+
+      pub middle-refuses : {x : Found} {w₃ w₄ : Bytes} → tagOf the-type x ≡ 1
+          → Passes (between (readers g) place (v .tree) (d .type)) (v .tree) (d .type) (second-context (v .ctx) (v .tree) (d .type)) b w₂ n x w₃
+          → Meets (typing (readers g) (type-at types) (v .ctx) place (v .tree)) b w x w₄
+      middle-refuses t h =
+          let y = denied t h in
+          refused-meets
+          (under-first
+          ∙ ap (λ a. then a (bind (typing (readers g) (type-at types) (second-context (v .ctx) (v .tree) (d .type)) (1 + place + size (first-operand (v .tree))) (second-operand (v .tree)))
+          (after-second (readers g) (type-at types) (v .ctx) place (v .tree) (d .type)))) (y .2)) (y .3)
+
+-- ---- the second operand
+
+pub record Done2 (g : Bytes) {types s : Bytes} {place b : ℕ} {w : Bytes} (v : Ready types s place b w) (t : Ty) (n c : ℕ) (w₃ : Bytes) : Type 0 where
+  pub asked : between (readers g) place (v .tree) t ≡ accepted tt
+  pub is : typing (readers g) (type-at types) (v .ctx) place (v .tree)
+      ≡ bind (typing (readers g) (type-at types) (second-context (v .ctx) (v .tree) t) (1 + place + size (first-operand (v .tree))) (second-operand (v .tree)))
+      (after-second (readers g) (type-at types) (v .ctx) place (v .tree) t)
+  pub binders : length (second-context (v .ctx) (v .tree) t) ≡ c
+  pub holds : Holds (second-context (v .ctx) (v .tree) t) (high c w₃)
+  pub least : b ≤ c
+  pub kept : high b w₃ ≡ high b w
+  pub aside : Aside (v .tree) t b w₃ n
+  pub same : length w₃ ≡ length w
+
+pub record Done3 (g : Bytes) {types s : Bytes} {place b : ℕ} {w : Bytes} (v : Ready types s place b w) (t : Ty) (n m : ℕ) (w₄ : Bytes) : Type 0 where
+  pub asked : between (readers g) place (v .tree) t ≡ accepted tt
+  pub other : Ty
+  pub is : typing (readers g) (type-at types) (v .ctx) place (v .tree) ≡ after-second (readers g) (type-at types) (v .ctx) place (v .tree) t other
+  pub sized : Sized (drop (kept-between (operand-count (v .tree))) w₄) m other
+  pub kept : high b w₄ ≡ high b w
+  pub front : operand-count (v .tree) ≡ 2 → Sized w₄ n t
+  pub slot : operand-count (v .tree) ≡ 3 → Beside t b w₄
+  pub same : length w₄ ≡ length w
+
+module _ (g : Bytes) {types s : Bytes} {place b : ℕ} {w : Bytes} (v : Ready types s place b w) (o : 2 ≤ operand-count (v .tree)) where
+  pub done2 : {n : ℕ} {w₂ : Bytes} (d : Done1 g v n w₂) {x : Found} {c : ℕ} {w₃ : Bytes} → x ≡ Typed c → length w₃ ≡ length w₂
+      → Passes (between (readers g) place (v .tree) (d .type)) (v .tree) (d .type) (second-context (v .ctx) (v .tree) (d .type)) b w₂ n x w₃ → Done2 g v (d .type) n c w₃
+  done2 d f l h =
+      let p = passed f h in
+      record {
+        asked = p .asked;
+        is = under-first g v d o
+            ∙ ap (λ a. then a (bind (typing (readers g) (type-at types) (second-context (v .ctx) (v .tree) (d .type)) (1 + place + size (first-operand (v .tree))) (second-operand (v .tree)))
+            (after-second (readers g) (type-at types) (v .ctx) place (v .tree) (d .type)))) (p .asked);
+        binders = p .entered .binders;
+        holds = p .entered .holds;
+        least = p .entered .least;
+        kept = p .entered .kept ∙ d .kept;
+        aside = p .aside;
+        same = l ∙ d .same;
+      }
+
+  module _ {t : Ty} {n c : ℕ} {w₃ : Bytes} (d : Done2 g v t n c w₃) {mid : ℕ} (em : mid ≡ kept-between (operand-count (v .tree))) {j : ℕ} (ej : j ≡ 1 + size (first-operand (v .tree))) where
+    pub mid-fits : mid + 252 * c ≤ 252 * (b + 1)
+    mid-fits = omega (arith, second-room (v .ctx) t (v .tree) o, d .binders, v .binders)
+
+    pub mid-within : mid ≤ length w₃
+    mid-within = omega (arith, mid-fits, level g v, d .same)
+
+    pub second-holds : {u : Bytes} → u ≡ drop mid w₃ → Holds (second-context (v .ctx) (v .tree) t) (high c u)
+    second-holds eu = rw (eu, high-drop mid c w₃ (omega (arith, mid-fits, level g v, d .same))) (d .holds)
+
+    pub second-room-left : {u : Bytes} → u ≡ drop mid w₃ → 252 * (c + depth (second-operand (v .tree))) ≤ length u
+    second-room-left eu = rw eu (simp length-drop (omega (arith, mid-fits, v .room, d .same, second-smaller (v .tree) o .deeper)))
+
+    pub second-formed-at : Formed types c (second-operand (v .tree))
+    second-formed-at =
+        subst (λ k. Formed types k (second-operand (v .tree))) (d .binders)
+        (second-formed types (v .ctx) t (v .tree) o (subst (λ k. Formed types k (v .tree)) (sym (v .binders)) (v .formed)))
+
+    pub second-placed : place + j + size (second-operand (v .tree)) ≤ 8192
+    second-placed = omega (arith, v .placed, second-smaller (v .tree) o .larger)
+
+    abbrev pub ready2 : {s₂ u : Bytes} → s₂ ≡ encode (second-operand (v .tree)) → u ≡ drop mid w₃ → Ready types s₂ (place + j) c u
+    ready2 es eu =
+        record {
+          table = v .table;
+          ctx = second-context (v .ctx) (v .tree) t;
+          binders = d .binders;
+          holds = second-holds eu;
+          tree = second-operand (v .tree);
+          is = es;
+          formed = second-formed-at;
+          room = second-room-left eu;
+          placed = second-placed;
+        }
+
+    module _ {u z : Bytes} {x : Found} (m : Meets (typing (readers g) (type-at types) (second-context (v .ctx) (v .tree) t) (place + j) (second-operand (v .tree))) c u x z) where
+      placed2 : typing (readers g) (type-at types) (second-context (v .ctx) (v .tree) t) (1 + place + size (first-operand (v .tree))) (second-operand (v .tree))
+          ≡ typing (readers g) (type-at types) (second-context (v .ctx) (v .tree) t) (place + j) (second-operand (v .tree))
+      placed2 =
+          let q : 1 + place + size (first-operand (v .tree)) ≡ place + j = omega arith in
+          ap (λ p. typing (readers g) (type-at types) (second-context (v .ctx) (v .tree) t) p (second-operand (v .tree))) q
+
+      pub second-refuses : {w₄ : Bytes} → tagOf the-type x ≡ 1 → Meets (typing (readers g) (type-at types) (v .ctx) place (v .tree)) b w x w₄
+      second-refuses f =
+          let y = refused-as f m in
+          refused-meets (d .is ∙ ap (λ a. bind a (after-second (readers g) (type-at types) (v .ctx) place (v .tree) t)) (placed2 ∙ y .2)) (y .3)
+
+      pub done3 : {k : ℕ} {w₄ : Bytes} → u ≡ drop mid w₃ → length z ≡ length u → x ≡ Typed k → w₄ ≡ putMid mid (length w₃ - mid) w₃ z → Done3 g v t n k w₄
+      done3 {k} {w₄} eu lz f e₄ =
+          let a = typed-as f m in
+          let q = back b c mid w₃ u z w₄ (d .least) (omega (arith, mid-fits, level g v, d .same)) eu lz (a .wrote .kept) e₄ in
+          record {
+            asked = d .asked;
+            other = a .type;
+            is = d .is ∙ ap (λ y. bind y (after-second (readers g) (type-at types) (v .ctx) place (v .tree) t)) (placed2 ∙ a .is);
+            sized = subst (λ y. Sized (drop y w₄) k (a .type)) em (rw (q .behind) (a .wrote .sized));
+            kept = q .kept ∙ d .kept;
+            front = λ two. rw (q .is) (sized-lent mid w₃ z (d .aside .front two) (omega (arith, em ∙ ap kept-between two)) mid-within);
+            slot = λ three.
+                let p = back c c mid w₃ u z w₄ (omega arith) (omega (arith, mid-fits, level g v, d .same)) eu lz (a .wrote .kept) e₄ in
+                let y : c ≡ b + 1 = omega (arith, branch-binders (v .ctx) t (v .tree) three, d .binders, v .binders) in
+                beside-same (subst (λ i. high i w₄ ≡ high i w₃) y (p .kept)) (d .aside .slot three);
+            same = q .same ∙ d .same;
+          }
+
+-- ---- two operands
+
+module _ (g : Bytes) {types s : Bytes} {place b : ℕ} {w : Bytes} (v : Ready types s place b w) (o : operand-count (v .tree) ≡ 2) {t : Ty} {n m : ℕ} {w₄ : Bytes} (d : Done3 g v t n m w₄) where
+  pub two-sized : Sized (drop 252 w₄) m (d .other)
+  two-sized = subst (λ y. Sized (drop (kept-between y) w₄) m (d .other)) o (d .sized)
+
+  pub two-room : 504 ≤ length w₄
+  two-room = omega (arith, v .room, d .same, depth-positive (first-operand (v .tree)), first-smaller (v .tree) (omega arith) .deeper)
+
+  abbrev pub two-of : Two g s place w₄ n m
+  two-of =
+      record {
+        tree = v .tree;
+        is = v .is;
+        two = o;
+        first = t;
+        second = d .other;
+        sized = d .front o;
+        other = two-sized;
+        asked = d .asked;
+        room = two-room;
+      }
+
+  pub ends-meets : {x : Found} {w₅ : Bytes} → Meets (after-two (readers g) place (v .tree) t (d .other)) b w₄ x w₅
+      → Meets (typing (readers g) (type-at types) (v .ctx) place (v .tree)) b w x w₅
+  ends-meets h = rebase (d .kept) (meets-of (d .is ∙ second-typed (readers g) (type-at types) (v .ctx) place (v .tree) t (d .other) o) h)
+
+-- ---- a case's branches
+
+pub record Done5 (g : Bytes) {types s : Bytes} {place b : ℕ} {w : Bytes} (v : Ready types s place b w) (i : ℕ) (t : Ty) (c : ℕ) (w₅ : Bytes) : Type 0 where
+  pub is : typing (readers g) (type-at types) (v .ctx) place (v .tree)
+      ≡ bind (typing (readers g) (type-at types) (right t ∷ v .ctx) (1 + place + size (first-operand (v .tree)) + size (second-operand (v .tree))) (third-operand (v .tree)))
+      (λ u. wanting (readers g) place u (type-at types i) (raiseT (readers g) (type-at types i) (top t .ir)))
+  pub binders : length (right t ∷ v .ctx) ≡ c
+  pub holds : Holds (right t ∷ v .ctx) (high c w₅)
+  pub kept : high b w₅ ≡ high b w
+  pub same : length w₅ ≡ length w
+
+pub record Done6 (g : Bytes) {types s : Bytes} {place b : ℕ} {w : Bytes} (v : Ready types s place b w) (i : ℕ) (t : Ty) (w₆ : Bytes) : Type 0 where
+  pub type : Ty
+  pub is : typing (readers g) (type-at types) (v .ctx) place (v .tree) ≡ wanting (readers g) place type (type-at types i) (raiseT (readers g) (type-at types i) (top t .ir))
+  pub held : Held w₆ type
+  pub kept : high b w₆ ≡ high b w
+  pub same : length w₆ ≡ length w
+
+module _ (g : Bytes) {types s : Bytes} {place b : ℕ} {w : Bytes} (v : Ready types s place b w) (o : operand-count (v .tree) ≡ 3) {i : ℕ} (ei : i ≡ number s 0) where
+  pub case-is : v .tree ≡ case (r s 0) i (first-operand (v .tree)) (second-operand (v .tree)) (third-operand (v .tree))
+  case-is = of-fields s (v .tree) 9 {a = r s 0} {b = ir s 0} (v .is) (ap (λ x. kind x 0) (v .is) ∙ is-case (v .tree) o) refl refl ei
+
+  pub case-named : i < type-count types
+  case-named = case-index types b i (v .tree) (v .formed) case-is
+
+  pub tested-sides : (t : Ty) → between (readers g) place (v .tree) t ≡ accepted tt → kind-of t ≡ 0 → ⊥
+  unfolding between
+  tested-sides t a = read-two (readers g) place sum t (r s 0) (sym (ap (λ e. between (readers g) place e t) case-is) ∙ a)
+
+  module _ {t : Ty} {n m : ℕ} {w₄ : Bytes} (d : Done3 g v t n m w₄) where
+    pub case-room : 252 * (b + 2) ≤ length w₄
+    case-room = omega (arith, v .room, d .same, depth-positive (first-operand (v .tree)), first-smaller (v .tree) (omega arith) .deeper)
+
+    pub branch-held : Held w₄ (d .other)
+    branch-held = subst (λ y. Sized (drop (kept-between y) w₄) m (d .other)) o (d .sized) .held
+
+    pub turn-asks : Named types i × (Starts w₄ × (Some-sides b w₄ × (252 * (b + 2) ≤ length w₄)))
+    turn-asks = (named (v .table) case-named, (record { type = d .other; held = branch-held }, (record { type = t; sides = d .slot o }, case-room)))
+
+    pub holds4 : Holds (v .ctx) (high b w₄)
+    holds4 = rw (d .kept) (v .holds)
+
+    under-branch : typing (readers g) (type-at types) (v .ctx) place (v .tree)
+        ≡ then (q22 (readers g) place (d .other) (type-at types i))
+        (bind (typing (readers g) (type-at types) (right t ∷ v .ctx) (1 + place + size (first-operand (v .tree)) + size (second-operand (v .tree))) (third-operand (v .tree)))
+        (λ u. wanting (readers g) place u (type-at types i) (raiseT (readers g) (type-at types i) (top t .ir))))
+    under-branch = d .is ∙ branch-typed (readers g) (type-at types) (v .ctx) place t (d .other) case-is
+
+    module _ {x : Found} {w₅ : Bytes} (h : Enters (q22 (readers g) place (d .other) (type-at types i)) (right-of t ∷ v .ctx) b w₄ x w₅) where
+      pub turn-refuses : tagOf the-type x ≡ 1 → Meets (typing (readers g) (type-at types) (v .ctx) place (v .tree)) b w x w₅
+      turn-refuses f =
+          let y = stopped f h in
+          refused-meets
+          (under-branch
+          ∙ ap (λ a. then a
+          (bind (typing (readers g) (type-at types) (right t ∷ v .ctx) (1 + place + size (first-operand (v .tree)) + size (second-operand (v .tree))) (third-operand (v .tree)))
+          (λ u. wanting (readers g) place u (type-at types i) (raiseT (readers g) (type-at types i) (top t .ir))))) (y .2)) (y .3)
+
+      pub done5 : {c : ℕ} → tagOf the-type x ≡ 0 → length w₅ ≡ length w₄ → c ≡ b + 1 → Done5 g v i t c w₅
+      done5 {c} f l ec =
+          let p = entered-some f h in
+          let k = p .1 in
+          let e = p .2 in
+          let q : k ≡ c = omega (arith, e .binders, v .binders) in
+          let z = right-is t (tested-sides t (d .asked)) in
+          record {
+            is = under-branch
+                ∙ ap (λ a. then a
+                (bind (typing (readers g) (type-at types) (right t ∷ v .ctx) (1 + place + size (first-operand (v .tree)) + size (second-operand (v .tree))) (third-operand (v .tree)))
+                (λ u. wanting (readers g) place u (type-at types i) (raiseT (readers g) (type-at types i) (top t .ir))))) (p .0);
+            binders = omega (arith, v .binders);
+            holds = subst (λ u. Holds (u ∷ v .ctx) (high c w₅)) (sym z) (subst (λ j. Holds (right-of t ∷ v .ctx) (high j w₅)) q (e .holds));
+            kept = e .kept ∙ d .kept;
+            same = l ∙ d .same;
+          }
+
+  module _ {t : Ty} {c : ℕ} {w₅ : Bytes} (d : Done5 g v i t c w₅) {j : ℕ} (ej : j ≡ 1 + size (first-operand (v .tree)) + size (second-operand (v .tree))) where
+    pub third-room-left : 252 * (c + depth (third-operand (v .tree))) ≤ length w₅
+    third-room-left = omega (arith, d .binders, v .binders, v .room, d .same, third-smaller (v .tree) (omega arith) .deeper)
+
+    pub third-formed-at : Formed types c (third-operand (v .tree))
+    third-formed-at =
+        let q : suc b ≡ c = omega (arith, d .binders, v .binders) in
+        subst (λ k. Formed types k (third-operand (v .tree))) q (third-formed types b (v .tree) (omega arith) (v .formed))
+
+    pub third-placed : place + j + size (third-operand (v .tree)) ≤ 8192
+    third-placed = omega (arith, v .placed, third-smaller (v .tree) (omega arith) .larger)
+
+    abbrev pub ready3 : {s₃ : Bytes} → s₃ ≡ encode (third-operand (v .tree)) → Ready types s₃ (place + j) c w₅
+    ready3 es =
+        record {
+          table = v .table;
+          ctx = right t ∷ v .ctx;
+          binders = d .binders;
+          holds = d .holds;
+          tree = third-operand (v .tree);
+          is = es;
+          formed = third-formed-at;
+          room = third-room-left;
+          placed = third-placed;
+        }
+
+    module _ {w₆ : Bytes} {x : Found} (m : Meets (typing (readers g) (type-at types) (right t ∷ v .ctx) (place + j) (third-operand (v .tree))) c w₅ x w₆) where
+      placed3 : typing (readers g) (type-at types) (right t ∷ v .ctx) (1 + place + size (first-operand (v .tree)) + size (second-operand (v .tree))) (third-operand (v .tree))
+          ≡ typing (readers g) (type-at types) (right t ∷ v .ctx) (place + j) (third-operand (v .tree))
+      placed3 =
+          let q : 1 + place + size (first-operand (v .tree)) + size (second-operand (v .tree)) ≡ place + j = omega arith in
+          ap (λ p. typing (readers g) (type-at types) (right t ∷ v .ctx) p (third-operand (v .tree))) q
+
+      pub third-refuses : tagOf the-type x ≡ 1 → Meets (typing (readers g) (type-at types) (v .ctx) place (v .tree)) b w x w₆
+      third-refuses f =
+          let y = refused-as f m in
+          refused-meets
+          (d .is ∙ ap (λ a. bind a (λ u. wanting (readers g) place u (type-at types i) (raiseT (readers g) (type-at types i) (top t .ir)))) (placed3 ∙ y .2)) (y .3)
+
+      pub done6 : tagOf the-type x ≡ 0 → length w₆ ≡ length w₅ → Done6 g v i t w₆
+      done6 f l =
+          let a = found-some f m .1 in
+          record {
+            type = a .type;
+            is = d .is ∙ ap (λ y. bind y (λ u. wanting (readers g) place u (type-at types i) (raiseT (readers g) (type-at types i) (top t .ir)))) (placed3 ∙ a .is);
+            held = a .wrote .sized .held;
+            kept = high-within b c w₅ w₆ (omega (arith, d .binders, v .binders)) (omega (arith, third-room-left)) l (a .wrote .kept) ∙ d .kept;
+            same = l ∙ d .same;
+          }
+
+  module _ {t : Ty} {w₆ : Bytes} (d : Done6 g v i t w₆) where
+    pub done-room : 252 * (b + 1) ≤ length w₆
+    done-room = omega (arith, level g v, d .same)
+
+    pub done-asks : Named types i × (Starts w₆ × (252 ≤ length w₆))
+    done-asks = (named (v .table) case-named, (record { type = d .type; held = d .held }, omega (arith, done-room)))
+
+    pub done-meets : {by : ℕ} {x : Found} {w₇ : Bytes} → by ≡ top t .ir
+        → Meets (wanting (readers g) place (d .type) (type-at types i) (raiseT (readers g) (type-at types i) by)) b w₆ x w₇
+        → Meets (typing (readers g) (type-at types) (v .ctx) place (v .tree)) b w x w₇
+    done-meets e h =
+        rebase (d .kept)
+        (meets-of (d .is ∙ ap (λ y. wanting (readers g) place (d .type) (type-at types i) (raiseT (readers g) (type-at types i) y)) (sym e)) h)

@@ -1,0 +1,146 @@
+use mathlib.Core.Path.{_≡_, refl, sym, ap, _∙_, subst}
+use mathlib.Core.Bool.{Bool, true, false, cond}
+use mathlib.Core.List.{List, [], _∷_, _++_}
+use Prim.Native.Nat.{ℕ, suc, _+_, _-_, _*_, _≤_, _<_}
+use native.Mathlib.Omega.{arith}
+use native.Mathlib.Nat.{zero-add}
+use borrow.Author.Tests.{le-leb, lt-leb, eq-eqb, ne-eqb}
+use denote.Enum.Declared.{tagOf}
+use lib.Dec.{eqb, leb}
+use lib.ListN.{length, take, drop, set, getD, length-append, length-drop, length-set, length-take}
+use lib.Seq.{drop-drop, drop-at, take-at, length-take-le}
+use Rattle.calculus.specs.Security.{Property, Security}
+use Rattle.calculus.specs.Types.{Former, sum, product, function, Ty, one, node, sizeT, top, raiseT}
+use Rattle.calculus.specs.Subtyping.{subtype, below}
+use Rattle.calculus.specs.Terms.{first, second, Term, var, unit, lam, pair, inj, app, proj, case, protect, mu}
+use Rattle.rules.specs.Answer.{Bytes, Answer, accepted, refused, ask, _>>_ as then}
+use Rattle.rules.specs.Limits.{answer-length}
+use Rattle.rules.specs.Groups.{readers, leq}
+use Rattle.rules.specs.Types.{former-kind, encode-type, no-type, type-at, type-count}
+use Rattle.rules.specs.Script.{kind, r, ir, number, arity, encode, size, make}
+use Rattle.rules.specs.Typing.{left, right, q22, q23, typing}
+use Rattle.rules.specs.Calls.{answer-after}
+use Rattle.rules.proofs.PrefixLaws.{encode-length, size-positive}
+use Rattle.rules.proofs.TermCode.{term-code}
+use Rattle.memory.specs.Splice.{splice}
+use Rattle.memory.proofs.Laws.{length-splice, drop-past}
+use Rattle.types.specs.Held.{Held, Starts, Sided, Counted, kind-of, left-of, right-of}
+use Rattle.typing.specs.Operands.{operand-count, first-operand, second-operand, third-operand, Formed}
+use Rattle.typing.specs.Memory.{high, Slot, Sized, Holds, Table, Wrote, Meets, finds, refuses, Ready, Entered, Enters, enters, stops, Says, agrees, In-scope, Typed-front, Sided-front, Part, Named, Named-sided, Beside, Some-sides, Answers}
+use Rattle.typing.specs.Stages.{leaf-type, before-first, first-context, kept-front, function-type, pair-type, wanting, injection-type, reads, may-read, side-of, projection-type, after-one, between, second-context, after-two, Leaf, One, Some, Aside, Passes, passes, denies, Two, kept-between, Set-aside, aside, fails, Part-of}
+use Rattle.typing.specs.declared.Found.{Found}
+use Rattle.typing.specs.declared.Found.the-variants.{Typed, Refused}
+use Rattle.typing.proofs.Front.{to-end, type-length, type-positive, sides-size, left-is, right-is, held-long, held-take, held-bytes, kind-is, held-left, held-right, sides-bytes, size-raised, slot-starts, sized-slot, two-of}
+use Rattle.typing.proofs.Regions.{high-drop, lent-rest, drop-lent, length-lent, high-lent, high-within, high-past, high-splice, sized-lent, entered, stayed, rebase, slot-at, wrote-first, slot-written, beside-written}
+use Rattle.typing.proofs.Shapes.{long, made, of-kind, counted-of, unit-kind, mu-kind, case-kind, app-kind, plain, front-plain, of-fields, depth-positive}
+use Rattle.typing.proofs.Rules.{related, unrelated, wanting-yes, wanting-no, form-yes, reads-20, reads-yes, reads-no, read-kind, read-two, says, says-no, said-yes, meets-of, fits-yes, fits-no, node-size, function-meets, pair-meets, other-record, other-size, raise-wrote, unchanged, says-passes, says-refused, Typed-as, typed-as, refused-as, refused-meets, then-found, then-refused, enters-of, stops-of, passes-of, denies-of, front-passes, slot-passes}
+use Rattle.typing.proofs.Names.{named, named-sided, kind-at, lam-index, inj-index, mu-index, case-index}
+use borrow.Author.Needs.{needs}
+use Rattle.typing.proofs.middle.Statement.{statement}
+use Rattle.typing.proofs.middle.Tie as tie
+use Rattle.typing.proofs.middle.Reads as reads
+use Rattle.typing.proofs.middle.Lts as lts
+use Rattle.script.proofs.kind.Reads as kind-reads
+use Rattle.script.proofs.reader.Reads as reader-reads
+use Rattle.typing.proofs.asks.Reads as asks-reads
+use Rattle.typing.proofs.test.Reads as test-reads
+
+kind-requires : tie.Need-kind-requires
+kind-requires c κs = long ((c .before .before .before) .pre .tree) ((c .before .before .before) .pre .is)
+
+module _ (S : Security) (p : ℕ) (Γ : List Ty) (s : Ty) (e : Term) where
+  pair-asked : {k : Property} {x y : Term} → e ≡ pair k x y → between S p e s ≡ accepted tt
+  unfolding between
+  pair-asked q = ap (λ d. between S p d s) q
+
+  pair-context : {k : Property} {x y : Term} → e ≡ pair k x y → second-context Γ e s ≡ Γ
+  unfolding second-context
+  pair-context q = ap (λ d. second-context Γ d s) q
+
+  pair-count : {k : Property} {x y : Term} → e ≡ pair k x y → operand-count e ≡ 2
+  unfolding operand-count
+  pair-count q = ap operand-count q
+
+  app-asked : {w : ℕ} {x y : Term} → e ≡ app w x y → between S p e s ≡ may-read S p function s w
+  unfolding between
+  app-asked q = ap (λ d. between S p d s) q
+
+  app-context : {w : ℕ} {x y : Term} → e ≡ app w x y → second-context Γ e s ≡ Γ
+  unfolding second-context
+  app-context q = ap (λ d. second-context Γ d s) q
+
+  app-count : {w : ℕ} {x y : Term} → e ≡ app w x y → operand-count e ≡ 2
+  unfolding operand-count
+  app-count q = ap operand-count q
+
+  case-asked : {w i : ℕ} {x y z : Term} → e ≡ case w i x y z → between S p e s ≡ may-read S p sum s w
+  unfolding between
+  case-asked q = ap (λ d. between S p d s) q
+
+  case-context : {w i : ℕ} {x y z : Term} → e ≡ case w i x y z → second-context Γ e s ≡ left s ∷ Γ
+  unfolding second-context
+  case-context q = ap (λ d. second-context Γ d s) q
+
+  case-count : {w i : ℕ} {x y z : Term} → e ≡ case w i x y z → operand-count e ≡ 3
+  unfolding operand-count
+  case-count q = ap operand-count q
+
+-- the first type stays in front
+front-aside : {e : Term} {s : Ty} {b : ℕ} {w : Bytes} {n : ℕ} → operand-count e ≡ 2 → Sized w n s → Aside e s b w n
+front-aside o h = record { front = λ z. h; slot = λ z. absurd (omega arith) }
+
+returns : tie.Need-returns
+returns c =
+    λ v.
+    let S = readers ((c .before .before .before .before .before) .args .groups .now) in
+    let e = of-kind ((c .before .before .before .before .before) .args .s .now) (v .tree) 3 (v .is) (sym ((c .before) .kind .ensures) ∙ c .if1 .taken) in
+    passes-of (pair-asked S ((c .before .before .before .before .before) .args .place) (v .ctx) (v .type) (v .tree) e) (pair-context S ((c .before .before .before .before .before) .args .place) (v .ctx) (v .type) (v .tree) e)
+    (stayed (v .binders) (v .holds)) (front-aside (pair-count S ((c .before .before .before .before .before) .args .place) (v .ctx) (v .type) (v .tree) e) (v .sized))
+
+reader-requires : tie.Need-reader-requires
+reader-requires c κs = long ((c .before .before .before .before .before) .pre .tree) ((c .before .before .before .before .before) .pre .is)
+
+asks-requires : tie.Need-asks-requires
+asks-requires c κs = search needs
+
+same-length : tie.Need-same-length
+same-length c = search needs
+
+returns-2 : tie.Need-returns-2
+returns-2 c =
+    λ v.
+    let S = readers ((c .before .before .before .before .before .before .before .before .before) .args .groups .now) in
+    let s = (c .before .before .before .before .before .before .before .before .before) .args .s .now in
+    let e = of-fields s (v .tree) 6 {b = ir s 0} {n = number s 0} (v .is) (sym ((c .before .before .before .before .before) .kind .ensures) ∙ (c .before .before) .if2 .taken) ((c .before .before .before) .reader .ensures) refl refl in
+    front-passes (c .asks .ensures function (v .type) refl (v .sized .held)) (app-asked S ((c .before .before .before .before .before .before .before .before .before) .args .place) (v .ctx) (v .type) (v .tree) e)
+    (app-context S ((c .before .before .before .before .before .before .before .before .before) .args .place) (v .ctx) (v .type) (v .tree) e) (stayed (v .binders) (v .holds)) (front-aside (app-count S ((c .before .before .before .before .before .before .before .before .before) .args .place) (v .ctx) (v .type) (v .tree) e) (v .sized))
+
+test-requires : tie.Need-test-requires
+test-requires c κs = search needs
+
+same-length-2 : tie.Need-same-length-2
+same-length-2 c = search needs
+
+returns-3 : tie.Need-returns-3
+returns-3 c =
+    λ v.
+    let S = readers ((c .before .before .before .before .before .before .before .before .before .before .before) .args .groups .now) in
+    let s = (c .before .before .before .before .before .before .before .before .before .before .before) .args .s .now in
+    let q = case-kind (v .tree) (v .is) (v .some) (λ z. (c .before .before .before .before .before .before) .if1 .left ((c .before .before .before .before .before .before .before) .kind .ensures ∙ z)) (λ z. (c .before .before .before .before) .if2 .left ((c .before .before .before .before .before .before .before) .kind .ensures ∙ z)) in
+    let e = of-fields s (v .tree) 9 {b = ir s 0} {n = number s 0} (v .is) q ((c .before .before .before .before .before) .reader .ensures) refl refl in
+    slot-passes ((c .before .before) .test .ensures (v .ctx) (v .type) (v .sized) (v .binders) (v .holds)) (case-asked S ((c .before .before .before .before .before .before .before .before .before .before .before) .args .place) (v .ctx) (v .type) (v .tree) e)
+    (case-context S ((c .before .before .before .before .before .before .before .before .before .before .before) .args .place) (v .ctx) (v .type) (v .tree) e) (case-count S ((c .before .before .before .before .before .before .before .before .before .before .before) .args .place) (v .ctx) (v .type) (v .tree) e)
+
+pub middle-spec : {M : Type 1} → statement M
+middle-spec =
+    tie.close
+    (tie.spec
+    kind-requires
+    returns
+    reader-requires
+    asks-requires
+    same-length
+    returns-2
+    test-requires
+    same-length-2
+    returns-3)
