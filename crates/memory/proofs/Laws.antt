@@ -47,7 +47,7 @@ pub join-before : (at : ℕ) (x y w : List ℕ) → at + (length x + length y) �
 join-before at x y w f =
     let a : take at (splice (at + length x) y w) ≡ take at w = take-before (at + length x) at y w (omega arith) (omega arith) in
     let b : drop (at + length x) (splice (at + length x) y w) ≡ y ++ drop (at + length x + length y) w =
-        drop-at (take (at + length x) w) (y ++ drop (at + length x + length y) w) (at + length x) (length-take-le (at + length x) w (omega arith)) in
+    drop-at (take (at + length x) w) (y ++ drop (at + length x + length y) w) (at + length x) (length-take-le (at + length x) w (omega arith)) in
     let c : at + length x + length y ≡ at + length (x ++ y) = simp length-append (omega arith) in
     ap (λ (z : List ℕ). z ++ (x ++ drop (at + length x) (splice (at + length x) y w))) a
     ∙ ap (λ (z : List ℕ). take at w ++ (x ++ z)) (b ∙ ap (λ (j : ℕ). y ++ drop j w) c)
@@ -58,7 +58,7 @@ pub join-after : (at : ℕ) (x y w : List ℕ) → at + (length x + length y) �
 join-after at x y w f =
     let m : length (take at w ++ x) ≡ at + length x = simp length-append (omega (arith, length-take-le at w (omega arith))) in
     let a : take (at + length x) (splice at x w) ≡ take at w ++ x =
-        ap (take (at + length x)) (sym (append-assoc (take at w) x (drop (at + length x) w))) ∙ take-at (take at w ++ x) (drop (at + length x) w) (at + length x) m in
+    ap (take (at + length x)) (sym (append-assoc (take at w) x (drop (at + length x) w))) ∙ take-at (take at w ++ x) (drop (at + length x) w) (at + length x) m in
     let b : drop (at + length x + length y) (splice at x w) ≡ drop (at + length x + length y) w = drop-past at (at + length x + length y) x w (omega arith) (omega arith) in
     let c : at + length x + length y ≡ at + length (x ++ y) = simp length-append (omega arith) in
     ap (λ (z : List ℕ). z ++ (y ++ drop (at + length x + length y) (splice at x w))) a
@@ -117,9 +117,9 @@ risen-suc w from to n j l f h =
     let e : to + suc j ≡ suc (to + j) = omega arith in
     let len : length (moved w from to n) ≡ n + (length w - (to + n)) = simp (length-append, length-drop) (omega (arith, m)) in
     let x : getD (moved w from to n) j 0 ≡ getD w (from + j) 0 =
-        List·getD-append (take n (drop from w)) (drop (to + n) w) 0 j (omega arith) ∙ getD-take n (drop from w) j 0 h ∙ getD-drop from w j 0 in
+    List·getD-append (take n (drop from w)) (drop (to + n) w) 0 j (omega arith) ∙ getD-take n (drop from w) j 0 h ∙ getD-drop from w j 0 in
     let r : getD (risen w from to n (suc j)) (from + j) 0 ≡ getD (moved w from to n) j 0 =
-        List·getD-append (take (to + suc j) w) (drop (suc j) (moved w from to n)) 0 (from + j) (omega arith) ∙ getD-take (to + suc j) w (from + j) 0 (omega arith) ∙ sym x in
+    List·getD-append (take (to + suc j) w) (drop (suc j) (moved w from to n)) 0 (from + j) (omega arith) ∙ getD-take (to + suc j) w (from + j) 0 (omega arith) ∙ sym x in
     ap (set (risen w from to n (suc j)) (to + j)) r
     ∙ ap (λ (z : List ℕ). set (z ++ drop (suc j) (moved w from to n)) (to + j) (getD (moved w from to n) j 0)) (ap (λ (i : ℕ). take i w) e ∙ take-suc w (to + j) 0 (omega arith))
     ∙ ap (λ (z : List ℕ). set z (to + j) (getD (moved w from to n) j 0)) (append-assoc (take (to + j) w) (getD w (to + j) 0 ∷ []) (drop (suc j) (moved w from to n)))

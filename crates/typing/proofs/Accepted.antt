@@ -1,13 +1,11 @@
 -- A script that has passed questions 2 to 19 is ready for typing.
-use mathlib.Core.Path.{_≡_, refl, sym, ap, _∙_, subst}
-use mathlib.Core.List.{List, [], _∷_}
-use Prim.Native.Nat.{ℕ, suc, _+_, _*_, _-_, _≤_, _<_}
+use mathlib.Core.Path.{_≡_, refl, sym, _∙_, subst}
+use mathlib.Core.List.{[]}
+use Prim.Native.Nat.{ℕ, suc, _+_, _*_, _≤_}
 use native.Mathlib.Omega.{arith}
-use lib.ListN.{length, drop, length-drop}
-use Rattle.calculus.specs.Types.{Ty}
+use lib.ListN.{length, length-drop}
 use Rattle.calculus.specs.Terms.{Term, var, unit, lam, pair, inj, app, proj, case, protect, mu}
 use Rattle.rules.specs.Answer.{Bytes, Octets, Answer, accepted, refused, _>>_ as then}
-use Rattle.rules.specs.Types.{type-at, type-count, no-type}
 use Rattle.rules.specs.Script.{encode, term, size, depth, q16, q18, q19}
 use Rattle.rules.specs.Calls.{types-check, script-check}
 use Rattle.rules.proofs.Nodes.{Every, every-here, every-below}
@@ -23,7 +21,7 @@ use Rattle.types.proofs.Questions.{all-yes}
 use Rattle.script.specs.Check.{terms-check}
 use Rattle.script.proofs.Asked.{script-check-is, Terms-pass, terms-pass}
 use Rattle.typing.specs.Operands.{Formed}
-use Rattle.typing.specs.Memory.{high, Slot, Holds, Table, Ready}
+use Rattle.typing.specs.Memory.{high, Holds, Table, Ready}
 
 pub both-yes : (a b : Answer (Unit {0})) → then a b ≡ accepted tt → (a ≡ accepted tt) × (b ≡ accepted tt)
 both-yes (accepted u) b h = (refl, h)

@@ -1,17 +1,16 @@
 -- The rules of `typing`, taken apart at the operands.
-use mathlib.Core.Path.{_≡_, refl, sym, ap, _∙_}
-use mathlib.Core.List.{List, [], _∷_}
+use mathlib.Core.Path.{_≡_, refl, ap}
+use mathlib.Core.List.{List, _∷_}
 use Prim.Native.Nat.{ℕ, _+_, _≤_}
 use native.Mathlib.Omega.{arith}
-use lib.ListN.{getD}
-use Rattle.calculus.specs.Security.{Property, Security}
-use Rattle.calculus.specs.Types.{sum, product, function, Ty, top, raiseT}
+use Rattle.calculus.specs.Security.{Security}
+use Rattle.calculus.specs.Types.{sum, product, function, Ty}
 use Rattle.calculus.specs.Terms.{first, second, Term, var, unit, lam, pair, inj, app, proj, case, protect, mu}
-use Rattle.rules.specs.Answer.{Answer, accepted, refused, _>>=_ as bind, _>>_ as then, ask}
+use Rattle.rules.specs.Answer.{Answer, accepted, refused, _>>=_ as bind, _>>_ as then}
 use Rattle.rules.specs.Script.{size}
-use Rattle.rules.specs.Typing.{left, right, q20, q21, q22, q23, q24, typing}
-use Rattle.typing.specs.Operands.{operand-count, first-operand, second-operand, third-operand}
-use Rattle.typing.specs.Stages.{leaf-type, before-first, first-context, wanting, reads, may-read, after-one, between, second-context, after-two}
+use Rattle.rules.specs.Typing.{left, right, q20, q21, q22, typing}
+use Rattle.typing.specs.Operands.{operand-count, first-operand, second-operand}
+use Rattle.typing.specs.Stages.{leaf-type, before-first, first-context, wanting, reads, after-one, between, second-context, after-two}
 
 then-assoc : {A : Type 0} (a b : Answer (Unit {0})) (c : Answer A) → then a (then b c) ≡ then (then a b) c
 then-assoc (accepted tt) b c = refl

@@ -1,12 +1,12 @@
 -- What a list that starts with a type has at its front.
 use mathlib.Core.Path.{_≡_, refl, sym, ap, _∙_}
-use mathlib.Core.List.{List, [], _∷_, _++_, append-assoc}
+use mathlib.Core.List.{_++_, append-assoc}
 use Prim.Native.Nat.{ℕ, _+_, _-_, _*_, _≤_}
 use native.Mathlib.Omega.{arith}
-use lib.ListN.{length, take, drop, getD, length-append, length-drop}
+use lib.ListN.{length, take, drop, length-append, length-drop}
 use lib.Seq.{take-all, take-at, drop-at, drop-drop}
 use Rattle.calculus.specs.Security.{Security}
-use Rattle.calculus.specs.Types.{sum, product, function, Ty, one, node, sizeT, top, raiseT}
+use Rattle.calculus.specs.Types.{Ty, one, node, sizeT, raiseT}
 use Rattle.rules.specs.Answer.{Bytes, byte}
 use Rattle.rules.specs.Types.{encode-type}
 use Rattle.rules.specs.Typing.{left, right}

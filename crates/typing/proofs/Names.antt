@@ -1,17 +1,16 @@
 -- The types that a formed node names.
-use mathlib.Core.Path.{_≡_, refl, sym, ap, _∙_, subst}
-use Prim.Native.Nat.{ℕ, suc, _+_, _*_, _≤_, _<_}
+use mathlib.Core.Path.{_≡_, sym, ap, _∙_, subst}
+use Prim.Native.Nat.{ℕ, suc, _+_, _*_, _<_}
 use native.Mathlib.Omega.{arith}
-use lib.ListN.{length, drop}
+use lib.ListN.{drop}
 use lib.Seq.{getD-drop}
 use Rattle.calculus.specs.Security.{Property}
-use Rattle.calculus.specs.Types.{Ty}
-use Rattle.calculus.specs.Terms.{Side, first, second, Term, var, unit, lam, pair, inj, app, proj, case, protect, mu}
+use Rattle.calculus.specs.Terms.{Side, Term, lam, inj, case, mu}
 use Rattle.rules.specs.Answer.{Bytes, byte}
 use Rattle.rules.specs.Types.{type-count, type-kind, type-at}
-use Rattle.types.specs.Held.{Held, kind-of}
-use Rattle.typing.specs.Operands.{operand-count, first-operand, second-operand, third-operand, Formed}
-use Rattle.typing.specs.Memory.{Slot, Table, Named, Named-sided}
+use Rattle.types.specs.Held.{kind-of}
+use Rattle.typing.specs.Operands.{Formed}
+use Rattle.typing.specs.Memory.{Table, Named, Named-sided}
 use Rattle.typing.proofs.Front.{kind-is}
 
 pub named : {types : Bytes} {i : ℕ} → Table types → i < type-count types → Named types i

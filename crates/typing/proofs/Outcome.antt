@@ -1,16 +1,16 @@
 -- What checking answers and leaves, by the question that ends it.
-use mathlib.Core.Path.{_≡_, refl, sym, ap, _∙_, subst}
+use mathlib.Core.Path.{_≡_, refl, sym, ap, _∙_}
 use mathlib.Core.Bool.{Bool, true, false, not, _&&_, cond}
 use mathlib.Core.List.{List, [], _∷_}
 use mathlib.Core.Option.{Option, none, some}
-use Prim.Native.Nat.{ℕ, zero, suc, _+_, _%_, _≤_, _<_}
+use Prim.Native.Nat.{ℕ, _+_, _%_, _≤_, _<_}
 use native.Mathlib.Omega.{arith}
 use borrow.Author.Tests.{le-leb, lt-leb}
 use denote.Enum.Declared.{tagOf}
 use lib.Dec.{eqb, leb}
-use lib.ListN.{length, replicate, getD}
-use Rattle.calculus.specs.Security.{Property, Security}
-use Rattle.calculus.specs.Types.{Former, sum, product, function, Ty, one, node, sizeT, fits, top, raiseT}
+use lib.ListN.{length, getD}
+use Rattle.calculus.specs.Security.{Security}
+use Rattle.calculus.specs.Types.{Former, sum, product, function, Ty, one, node, fits, top, raiseT}
 use Rattle.calculus.specs.Subtyping.{subtype, below}
 use Rattle.calculus.specs.Terms.{choose, Term, var, unit, lam, pair, inj, app, proj, case, protect, mu}
 use Rattle.rules.specs.Answer.{Bytes, Answer, accepted, refused, _>>=_ as bind, _>>_ as then, ask, refused-at, each, first-below, all-below}
@@ -28,7 +28,7 @@ use Rattle.script.proofs.Asked.{script-check-is}
 use Rattle.typing.specs.Memory.{Meets, finds, refuses}
 use Rattle.typing.specs.Answered.{answered, refusal}
 use Rattle.typing.specs.declared.Found.{Found}
-use Rattle.typing.specs.declared.Found.the-variants.{Typed, Refused}
+use Rattle.typing.specs.declared.Found.the-variants.{Refused}
 
 -- ---- the questions before typing have numbers below 20
 

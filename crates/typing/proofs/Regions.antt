@@ -4,18 +4,16 @@ use mathlib.Core.List.{List, [], _∷_, _++_, append-nil, append-assoc}
 use Prim.Native.Nat.{ℕ, zero, suc, _+_, _-_, _*_, _≤_, _<_}
 use native.Mathlib.Omega.{arith}
 use lib.ListN.{length, take, drop, getD, length-append, length-drop, take-append-drop, drop-of-length-le}
-use lib.Seq.{take-at, drop-at, drop-drop, take-append-le, take-take, length-take-le}
+use lib.Seq.{drop-at, drop-drop, take-append-le, take-take, length-take-le}
 use borrow.Rule.Slice.PartMut.{putMid}
-use Rattle.calculus.specs.Types.{Ty, sizeT, type-limit}
-use Rattle.rules.specs.Answer.{Bytes, Answer, accepted, refused}
-use Rattle.rules.specs.Limits.{answer-length}
+use Rattle.calculus.specs.Types.{Ty, sizeT}
+use Rattle.rules.specs.Answer.{Bytes, Answer}
 use Rattle.rules.specs.Types.{encode-type, no-type}
 use Rattle.types.specs.Held.{Held, kind-of, left-of, right-of}
 use Rattle.memory.specs.Splice.{splice}
 use Rattle.memory.proofs.Laws.{length-splice, drop-past, drop-before}
 use Rattle.typing.specs.Memory.{high, Slot, Sized, Holds, Wrote, Meets, finds, refuses, Entered, Beside}
 use Rattle.typing.specs.declared.Found.{Found}
-use Rattle.typing.specs.declared.Found.the-variants.{Typed, Refused}
 use Rattle.typing.proofs.Front.{type-length, held-take, sides-size}
 
 -- the slots, seen from a lent part
@@ -160,8 +158,7 @@ beside-written {t} {b} w {x} w′ nz s e l q =
     let ly : length y ≡ 4 * sizeT (left-of t) + 4 * sizeT (right-of t) = length-append (encode-type (left-of t)) (encode-type (right-of t)) ∙ omega arith in
     let z : w′ ≡ splice at y w = q ∙ ap (λ u. splice at u w) e in
     let h : high (b + 1) w′ ≡ encode-type (left-of t) ++ (encode-type (right-of t) ++ drop (length y) (high (b + 1) w)) =
-    ap (high (b + 1)) z ∙ high-slot b y w l (omega arith) ∙ append-assoc (encode-type (left-of t)) (encode-type (right-of t)) (drop (length y) (high (b + 1) w)) in
-    (
+    ap (high (b + 1)) z ∙ high-slot b y w l (omega arith) ∙ append-assoc (encode-type (left-of t)) (encode-type (right-of t)) (drop (length y) (high (b + 1) w)) in (
       record {
         left = record { held = record { rest = encode-type (right-of t) ++ drop (length y) (high (b + 1) w); is = h }; small = omega arith };
         right = record {

@@ -2,34 +2,33 @@
 use mathlib.Core.Path.{_≡_, refl, sym, ap, _∙_, subst}
 use mathlib.Core.Bool.{Bool, true, false, cond}
 use mathlib.Core.List.{List, [], _∷_, _++_}
-use Prim.Native.Nat.{ℕ, _+_, _-_, _*_, _≤_, _<_}
+use Prim.Native.Nat.{ℕ, _+_, _*_, _≤_, _<_}
 use native.Mathlib.Omega.{arith}
 use borrow.Author.Tests.{le-leb, lt-leb}
 use denote.Enum.Declared.{tagOf}
-use lib.Dec.{leb}
-use lib.ListN.{length, take, drop, length-append}
+use lib.ListN.{length, drop, length-append}
 use lib.Seq.{drop-at}
 use Rattle.calculus.specs.Security.{Property, Security}
-use Rattle.calculus.specs.Types.{Former, sum, product, function, Ty, one, node, sizeT, same, top, raiseT, fits}
+use Rattle.calculus.specs.Types.{Former, sum, product, function, Ty, one, node, sizeT, same, top, raiseT}
 use Rattle.calculus.specs.Subtyping.{subtype, below}
-use Rattle.rules.specs.Answer.{Bytes, Answer, accepted, refused, _>>=_, _>>_, ask}
+use Rattle.rules.specs.Answer.{Bytes, Answer, accepted, refused, _>>_, ask}
 use Rattle.rules.specs.Types.{former-kind, encode-type}
-use Rattle.rules.specs.Typing.{has-form, left, right, q20, q21, q22, q24}
-use Rattle.types.specs.Held.{Held, kind-of, left-of, right-of}
+use Rattle.rules.specs.Typing.{has-form, left, right, q21, q24}
+use Rattle.types.specs.Held.{kind-of}
 use Rattle.types.specs.Compared.{compared}
 use Rattle.types.specs.declared.Compared.{Compared}
 use Rattle.types.specs.declared.Compared.the-variants.{Related, Unrelated}
 use Rattle.types.proofs.Compared.{the-type as compared-type}
 use Rattle.memory.specs.Splice.{splice}
-use Rattle.memory.proofs.Laws.{length-splice, drop-past, join-before, join-after}
+use Rattle.memory.proofs.Laws.{join-before, join-after}
 use Rattle.calculus.specs.Terms.{Term}
-use Rattle.typing.specs.Memory.{high, Slot, Sized, Holds, Wrote, Meets, finds, refuses, Says, agrees, denies, Entered, Enters, enters, stops}
+use Rattle.typing.specs.Memory.{Sized, Wrote, Meets, finds, refuses, Says, agrees, denies, Entered, Enters, enters, stops}
 use Rattle.typing.specs.Operands.{operand-count}
 use Rattle.typing.specs.Stages.{wanting, may-read, function-type, pair-type, Aside, Passes, passes, denies as passes-denies, Set-aside, aside, fails}
 use Rattle.typing.specs.declared.Found.{Found}
 use Rattle.typing.specs.declared.Found.the-variants.{Typed, Refused}
 use Rattle.typing.proofs.Found.{the-type}
-use Rattle.typing.proofs.Front.{type-length, size-raised, kind-is}
+use Rattle.typing.proofs.Front.{type-length, size-raised}
 use Rattle.typing.proofs.Regions.{high-past, wrote-first}
 
 -- the walk's answer

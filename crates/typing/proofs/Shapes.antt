@@ -1,19 +1,18 @@
 -- A node's record tells its kind, its fields and its operands.
-use mathlib.Core.Path.{_≡_, refl, sym, ap, _∙_, subst}
-use mathlib.Core.List.{List, [], _∷_, _++_, append-nil}
-use Prim.Native.Nat.{ℕ, suc, _+_, _*_, _/_, _%_, _≤_, _<_}
+use mathlib.Core.Path.{_≡_, refl, sym, ap, _∙_}
+use mathlib.Core.List.{List}
+use Prim.Native.Nat.{ℕ, _≤_}
 use native.Mathlib.Omega.{arith}
-use lib.ListN.{length, drop, getD}
+use lib.ListN.{length}
 use Rattle.calculus.specs.Security.{Security}
-use Rattle.calculus.specs.Types.{Ty, one}
+use Rattle.calculus.specs.Types.{Ty}
 use Rattle.calculus.specs.Terms.{first, second, Term, var, unit, lam, pair, inj, app, proj, case, protect, mu}
-use Rattle.rules.specs.Answer.{Bytes, Answer, accepted}
-use Rattle.rules.specs.Types.{type-count, type-kind}
-use Rattle.rules.specs.Script.{kind, r, ir, number, arity, encode, size, depth, make}
+use Rattle.rules.specs.Answer.{Bytes, accepted}
+use Rattle.rules.specs.Script.{kind, r, ir, number, arity, encode, depth, make}
 use Rattle.rules.proofs.PrefixLaws.{encode-length, size-positive}
 use Rattle.rules.proofs.TermCode.{term-code, two-bytes}
-use Rattle.typing.specs.Operands.{operand-count, first-operand, second-operand, third-operand, Formed}
-use Rattle.typing.specs.Stages.{leaf-type, before-first, first-context, kept-front}
+use Rattle.typing.specs.Operands.{operand-count, first-operand, second-operand, third-operand}
+use Rattle.typing.specs.Stages.{before-first, first-context, kept-front}
 
 pub long : {s : Bytes} (e : Term) → s ≡ encode e → 6 ≤ length s
 long {s} e p = omega (arith, ap length p, encode-length term-code e, size-positive term-code e)

@@ -1,33 +1,32 @@
 -- One call of the checker, stage by stage, over plain lists.
 use mathlib.Core.Path.{_≡_, refl, sym, ap, _∙_, subst}
-use mathlib.Core.Bool.{Bool, true, false, cond}
-use mathlib.Core.List.{List, [], _∷_, _++_}
+use mathlib.Core.List.{List, _∷_, _++_}
 use Prim.Native.Nat.{ℕ, suc, _+_, _-_, _*_, _≤_, _<_}
 use native.Mathlib.Omega.{arith}
 use borrow.Rule.Slice.PartMut.{putMid}
 use denote.Enum.Declared.{tagOf}
 use lib.ListN.{length, take, drop, length-drop}
-use Rattle.calculus.specs.Types.{sum, function, Ty, top, raiseT}
+use Rattle.calculus.specs.Types.{sum, Ty, top, raiseT}
 use Rattle.calculus.specs.Terms.{Term, case}
-use Rattle.rules.specs.Answer.{Bytes, Answer, accepted, refused, _>>=_ as bind, _>>_ as then, ask}
+use Rattle.rules.specs.Answer.{Bytes, Answer, accepted, refused, _>>=_ as bind, _>>_ as then}
 use Rattle.rules.specs.Groups.{readers}
-use Rattle.rules.specs.Types.{no-type, type-at, type-count}
+use Rattle.rules.specs.Types.{type-at, type-count}
 use Rattle.rules.specs.Script.{encode, size, depth, kind, r, ir, number}
 use Rattle.rules.specs.Typing.{left, right, q22, typing}
-use Rattle.types.specs.Held.{Held, Starts, kind-of, left-of, right-of}
+use Rattle.types.specs.Held.{Held, Starts, kind-of, right-of}
 use Rattle.typing.specs.Operands.{operand-count, first-operand, second-operand, third-operand, Formed}
-use Rattle.typing.specs.Memory.{high, Slot, Sized, Holds, Wrote, Meets, finds, refuses, Ready, Entered, Enters, enters, stops, Named, Beside, Some-sides}
-use Rattle.typing.specs.Stages.{before-first, first-context, kept-front, after-one, between, second-context, after-two, wanting, reads, may-read, Leaf, One, Some, Aside, Passes, passes, denies, Two, kept-between}
+use Rattle.typing.specs.Memory.{high, Sized, Holds, Meets, finds, refuses, Ready, Entered, Enters, enters, stops, Named, Beside, Some-sides}
+use Rattle.typing.specs.Stages.{before-first, first-context, kept-front, after-one, between, second-context, after-two, wanting, One, Some, Aside, Passes, passes, denies, Two, kept-between}
 use Rattle.typing.specs.declared.Found.{Found}
 use Rattle.typing.specs.declared.Found.the-variants.{Typed, Refused}
 use Rattle.typing.proofs.Found.{the-type}
 use Rattle.typing.proofs.Front.{right-is}
 use Rattle.typing.proofs.Regions.{high-drop, lent-rest, drop-lent, length-lent, high-lent, high-within, sized-lent, rebase}
-use Rattle.typing.proofs.Shapes.{of-fields, case-kind, depth-positive}
+use Rattle.typing.proofs.Shapes.{of-fields, depth-positive}
 use Rattle.typing.proofs.Rules.{meets-of, Typed-as, typed-as, refused-as, refused-meets, read-two}
 use Rattle.typing.proofs.Names.{named, case-index}
-use Rattle.typing.proofs.Apart.{after-second, stops-before, stops-first, one-typed, first-typed, second-typed, branch-typed, first-plain}
-use Rattle.typing.proofs.Below.{Smaller, first-smaller, second-smaller, third-smaller, first-formed, second-formed, third-formed, first-room, second-room, several-front, branch-binders, is-case}
+use Rattle.typing.proofs.Apart.{after-second, stops-before, stops-first, one-typed, first-typed, second-typed, branch-typed}
+use Rattle.typing.proofs.Below.{first-smaller, second-smaller, third-smaller, first-formed, second-formed, third-formed, first-room, second-room, several-front, branch-binders, is-case}
 
 -- ---- answers taken apart
 

@@ -10,7 +10,7 @@ use Rattle.calculus.specs.Types.{Former, sum, product, function, Ty, one, node,
 use Rattle.calculus.specs.Subtyping.{subtype, below}
 use Rattle.calculus.specs.Terms.{first, second, Term, var, unit, lam, pair, inj, app, proj, case, protect, mu}
 use Rattle.rules.specs.Answer.{Bytes, Answer, accepted, refused, _>>=_, _>>_, ask}
-use Rattle.rules.specs.Limits.{answer-length}
+use Rattle.rules.specs.Limits.{type-width, answer-length}
 use Rattle.rules.specs.Types.{no-type}
 use Rattle.rules.specs.Script.{encode, size}
 use Rattle.rules.specs.Groups.{readers}
@@ -66,7 +66,7 @@ kept-front (var n) = 0
 kept-front (unit k) = 0
 kept-front (lam k i e) = 0
 kept-front (pair k a b) = 0
-kept-front (inj d k i e) = 4
+kept-front (inj d k i e) = type-width
 kept-front (app w f a) = 0
 kept-front (proj d w e) = 0
 kept-front (case w i e a b) = 0

@@ -1,6 +1,9 @@
-use lattice::{Checked, Indirect, Reader};
+use lattice::Checked;
+use lattice::Indirect;
+use lattice::Reader;
+use script::DEPTH_LIMIT;
+use script::SCRIPT_WIDTH;
 use types::Compared;
-
 ghost use mathlib.Core.Path.{_≡_};
 ghost use mathlib.Core.List.{List, [], _∷_};
 ghost use Prim.Native.Nat.{ℕ, _+_, _*_, _≤_, _<_};
@@ -31,10 +34,14 @@ pub enum Found {
     Refused(u8, usize),
 }
 
-// A slot holds any type: 63 records of 4 bytes. Question 1 asks for one for each level of a script.
-const SLOT: usize = 252;
+const TYPE_WIDTH: usize = 4;
 
-const WORK_LENGTH: usize = 64512;
+const TYPE_LIMIT: usize = 63;
+
+// A slot holds any type. Question 1 asks for one for each level of a script.
+const SLOT: usize = TYPE_LIMIT * TYPE_WIDTH;
+
+const WORK_LENGTH: usize = DEPTH_LIMIT * SLOT;
 
 // Kinds of terms.
 const VARIABLE: u8 = 0;
@@ -67,7 +74,7 @@ fn wide(n: u16) -> usize
 
 // The number of the first record.
 fn index(s: &[u8]) -> usize
-    requires { ⌜ 6 ≤ length (now s) ⌝ }
+    requires { ⌜ script-width ≤ length (now s) ⌝ }
     ensures { λ a. ⌜ a ≡ number (now (s .entry)) 0 ⌝ }
 {
     wide(script::number(s, 0))
@@ -75,7 +82,7 @@ fn index(s: &[u8]) -> usize
 
 // The number of operands of the first record.
 fn operands(s: &[u8]) -> usize
-    requires { ⌜ 6 ≤ length (now s) ⌝ }
+    requires { ⌜ script-width ≤ length (now s) ⌝ }
     ensures { λ a. ⌜ a ≡ arity (kind (now (s .entry)) 0) ⌝ }
 {
     script::arity(script::kind(s, 0))
@@ -86,7 +93,7 @@ fn operand_end(s: &[u8], i: usize) -> usize
     requires { ⌜ Here (now s) i ⌝ }
     ensures { λ a. ⌜ ((e : Term) → At (now (s .entry)) i e → a ≡ i + size e) ⌝ }
 {
-    let from = 6 * i;
+    let from = SCRIPT_WIDTH * i;
     i + script::term_records(&s[from..])
 }
 
@@ -96,8 +103,8 @@ fn operand(s: &[u8], i: usize, end: usize) -> &[u8]
     ensures { λ r. ⌜ ((e : Term) → At (now (s .entry)) i e → end ≡ i + size e → now r ≡ encode e)
         × (1 ≤ i → length (now r) < length (now (s .entry))) ⌝ }
 {
-    let from = 6 * i;
-    let to = 6 * end;
+    let from = SCRIPT_WIDTH * i;
+    let to = SCRIPT_WIDTH * end;
     &s[from..to]
 }
 
@@ -105,7 +112,7 @@ fn operand(s: &[u8], i: usize, end: usize) -> &[u8]
 
 // A record in front.
 fn put(w: &mut [u8], kind: u8, r: Reader, ir: Indirect)
-    requires { ⌜ 4 ≤ length (now w) ⌝ }
+    requires { ⌜ type-width ≤ length (now w) ⌝ }
     ensures { λ _. ⌜ now (w .exit) ≡ splice 0 (kind ∷ r .0 ∷ ir .0 ∷ 0 ∷ []) (now (w .entry)) ⌝ }
 {
     w[0] = kind;
@@ -132,7 +139,7 @@ fn wanted(groups: &[u8], types: &[u8], i: usize, w: &[u8]) -> bool
     ensures { λ x. ⌜ ((s t : Ty) → Held (now (w .entry)) s → Held (drop (type-width * i) (now (types .entry))) t
         → x ≡ subtype (readers (now (groups .entry))) below s t) ⌝ }
 {
-    let from = 4 * i;
+    let from = TYPE_WIDTH * i;
     fits(groups, w, &types[from..])
 }
 
@@ -142,7 +149,7 @@ fn wanted_side(groups: &[u8], types: &[u8], i: usize, second: bool, w: &[u8]) ->
     ensures { λ x. ⌜ ((s t : Ty) → Held (now (w .entry)) s → Held (drop (type-width * i) (now (types .entry))) t
         → x ≡ subtype (readers (now (groups .entry))) below s (side-of second t)) ⌝ }
 {
-    let from = 4 * i;
+    let from = TYPE_WIDTH * i;
     if second {
         let n = types::type_records(types::left_side(&types[from..]));
         return fits(groups, w, types::right_side(&types[from..], n));
@@ -174,7 +181,7 @@ fn lift(groups: &[u8], w: &mut [u8], from: usize, m: usize) -> Found
         → Meets (accepted (raiseT (readers (now (groups .entry))) t (top s .ir))) b (now (w .entry)) x (now (w .exit))) ⌝ }
 {
     let by = types::indirect(w);
-    memory::down(w, from, 0, 4 * m);
+    memory::down(w, from, 0, TYPE_WIDTH * m);
     types::raise(groups, w, by);
     Found::Typed(m)
 }
@@ -189,7 +196,7 @@ fn variable(i: usize, b: usize, w: &mut [u8]) -> Found
 {
     let at = w.len() - SLOT * (b - i);
     let n = types::type_records(&w[at..]);
-    memory::down(w, at, 0, 4 * n);
+    memory::down(w, at, 0, TYPE_WIDTH * n);
     Found::Typed(n)
 }
 
@@ -212,10 +219,10 @@ fn bind(types: &[u8], i: usize, b: usize, w: &mut [u8])
     ensures { λ _. ⌜ ((Γ : List Ty) (t : Ty) → Slot (drop (type-width * i) (now (types .entry))) t → length Γ ≡ b
         → Holds Γ (high b (now (w .entry))) → Entered (t ∷ Γ) b (now (w .entry)) (b + 1) (now (w .exit))) ⌝ }
 {
-    let from = 4 * i;
+    let from = TYPE_WIDTH * i;
     let n = types::type_records(&types[from..]);
     let at = w.len() - SLOT * (b + 1);
-    memory::copy(&types[from..], 4 * n, w, at);
+    memory::copy(&types[from..], TYPE_WIDTH * n, w, at);
 }
 
 // Question 23: ir of the named function type against that of its result.
@@ -224,7 +231,7 @@ fn absorbs(groups: &[u8], types: &[u8], i: usize) -> bool
     ensures { λ x. ⌜ ((t : Ty) → Held (drop (type-width * i) (now (types .entry))) t
         → x ≡ readers (now (groups .entry)) .absorbs (top t) (top (right-of t))) ⌝ }
 {
-    let from = 4 * i;
+    let from = TYPE_WIDTH * i;
     let own = types::indirect(&types[from..]);
     let n = types::type_records(types::left_side(&types[from..]));
     let result = types::indirect(types::right_side(&types[from..], n));
@@ -256,50 +263,67 @@ fn enter(groups: &[u8], types: &[u8], s: &[u8], place: usize, b: usize, w: &mut 
 
 // How much of the front is not lent for the first operand: an injection's record.
 fn kept_front(s: &[u8]) -> usize
-    requires { ⌜ 6 ≤ length (now s) ⌝ }
+    requires { ⌜ script-width ≤ length (now s) ⌝ }
     ensures { λ a. ⌜ ((e : Term) → now (s .entry) ≡ encode e → a ≡ kept-front e) ⌝ }
 {
     let k = script::kind(s, 0);
     if k == FIRST_INJECTION {
-        return 4;
+        return TYPE_WIDTH;
     }
     if k == SECOND_INJECTION {
-        return 4;
+        return TYPE_WIDTH;
     }
     0
 }
 
 // A function: the body's type is in front; the parameter's goes before it, and the record before both. Question 24.
-fn function(types: &[u8], i: usize, r: Reader, ir: Indirect, place: usize, w: &mut [u8], n: usize) -> Found
+fn function(
+    types: &[u8],
+    i: usize,
+    r: Reader,
+    ir: Indirect,
+    place: usize,
+    w: &mut [u8],
+    n: usize,
+) -> Found
     requires { ⌜ Named (now types) i × (Typed-front (now w) n × (answer-length ≤ length (now w))) ⌝ }
     ensures { λ x. ⌜ ((s t : Ty) (b : ℕ) → Slot (drop (type-width * i) (now (types .entry))) s → Sized (now (w .entry)) n t
         → answer-length * (b + 1) ≤ length (now (w .entry))
         → Meets (function-type place (record { r = r .0; ir = ir .0 }) s t) b (now (w .entry)) x (now (w .exit))) ⌝ }
 {
-    let from = 4 * i;
+    let from = TYPE_WIDTH * i;
     let m = types::type_records(&types[from..]);
-    if 62 < m + n {
+    if TYPE_LIMIT <= m + n {
         return Found::Refused(24, place);
     }
-    let at = 4 + 4 * m;
-    memory::up(w, 0, at, 4 * n);
-    memory::copy(&types[from..], 4 * m, w, 4);
+    let at = TYPE_WIDTH + TYPE_WIDTH * m;
+    memory::up(w, 0, at, TYPE_WIDTH * n);
+    memory::copy(&types[from..], TYPE_WIDTH * m, w, TYPE_WIDTH);
     put(w, types::FUNCTION, r, ir);
     Found::Typed(m + n + 1)
 }
 
 // An injection: the operand's type is behind the room of its record. Question 22, and the named sides.
-fn inject(groups: &[u8], types: &[u8], second: bool, i: usize, r: Reader, ir: Indirect, place: usize, w: &mut [u8]) -> Found
-    requires { ⌜ Named-sided (now types) i × (Starts (drop 4 (now w)) × (answer-length ≤ length (now w))) ⌝ }
-    ensures { λ x. ⌜ ((u t : Ty) (b : ℕ) → Slot (drop (type-width * i) (now (types .entry))) u → Held (drop 4 (now (w .entry))) t
+fn inject(
+    groups: &[u8],
+    types: &[u8],
+    second: bool,
+    i: usize,
+    r: Reader,
+    ir: Indirect,
+    place: usize,
+    w: &mut [u8],
+) -> Found
+    requires { ⌜ Named-sided (now types) i × (Starts (drop type-width (now w)) × (answer-length ≤ length (now w))) ⌝ }
+    ensures { λ x. ⌜ ((u t : Ty) (b : ℕ) → Slot (drop (type-width * i) (now (types .entry))) u → Held (drop type-width (now (w .entry))) t
         → answer-length * (b + 1) ≤ length (now (w .entry))
         → Meets (injection-type (readers (now (groups .entry))) place (record { r = r .0; ir = ir .0 }) u (side-of second u) t) b
         (now (w .entry)) x (now (w .exit))) ⌝ }
 {
-    if wanted_side(groups, types, i, second, &w[4..]) {
-        let from = 4 * i;
+    if wanted_side(groups, types, i, second, &w[TYPE_WIDTH..]) {
+        let from = TYPE_WIDTH * i;
         let n = types::type_records(&types[from..]);
-        memory::copy(&types[from..], 4 * n, w, 0);
+        memory::copy(&types[from..], TYPE_WIDTH * n, w, 0);
         put(w, types::SUM, r, ir);
         return Found::Typed(n);
     }
@@ -318,10 +342,10 @@ fn project(groups: &[u8], second: bool, r: Reader, place: usize, w: &mut [u8], n
     };
     let l = types::type_records(types::left_side(w));
     if second {
-        let from = 4 + 4 * l;
+        let from = TYPE_WIDTH + TYPE_WIDTH * l;
         return lift(groups, w, from, n - 1 - l);
     }
-    lift(groups, w, 4, l)
+    lift(groups, w, TYPE_WIDTH, l)
 }
 
 // A protect: the type in front, raised.
@@ -342,9 +366,9 @@ fn adopt(groups: &[u8], types: &[u8], i: usize, place: usize, w: &mut [u8]) -> F
         → Meets (wanting (readers (now (groups .entry))) place t u u) b (now (w .entry)) x (now (w .exit))) ⌝ }
 {
     if wanted(groups, types, i, w) {
-        let from = 4 * i;
+        let from = TYPE_WIDTH * i;
         let n = types::type_records(&types[from..]);
-        memory::copy(&types[from..], 4 * n, w, 0);
+        memory::copy(&types[from..], TYPE_WIDTH * n, w, 0);
         return Found::Typed(n);
     }
     Found::Refused(22, place)
@@ -394,7 +418,7 @@ fn test(groups: &[u8], r: Reader, place: usize, b: usize, w: &mut [u8], n: usize
         return x;
     };
     let at = w.len() - SLOT * (b + 1);
-    memory::up(w, 4, at, 4 * (n - 1));
+    memory::up(w, TYPE_WIDTH, at, TYPE_WIDTH * (n - 1));
     Found::Typed(b + 1)
 }
 
@@ -423,12 +447,12 @@ fn both(r: Reader, ir: Indirect, place: usize, w: &mut [u8], n: usize, m: usize)
         → answer-length * (b + 1) ≤ length (now (w .entry))
         → Meets (pair-type place (record { r = r .0; ir = ir .0 }) s t) b (now (w .entry)) x (now (w .exit))) ⌝ }
 {
-    if 62 < n + m {
+    if TYPE_LIMIT <= n + m {
         return Found::Refused(24, place);
     }
-    memory::up(w, 0, 4, 4 * n);
-    let at = 4 + 4 * n;
-    memory::down(w, SLOT, at, 4 * m);
+    memory::up(w, 0, TYPE_WIDTH, TYPE_WIDTH * n);
+    let at = TYPE_WIDTH + TYPE_WIDTH * n;
+    memory::down(w, SLOT, at, TYPE_WIDTH * m);
     put(w, types::PAIR, r, ir);
     Found::Typed(n + m + 1)
 }
@@ -453,7 +477,7 @@ fn apply(groups: &[u8], place: usize, w: &mut [u8], n: usize) -> Found
 {
     if argument_fits(groups, w) {
         let l = types::type_records(types::left_side(w));
-        let from = 4 + 4 * l;
+        let from = TYPE_WIDTH + TYPE_WIDTH * l;
         return lift(groups, w, from, n - 1 - l);
     }
     Found::Refused(22, place)
@@ -483,9 +507,9 @@ fn turn(groups: &[u8], types: &[u8], i: usize, place: usize, b: usize, w: &mut [
     if wanted(groups, types, i, w) {
         let at = w.len() - SLOT * (b + 1);
         let l = types::type_records(&w[at..]);
-        let from = at + 4 * l;
+        let from = at + TYPE_WIDTH * l;
         let m = types::type_records(&w[from..]);
-        memory::down(w, from, at, 4 * m);
+        memory::down(w, from, at, TYPE_WIDTH * m);
         return Found::Typed(b + 1);
     }
     Found::Refused(22, place)
@@ -538,7 +562,8 @@ fn type_node(groups: &[u8], types: &[u8], s: &[u8], place: usize, b: usize, w: &
     };
     let i2 = operand_end(s, 1);
     let low = kept_front(s);
-    let x1 = type_node(groups, types, operand(s, 1, i2), place + 1, c, &mut w[low..]);
+    let first = operand(s, 1, i2);
+    let x1 = type_node(groups, types, first, place + 1, c, &mut w[low..]);
     let Found::Typed(n) = x1 else {
         return x1;
     };
@@ -552,7 +577,8 @@ fn type_node(groups: &[u8], types: &[u8], s: &[u8], place: usize, b: usize, w: &
     };
     let i3 = operand_end(s, i2);
     let mid = kept_between(o);
-    let x2 = type_node(groups, types, operand(s, i2, i3), place + i2, c2, &mut w[mid..]);
+    let second = operand(s, i2, i3);
+    let x2 = type_node(groups, types, second, place + i2, c2, &mut w[mid..]);
     let Found::Typed(m) = x2 else {
         return x2;
     };
@@ -565,7 +591,8 @@ fn type_node(groups: &[u8], types: &[u8], s: &[u8], place: usize, b: usize, w: &
         return u;
     };
     let end = operand_end(s, i3);
-    let x3 = type_node(groups, types, operand(s, i3, end), place + i3, c2, w);
+    let third = operand(s, i3, end);
+    let x3 = type_node(groups, types, third, place + i3, c2, w);
     let Found::Typed(_) = x3 else {
         return x3;
     };
@@ -589,7 +616,7 @@ fn hand_over(x: Found, work: &[u8], answer: &mut [u8])
     let Found::Typed(n) = x else {
         return;
     };
-    memory::copy(work, 4 * n, answer, 0);
+    memory::copy(work, TYPE_WIDTH * n, answer, 0);
 }
 
 // A refusal, as an answer of the checker.
@@ -604,7 +631,13 @@ fn refused(a: Checked) -> Found
 
 // Checking: questions 1 to 24. The type is written to the answer buffer's front, and the work buffer is left all zeros once
 // typing has begun.
-pub fn checking(groups: &[u8], types: &[u8], script: &[u8], work: &mut [u8], answer: &mut [u8]) -> Found
+pub fn checking(
+    groups: &[u8],
+    types: &[u8],
+    script: &[u8],
+    work: &mut [u8],
+    answer: &mut [u8],
+) -> Found
     ensures { λ x. ⌜ (answered x ≡ type-records (checking (length (now (work .entry))) (length (now (answer .entry)))
         (now (groups .entry)) (now (types .entry)) (now (script .entry))))
         × (now (work .exit) ≡ work-after (checking (length (now (work .entry))) (length (now (answer .entry)))

@@ -17,30 +17,23 @@ Inv-loop w₀ i₀ w i = (i ≤ length w₀) × (length w ≡ length w₀) × (w
 abbrev μ-loop : tie.MeasureT-loop
 μ-loop w₀ i₀ w i = length w₀ - i
 
-
 loop-holds : tie.Need-loop-holds Inv-loop μ-loop
 loop-holds c = (omega arith, refl, refl)
-
 
 slice-write-w : tie.Need-slice-write-w Inv-loop μ-loop
 slice-write-w c = omega arith
 
-
 add-i : tie.Need-add-i Inv-loop μ-loop
 add-i c = omega arith
-
 
 loop-less : tie.Need-loop-less Inv-loop μ-loop
 loop-less c = omega arith
 
-
 loop-again : tie.Need-loop-again Inv-loop μ-loop
 loop-again c = (omega arith, simp length-set (c .before .loop .inv .1), rw (c .before .loop .inv .2) (fill-more (c .before .loop .i) 0 (c .before .before .args .w .now) (omega arith)))
 
-
 same-length : tie.Need-same-length Inv-loop μ-loop
 same-length c = c .before .loop .inv .1
-
 
 returns : tie.Need-returns Inv-loop μ-loop
 returns c =

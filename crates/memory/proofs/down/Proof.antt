@@ -56,7 +56,7 @@ same-length c = c .before .loop .inv .1
 
 -- src/lib.rt:20:1
 returns : tie.Need-returns Inv-loop μ-loop
-returns c = 
+returns c =
     let e : c .before .loop .i ≡ c .before .before .args .n = omega arith in
     c .before .loop .inv .2 ∙ rw e (paste-splice (c .before .before .args .w .now) (c .before .before .args .to) (drop (c .before .before .args .from) (c .before .before .args .w .now)) (c .before .before .args .n) (simp length-drop (omega arith)))
 

@@ -56,7 +56,7 @@ same-length c = c .before .loop .inv .1
 
 -- src/lib.rt:32:1
 returns : tie.Need-returns Inv-loop μ-loop
-returns c = 
+returns c =
     let e : c .before .loop .i ≡ 0 = omega arith in
     c .before .loop .inv .2 ∙ rw e (risen-end _ _ _ _ (c .before .before .pre .0) (c .before .before .pre .1))
 

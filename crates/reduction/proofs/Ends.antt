@@ -1,0 +1,138 @@
+-- How a step ends, from what the search and the count say; and a step's answer to the questions.
+use mathlib.Core.Path.{_≡_, refl, sym, ap, _∙_}
+use mathlib.Core.Path.{subst as transport}
+use mathlib.Core.Bool.{Bool, true, false, _&&_}
+use mathlib.Core.List.{List, [], _∷_}
+use Prim.Native.Nat.{ℕ, _%_, _≤_}
+use native.Mathlib.Omega.{arith}
+use borrow.Author.Tests.{leb-true}
+use lib.Dec.{eqb, leb}
+use lib.ListN.{length}
+use types.Run.{OneOf}
+use denote.Enum.Declared.{tagOf}
+use Rattle.calculus.specs.Security.{Security}
+use Rattle.calculus.specs.Types.{Ty}
+use Rattle.calculus.specs.Terms.{Term}
+use Rattle.calculus.specs.Reduction.{moved, step}
+use Rattle.rules.specs.Answer.{Bytes, Octets, Answer, accepted, refused, _>>_, ask}
+use Rattle.rules.specs.Limits.{table-limit}
+use Rattle.rules.specs.Groups.{readers}
+use Rattle.rules.specs.Types.{type-count, type-at, q8}
+use Rattle.rules.specs.Script.{records, term}
+use Rattle.rules.specs.Step.{End, at-value, moves, may-not, wrong-kind, too-big, exceeds, limited, step-in}
+use Rattle.rules.specs.Calls.{types-check, groups-check, script-check, stepping, written-after}
+use Rattle.lattice.specs.declared.Checked.{Checked}
+use Rattle.lattice.specs.declared.Checked.the-variants.{Passed, Refused}
+use Rattle.lattice.specs.Said.{said}
+use Rattle.lattice.proofs.Passed.{Yes, No, accepts}
+use Rattle.script.specs.Check.{terms-check}
+use Rattle.script.proofs.Asked.{script-check-is}
+use Rattle.demands.proofs.Answers.{and-then, asked, both, go-on}
+use Rattle.demands.proofs.Checked.{script-passed}
+use Rattle.redex.specs.Found.{Site, Finds, finds-value, finds-redex, finds-denied, finds-stuck}
+use Rattle.redex.specs.declared.Found.{Found}
+use Rattle.redex.specs.declared.Found.the-variants.{Value, Redex, Denied, Stuck}
+use Rattle.redex.proofs.Found.{the-type}
+use Rattle.redex.proofs.Searches.{finds-step}
+use Rattle.reduction.specs.Steps.{Startable, told, as-step, refused-step, reported, step-report}
+
+module _ {S : Security} {tab : ℕ → Ty} {e : Term} where
+  pub ends-value : (room : ℕ) (f : Found) → OneOf (0 ∷ []) (tagOf the-type f) → Finds S tab 0 0 e f → step-in S tab room e ≡ at-value
+  unfolding step-in
+  ends-value room (Value n) k h = ap (limited room) (finds-step h)
+  ends-value room (Redex i d) k h = absurd (omega arith)
+  ends-value room Denied k h = absurd (omega arith)
+  ends-value room Stuck k h = absurd (omega arith)
+
+  pub ends-denied : (room : ℕ) (f : Found) → OneOf (2 ∷ []) (tagOf the-type f) → Finds S tab 0 0 e f → step-in S tab room e ≡ may-not
+  unfolding step-in
+  ends-denied room (Value n) k h = absurd (omega arith)
+  ends-denied room (Redex i d) k h = absurd (omega arith)
+  ends-denied room Denied k h = ap (limited room) (finds-step h)
+  ends-denied room Stuck k h = absurd (omega arith)
+
+  pub ends-stuck : (room : ℕ) (f : Found) → OneOf (3 ∷ []) (tagOf the-type f) → Finds S tab 0 0 e f → step-in S tab room e ≡ wrong-kind
+  unfolding step-in
+  ends-stuck room (Value n) k h = absurd (omega arith)
+  ends-stuck room (Redex i d) k h = absurd (omega arith)
+  ends-stuck room Denied k h = absurd (omega arith)
+  ends-stuck room Stuck k h = ap (limited room) (finds-step h)
+
+  pub found-site : {i d : ℕ} → Finds S tab 0 0 e (Redex i d) → Site S tab 0 0 e i d
+  found-site (finds-redex x) = x
+
+module _ (S : Security) (tab : ℕ → Ty) (e : Term) where
+  pub ends-moved : (room : ℕ) (e′ : Term) → step S tab e ≡ moved e′ → exceeds room e′ ≡ false → step-in S tab room e ≡ moves e′
+  unfolding step-in
+  ends-moved room e′ h k = rw (h, k)
+
+  pub ends-too-big : (room : ℕ) (e′ : Term) → step S tab e ≡ moved e′ → exceeds room e′ ≡ true → step-in S tab room e ≡ too-big
+  unfolding step-in
+  ends-too-big room e′ h k = rw (h, k)
+
+-- the report of a step that was made
+pub made-report : (s : Bytes) (x : End) → reported (as-step (records s) (told x)) ≡ step-report s (accepted x)
+made-report s at-value = refl
+made-report s (moves e) = refl
+made-report s may-not = refl
+made-report s wrong-kind = refl
+made-report s too-big = refl
+
+-- a step's questions: those of the tables, then those of the script
+stepping-is : (g t s : Bytes) (room : ℕ)
+    → stepping g t s room
+    ≡ _>>_ (_>>_ (types-check g t) (terms-check [] g t s)) (accepted (step-in (readers g) (type-at t) room (term s)))
+unfolding stepping
+stepping-is g t s room = ap (λ o. _>>_ o (accepted (step-in (readers g) (type-at t) room (term s)))) (script-check-is [] g t s)
+
+-- a refusal, and the buffer as it was
+abbrev pub Keeps : Bytes → Bytes → Checked → Answer End → Type 0
+Keeps s old x o = (reported (refused-step x) ≡ step-report s o) × (old ≡ written-after o old)
+
+first-no : (s old : Bytes) (x : Checked) (a b : Answer (Unit {0})) (o : Answer End) → No x → said x ≡ a → Keeps s old x (_>>_ (_>>_ a b) o)
+first-no s old Passed a b o k e = absurd (omega arith)
+first-no s old (Refused q p) a b o k e =
+    transport (λ (c : Answer (Unit {0})). Keeps s old (Refused q p) (_>>_ (_>>_ c b) o)) e (refl, refl)
+
+pub refused-tables : (g t s old : Bytes) (room : ℕ) (x : Checked) → No x → said x ≡ types-check g t → Keeps s old x (stepping g t s room)
+refused-tables g t s old room x k e =
+    transport (Keeps s old x) (sym (stepping-is g t s room)) (first-no s old x (types-check g t) (terms-check [] g t s) _ k e)
+
+pub refused-script : (g t s old : Bytes) (room : ℕ) (x y : Checked) → Yes x → said x ≡ types-check g t → No y → said y ≡ terms-check [] g t s
+    → Keeps s old y (stepping g t s room)
+refused-script g t s old room x y k e m f =
+    transport (Keeps s old y)
+    (ap (λ (a : Answer (Unit {0})). _>>_ (_>>_ a (terms-check [] g t s)) (accepted (step-in (readers g) (type-at t) room (term s))))
+    (sym (accepts x (types-check g t) k e))
+    ∙ sym (stepping-is g t s room)) (second-no s old y (terms-check [] g t s) _ m f)
+  where
+    second-no : (s old : Bytes) (y : Checked) (b : Answer (Unit {0})) (o : Answer End) → No y → said y ≡ b → Keeps s old y (_>>_ b o)
+    second-no s old Passed b o k e = absurd (omega arith)
+    second-no s old (Refused q p) b o k e =
+        transport (λ (c : Answer (Unit {0})). Keeps s old (Refused q p) (_>>_ c o)) e (refl, refl)
+
+-- all questions answered yes
+pub passed : (rooms : List ℕ) (g t s : Bytes) (x y : Checked) → Yes x → said x ≡ types-check g t → Yes y → said y ≡ terms-check rooms g t s
+    → script-check rooms g t s ≡ accepted tt
+passed rooms g t s x y k e m f =
+    script-check-is rooms g t s ∙ go-on (accepts x (types-check g t) k e) (accepts y (terms-check rooms g t s) m f)
+
+pub passed-step : (g t s : Bytes) (room : ℕ) → script-check [] g t s ≡ accepted tt
+    → stepping g t s room ≡ accepted (step-in (readers g) (type-at t) room (term s))
+unfolding stepping
+passed-step g t s room h = ap (λ (o : Answer (Unit {0})). _>>_ o (accepted (step-in (readers g) (type-at t) room (term s)))) h
+
+few-types : (g t : Bytes) → types-check g t ≡ accepted tt → type-count t ≤ table-limit
+unfolding types-check
+few-types g t h =
+    leb-true (type-count t) table-limit
+    (third (eqb (length t % 4) 0) (leb 1 (type-count t)) (leb (type-count t) table-limit)
+    (and-then (q8 t) _ (and-then (groups-check g) _ h .1) .0))
+  where
+    third : (a b c : Bool) → ask 8 0 (a && (b && c)) ≡ accepted tt → c ≡ true
+    third a b c h = both b c (both a (b && c) (asked 8 0 (a && (b && c)) h) .1) .1
+
+pub startable : (rooms : List ℕ) (g t s : Bytes) → Octets s → script-check rooms g t s ≡ accepted tt → Startable t s
+startable rooms g t s o h =
+    let p = script-passed rooms g t s o h in
+    record { encoded = p .encoded; small = p .fit .small; shallow = p .fit .shallow; table = few-types g t (p .types) }

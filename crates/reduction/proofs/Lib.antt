@@ -1,0 +1,5 @@
+pub mod Redexes
+pub mod Plans
+pub mod Rooms
+pub mod Splices
+pub mod Ends

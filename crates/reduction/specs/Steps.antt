@@ -1,0 +1,78 @@
+-- One step: what it is given, and what it reports.
+use mathlib.Core.Path.{_≡_}
+use Prim.Native.Nat.{ℕ, _+_, _*_, _≤_}
+use lib.ListN.{length}
+use Rattle.calculus.specs.Terms.{Term}
+use Rattle.calculus.specs.Reduction.{plug}
+use Rattle.rules.specs.Answer.{Bytes, Answer, accepted, refused}
+use Rattle.rules.specs.Limits.{script-limit, depth-limit, table-limit, script-width}
+use Rattle.rules.specs.Groups.{readers}
+use Rattle.rules.specs.Types.{type-count, type-at}
+use Rattle.rules.specs.Script.{records, encode, term, size, depth}
+use Rattle.rules.specs.Step.{End, at-value, moves, may-not, wrong-kind, too-big, end-number, end-count}
+use Rattle.lattice.specs.declared.Checked.{Checked}
+use Rattle.lattice.specs.declared.Checked.the-variants as checked
+use Rattle.redex.specs.Fates.{contractum}
+use Rattle.redex.specs.Found.{Site}
+use Rattle.reduction.specs.declared.Plan.{Plan}
+use Rattle.reduction.specs.declared.Stepped.{Stepped}
+use Rattle.reduction.specs.declared.Stepped.the-variants.{Stopped, Moved}
+use Rattle.reduction.specs.declared.StepAnswer.{StepAnswer}
+use Rattle.reduction.specs.declared.StepAnswer.the-variants.{Ended, Refused}
+use Rattle.reduction.specs.Plans.{Planned}
+
+-- the script is one whole term, within the limits, and so is the types table
+pub record Startable (t s : Bytes) : Type 0 where
+  pub encoded : encode (term s) ≡ s
+  pub small : size (term s) ≤ script-limit
+  pub shallow : depth (term s) ≤ depth-limit
+  pub table : type-count t ≤ table-limit
+
+-- its redex stands at record `at` with `around` records around it
+pub record Sited (g t s : Bytes) (at around : ℕ) (w : Bytes) (room : ℕ) : Type 0 where
+  pub start : Startable t s
+  pub site : Site (readers g) (type-at t) 0 0 (term s) at around
+  pub fits : room ≤ length w
+
+-- and has this plan, end and measure, and there is room for the new term
+pub record Placing (g t s : Bytes) (at : ℕ) (p : Plan) (end count : ℕ) (w : Bytes) : Type 0 where
+  pub start : Startable t s
+  pub around : ℕ
+  pub site : Site (readers g) (type-at t) 0 0 (term s) at around
+  pub planned : Planned s (site .redex) p
+  pub end-is : end ≡ at + size (site .redex)
+  pub whole : Term
+  pub whole-is : whole ≡ plug (site .context) (contractum (readers g) (type-at t) (site .redex))
+  pub count-is : count ≡ size (contractum (readers g) (type-at t) (site .redex))
+  pub fits : script-width * size whole ≤ length w
+
+-- what a step of a term reports of its end
+abbrev pub told : End → Stepped
+told at-value = Stopped 0
+told (moves e) = Moved (size e)
+told may-not = Stopped 2
+told wrong-kind = Stopped 3
+told too-big = Stopped 4
+
+-- the end's number and the record count, the script's own unless the step moved
+abbrev pub as-step : ℕ → Stepped → StepAnswer
+as-step own (Stopped end) = Ended end own
+as-step own (Moved count) = Ended 1 count
+
+-- a refusal, passed on
+abbrev pub refused-step : Checked → StepAnswer
+refused-step checked.Passed = Ended 0 0
+refused-step (checked.Refused question place) = Refused question place
+
+-- "A step reports its end and a record count."
+pub record Made : Type 0 where
+  pub end : ℕ
+  pub count : ℕ
+
+abbrev pub step-report : Bytes → Answer End → Answer Made
+step-report s (accepted x) = accepted (record { end = end-number x; count = end-count (records s) x })
+step-report s (refused q p) = refused q p
+
+abbrev pub reported : StepAnswer → Answer Made
+reported (Ended end count) = accepted (record { end = end; count = count })
+reported (Refused question place) = refused question place

@@ -1,0 +1,427 @@
+ghost use mathlib.Core.Path.{_≡_};
+ghost use mathlib.Core.Bool.{_||_};
+ghost use Prim.Native.Nat.{ℕ, _+_, _*_, _/_, _%_, _≤_, _<_};
+ghost use lib.Dec.{ltb};
+ghost use lib.ListN.{length};
+ghost use Rattle.calculus.specs.Security.{Security};
+ghost use Rattle.calculus.specs.Types.{Ty, top};
+ghost use Rattle.calculus.specs.Terms.{Term, protect, mu, subst, raise-value};
+ghost use Rattle.calculus.specs.Reduction.{unrolled};
+ghost use Rattle.rules.specs.Answer.{Bytes};
+ghost use Rattle.rules.specs.Limits.{script-width, script-limit, depth-limit};
+ghost use Rattle.rules.specs.Groups.{readers};
+ghost use Rattle.rules.specs.Types.{type-count, type-r, type-ir, type-at};
+ghost use Rattle.rules.specs.Script.{ir, script-record, encode, term, size, depth};
+ghost use Rattle.rules.specs.Step.{step-in};
+ghost use Rattle.rules.specs.Calls.{stepping, front-after, written-after};
+ghost use Rattle.script.specs.Place.{At};
+ghost use Rattle.redex.specs.Fates.{contractum};
+ghost use Rattle.substitution.specs.Place.{place};
+ghost use Rattle.substitution.specs.Substituted.{Within};
+ghost use Rattle.reduction.specs.Plans.{Fires, Planned, Ready, Measures, Both, Recursive, PartRoom, BodyRoom, RaisedRoom, UnrolledRoom, Fit};
+ghost use Rattle.reduction.specs.Steps.{told, Startable, Sited, Placing, as-step, refused-step, reported, step-report};
+use lattice::Checked;
+use lattice::Indirect;
+use lattice::Reader;
+use redex::Found;
+
+const WIDTH: usize = 6;
+
+const TYPE_WIDTH: usize = 4;
+
+// How a redex's contractum is made: a protected part of the script; a protected body with a value put in for its variable; the
+// operand raised; a recursion's body with the recursion put in. Places are records.
+pub enum Plan {
+    Part(usize),
+    Body(usize, usize),
+    Raised,
+    Unrolled,
+}
+
+// The records and the depth of a term.
+pub struct Size {
+    pub records: usize,
+    pub depth: usize,
+}
+
+// What a step of a term reports: an end without a move (0, 2, 3 or 4), or the records of the new term.
+pub enum Stepped {
+    Stopped(u8),
+    Moved(usize),
+}
+
+// What a step reports: its end and a record count, or the number of the first question answered no and the place.
+pub enum StepAnswer {
+    Ended(u8, usize),
+    Refused(u8, usize),
+}
+
+fn index(n: u16) -> usize
+    ensures { λ a. ⌜ (a ≡ n) × (a < 65536) ⌝ }
+{
+    n as usize
+}
+
+fn low(n: u16) -> u8
+    ensures { λ a. ⌜ a ≡ n % 256 ⌝ }
+{
+    (n % 256) as u8
+}
+
+fn high(n: u16) -> u8
+    ensures { λ a. ⌜ a ≡ n / 256 ⌝ }
+{
+    (n / 256) as u8
+}
+
+// The groups of type i.
+fn type_reader(types: &[u8], i: usize) -> Reader
+    requires { ⌜ i < type-count (now types) ⌝ }
+    ensures { λ a. ⌜ a .0 ≡ type-r (now (types .entry)) i ⌝ }
+{
+    Reader(types[TYPE_WIDTH * i + 1])
+}
+
+fn type_indirect(types: &[u8], i: usize) -> Indirect
+    requires { ⌜ i < type-count (now types) ⌝ }
+    ensures { λ a. ⌜ a .0 ≡ type-ir (now (types .entry)) i ⌝ }
+{
+    Indirect(types[TYPE_WIDTH * i + 2])
+}
+
+// The plan of the redex at record `at`. Its first operand's own operand stands two records on, since each record stands before
+// its operands.
+fn plan_of(script: &[u8], at: usize) -> Plan
+    requires { ⌜ Fires (now script) at ⌝ }
+    ensures { λ a. ⌜ ((q : Fires (now (script .entry)) at) → Planned (now (script .entry)) (q .tree) a) ⌝ }
+{
+    let kind = script::kind(script, at);
+    if kind == 11 {
+        return Plan::Unrolled;
+    }
+    if kind == 10 {
+        return Plan::Raised;
+    }
+    let inner = at + 2;
+    if kind == 7 {
+        return Plan::Part(inner);
+    }
+    let next = redex::end_of(script, inner);
+    if kind == 8 {
+        return Plan::Part(next);
+    }
+    if kind == 6 {
+        return Plan::Body(inner, next);
+    }
+    if script::kind(script, at + 1) == 4 {
+        return Plan::Body(next, inner);
+    }
+    Plan::Body(redex::end_of(script, next), inner)
+}
+
+// A protected part, counted.
+fn measure_part(script: &[u8], x: usize) -> Size
+    requires { ⌜ Within (now script) x ⌝ }
+    ensures { λ a. ⌜ ((q : Within (now (script .entry)) x) (m : ℕ) → Measures (protect m (q .tree)) a) ⌝ }
+{
+    let e = substitution::extent_at(script, x);
+    Size {
+        records: e.records + 1,
+        depth: e.depth + 1,
+    }
+}
+
+// A protected body with a value put in, counted.
+fn measure_body(script: &[u8], x: usize, y: usize) -> Size
+    requires { ⌜ Both (now script) x y ⌝ }
+    ensures { λ a. ⌜ ((q : Both (now (script .entry)) x y) (m : ℕ) → Measures (protect m (subst 0 (q .value) (q .body))) a) ⌝ }
+{
+    let v = substitution::extent_at(script, y);
+    let e = substitution::measure(script, x, 0, v.records, v.depth);
+    Size {
+        records: e.records + 1,
+        depth: e.depth + 1,
+    }
+}
+
+// A raised value, counted: raising changes neither.
+fn measure_raised(script: &[u8], x: usize) -> Size
+    requires { ⌜ Within (now script) x ⌝ }
+    ensures { λ a. ⌜ ((q : Within (now (script .entry)) x) → Measures (q .tree) a) ⌝ }
+{
+    let e = substitution::extent_at(script, x);
+    Size {
+        records: e.records,
+        depth: e.depth,
+    }
+}
+
+// An unrolled recursion, counted: what stands for its variable is the recursion, applied to a variable in a function.
+fn measure_unrolled(script: &[u8], at: usize) -> Size
+    requires { ⌜ Recursive (now script) at ⌝ }
+    ensures { λ a. ⌜ ((q : Recursive (now (script .entry)) at) (S : Security) (tab : ℕ → Ty) → Measures (contractum S tab (mu (q .type) (q .body))) a) ⌝ }
+{
+    let v = substitution::extent_at(script, at);
+    let e = substitution::measure(script, at + 1, 0, v.records + 3, v.depth + 2);
+    Size {
+        records: e.records,
+        depth: e.depth,
+    }
+}
+
+// The records and the depth of the contractum, with nothing written: a substitution can name millions of records.
+fn measure(script: &[u8], at: usize, plan: Plan) -> Size
+    requires { ⌜ Ready (now script) at plan ⌝ }
+    ensures { λ a. ⌜ ((q : Ready (now (script .entry)) at plan) (S : Security) (tab : ℕ → Ty) → Measures (contractum S tab (q .tree)) a) ⌝ }
+{
+    match plan {
+        Plan::Part(x) => measure_part(script, x),
+        Plan::Body(x, y) => measure_body(script, x, y),
+        Plan::Raised => measure_raised(script, at + 1),
+        Plan::Unrolled => measure_unrolled(script, at),
+    }
+}
+
+// One record, over `written` from byte `start` on.
+fn write_record(kind: u8, r: Reader, ir: Indirect, number: u16, written: &mut [u8], start: usize)
+    requires { ⌜ start + 6 ≤ length (now written) ⌝ }
+    ensures { λ _. ⌜ now (written .exit) ≡ place start (script-record kind (r .0) (ir .0) number) (now (written .entry)) ⌝ }
+{
+    let record = [kind, r.0, ir.0, 0, low(number), high(number)];
+    substitution::copy_part(&record, 0, WIDTH, written, start);
+}
+
+// A protected part. The protection is the indirect readers of what the destructor at record `at` takes apart.
+fn write_part(script: &[u8], at: usize, x: usize, written: &mut [u8], start: usize)
+    requires { ⌜ PartRoom (now script) at x (now written) start ⌝ }
+    ensures { λ _. ⌜ ((q : PartRoom (now (script .entry)) at x (now (written .entry)) start) → now (written .exit) ≡ place start (encode (protect (ir (now (script .entry)) (at + 1)) (q .part))) (now (written .entry))) ⌝ }
+{
+    let end = redex::end_of(script, x);
+    let influence = script::indirect(script, at + 1);
+    write_record(10, Reader(0), influence, 0, written, start);
+    substitution::copy_part(
+        script,
+        WIDTH * x,
+        WIDTH * (end - x),
+        written,
+        start + WIDTH,
+    );
+}
+
+// A protected body with a value put in. The value is put in as it stands: it isn't raised.
+fn write_body(script: &[u8], at: usize, x: usize, y: usize, written: &mut [u8], start: usize)
+    requires { ⌜ BodyRoom (now script) at x y (now written) start ⌝ }
+    ensures { λ _. ⌜ ((q : BodyRoom (now (script .entry)) at x y (now (written .entry)) start) → now (written .exit) ≡ place start (encode (protect (ir (now (script .entry)) (at + 1)) (subst 0 (q .value) (q .body)))) (now (written .entry))) ⌝ }
+{
+    let end = redex::end_of(script, y);
+    let influence = script::indirect(script, at + 1);
+    write_record(10, Reader(0), influence, 0, written, start);
+    let from = WIDTH * y;
+    let to = WIDTH * end;
+    substitution::write(
+        script,
+        x,
+        &script[0..0],
+        &script[from..to],
+        &script[0..0],
+        0,
+        written,
+        start + WIDTH,
+    );
+}
+
+// The value at record `at` + 1, raised by the protect at record `at`: joined into the groups of its own record, nowhere deeper.
+fn write_raised(groups: &[u8], script: &[u8], at: usize, written: &mut [u8], start: usize)
+    requires { ⌜ RaisedRoom (now script) at (now written) start ⌝ }
+    ensures { λ _. ⌜ ((q : RaisedRoom (now (script .entry)) at (now (written .entry)) start) → now (written .exit) ≡ place start (encode (raise-value (readers (now (groups .entry))) (q .value) (ir (now (script .entry)) at))) (now (written .entry))) ⌝ }
+{
+    let x = at + 1;
+    let end = redex::end_of(script, x);
+    let by = script::indirect(script, at);
+    let r = script::reader(script, x).joined(groups, by);
+    let ir = script::indirect(script, x).joined(groups, by);
+    write_record(
+        script::kind(script, x),
+        r,
+        ir,
+        script::number(script, x),
+        written,
+        start,
+    );
+    let from = WIDTH * x + WIDTH;
+    let to = WIDTH * end;
+    substitution::copy_part(script, from, to - from, written, start + WIDTH);
+}
+
+// The body of a recursion, with the recursion put in for its variable: (λx. (μf. e) x), with the groups of the recursion's type,
+// its parameter type the next record of the table, and the application made as r of that type.
+fn write_unrolled(types: &[u8], script: &[u8], at: usize, written: &mut [u8], start: usize)
+    requires { ⌜ UnrolledRoom (now types) (now script) at (now written) start ⌝ }
+    ensures { λ _. ⌜ ((q : UnrolledRoom (now (types .entry)) (now (script .entry)) at (now (written .entry)) start) (g : Bytes) → now (written .exit) ≡ place start (encode (subst 0 (unrolled (readers g) (q .type) (top (type-at (now (types .entry)) (q .type))) (q .body)) (q .body))) (now (written .entry))) ⌝ }
+{
+    let end = redex::end_of(script, at);
+    let named = script::number(script, at);
+    let r = type_reader(types, index(named));
+    let ir = type_indirect(types, index(named));
+    let parameter = named + 1;
+    let front = [2u8, r.0, ir.0, 0, low(parameter), high(parameter), 6, r.0, 0, 0, 0, 0];
+    let back = [0u8, 0, 0, 0, 0, 0];
+    let from = WIDTH * at;
+    let to = WIDTH * end;
+    substitution::write(
+        script,
+        at + 1,
+        &front,
+        &script[from..to],
+        &back,
+        0,
+        written,
+        start,
+    );
+}
+
+// The contractum, over `written` from byte `start` on.
+fn write_contractum(
+    groups: &[u8],
+    types: &[u8],
+    script: &[u8],
+    at: usize,
+    plan: Plan,
+    written: &mut [u8],
+    start: usize,
+)
+    requires { ⌜ Fit (now groups) (now types) (now script) at plan (now written) start ⌝ }
+    ensures { λ _. ⌜ ((q : Fit (now (groups .entry)) (now (types .entry)) (now (script .entry)) at plan (now (written .entry)) start) → now (written .exit) ≡ place start (encode (contractum (readers (now (groups .entry))) (type-at (now (types .entry))) (q .ready .tree))) (now (written .entry))) ⌝ }
+{
+    match plan {
+        Plan::Part(x) => write_part(script, at, x, written, start),
+        Plan::Body(x, y) => write_body(script, at, x, y, written, start),
+        Plan::Raised => write_raised(groups, script, at, written, start),
+        Plan::Unrolled => write_unrolled(types, script, at, written, start),
+    }
+}
+
+// The new term, over the front of `written`: what stands before the redex, the contractum of this many records, what stands
+// after the redex's end.
+fn write_new(
+    groups: &[u8],
+    types: &[u8],
+    script: &[u8],
+    at: usize,
+    plan: Plan,
+    end: usize,
+    records: usize,
+    written: &mut [u8],
+)
+    requires { ⌜ Placing (now groups) (now types) (now script) at plan end records (now written) ⌝ }
+    ensures { λ _. ⌜ ((q : Placing (now (groups .entry)) (now (types .entry)) (now (script .entry)) at plan end records (now (written .entry))) → now (written .exit) ≡ place 0 (encode (q .whole)) (now (written .entry))) ⌝ }
+{
+    let start = WIDTH * at;
+    substitution::copy_part(script, 0, start, written, 0);
+    write_contractum(groups, types, script, at, plan, written, start);
+    let from = WIDTH * end;
+    let to = start + WIDTH * records;
+    substitution::copy_part(script, from, script.len() - from, written, to);
+}
+
+// Too big: more than 8,192 records, more than the room divided by 6, or depth over 256.
+fn exceeds(room: usize, records: usize, depth: usize) -> bool
+    ensures { λ a. ⌜ a ≡ (ltb script-limit records || (ltb (room / script-width) records || ltb depth-limit depth)) ⌝ }
+{
+    (script::SCRIPT_LIMIT < records) | ((room / WIDTH < records) | (script::DEPTH_LIMIT < depth))
+}
+
+// The redex at record `at`, with `around` records around it, contracted. The new term is counted first. What stands beside the
+// redex is within the limit of depth already, so the contractum's depth decides.
+fn contract(
+    groups: &[u8],
+    types: &[u8],
+    script: &[u8],
+    at: usize,
+    around: usize,
+    written: &mut [u8],
+    room: usize,
+) -> Stepped
+    requires { ⌜ Sited (now groups) (now types) (now script) at around (now written) room ⌝ }
+    ensures { λ a. ⌜ (a ≡ told (step-in (readers (now (groups .entry))) (type-at (now (types .entry))) room (term (now (script .entry)))))
+        × (now (written .exit) ≡ front-after (step-in (readers (now (groups .entry))) (type-at (now (types .entry))) room (term (now (script .entry)))) (now (written .entry))) ⌝ }
+{
+    let plan = plan_of(script, at);
+    let size = measure(script, at, plan);
+    let end = redex::end_of(script, at);
+    let total = at + size.records + (script::record_count(script) - end);
+    if exceeds(room, total, around + size.depth) {
+        return Stepped::Stopped(4);
+    }
+    write_new(
+        groups,
+        types,
+        script,
+        at,
+        plan,
+        end,
+        size.records,
+        written,
+    );
+    Stepped::Moved(total)
+}
+
+// One step of a term that stands alone in `script`; the new term to the front of `written`, of which `room` bytes may be used.
+pub fn step_term(
+    groups: &[u8],
+    types: &[u8],
+    script: &[u8],
+    written: &mut [u8],
+    room: usize,
+) -> Stepped
+    requires { ⌜ Startable (now types) (now script) × (room ≤ length (now written)) ⌝ }
+    ensures { λ a. ⌜ (a ≡ told (step-in (readers (now (groups .entry))) (type-at (now (types .entry))) room (term (now (script .entry)))))
+        × (now (written .exit) ≡ front-after (step-in (readers (now (groups .entry))) (type-at (now (types .entry))) room (term (now (script .entry)))) (now (written .entry))) ⌝ }
+{
+    let found = redex::find(groups, types, script, 0, 0);
+    match found {
+        Found::Value(_) => Stepped::Stopped(0),
+        Found::Redex(at, around) => contract(groups, types, script, at, around, written, room),
+        Found::Denied => Stepped::Stopped(2),
+        Found::Stuck => Stepped::Stopped(3),
+    }
+}
+
+// A refusal, as an answer to a step.
+fn refused_step(a: Checked) -> StepAnswer
+    ensures { λ x. ⌜ x ≡ refused-step a ⌝ }
+{
+    match a {
+        Checked::Passed => StepAnswer::Ended(0, 0),
+        Checked::Refused(question, place) => StepAnswer::Refused(question, place),
+    }
+}
+
+// The end and the record count, the script's own unless the step moved.
+fn ended(x: Stepped, own: usize) -> StepAnswer
+    ensures { λ a. ⌜ a ≡ as-step own x ⌝ }
+{
+    match x {
+        Stepped::Stopped(end) => StepAnswer::Ended(end, own),
+        Stepped::Moved(records) => StepAnswer::Ended(1, records),
+    }
+}
+
+// A step: questions 2 to 19, in order, and then one step of the script's term. The written buffer may be shorter than the script.
+pub fn step(groups: &[u8], types: &[u8], script: &[u8], written: &mut [u8]) -> StepAnswer
+    ensures { λ a. ⌜ (reported a ≡ step-report (now (script .entry)) (stepping (now (groups .entry)) (now (types .entry)) (now (script .entry)) (length (now (written .entry)))))
+        × (now (written .exit) ≡ written-after (stepping (now (groups .entry)) (now (types .entry)) (now (script .entry)) (length (now (written .entry)))) (now (written .entry))) ⌝ }
+{
+    let tables = types::types_check(groups, types);
+    let Checked::Passed = tables else {
+        return refused_step(tables);
+    };
+    let terms = script::terms_check(groups, types, script);
+    let Checked::Passed = terms else {
+        return refused_step(terms);
+    };
+    let own = script::record_count(script);
+    let room = written.len();
+    let x = step_term(groups, types, script, written, room);
+    ended(x, own)
+}
