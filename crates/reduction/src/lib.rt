@@ -199,13 +199,7 @@ fn write_part(script: &[u8], at: usize, x: usize, written: &mut [u8], start: usi
     let end = redex::end_of(script, x);
     let influence = script::indirect(script, at + 1);
     write_record(10, Reader(0), influence, 0, written, start);
-    substitution::copy_part(
-        script,
-        WIDTH * x,
-        WIDTH * (end - x),
-        written,
-        start + WIDTH,
-    );
+    substitution::copy_part(script, WIDTH * x, WIDTH * (end - x), written, start + WIDTH);
 }
 
 // A protected body with a value put in. The value is put in as it stands: it isn't raised.
@@ -264,7 +258,20 @@ fn write_unrolled(types: &[u8], script: &[u8], at: usize, written: &mut [u8], st
     let r = type_reader(types, index(named));
     let ir = type_indirect(types, index(named));
     let parameter = named + 1;
-    let front = [2u8, r.0, ir.0, 0, low(parameter), high(parameter), 6, r.0, 0, 0, 0, 0];
+    let front = [
+        2u8,
+        r.0,
+        ir.0,
+        0,
+        low(parameter),
+        high(parameter),
+        6,
+        r.0,
+        0,
+        0,
+        0,
+        0,
+    ];
     let back = [0u8, 0, 0, 0, 0, 0];
     let from = WIDTH * at;
     let to = WIDTH * end;
@@ -353,16 +360,7 @@ fn contract(
     if exceeds(room, total, around + size.depth) {
         return Stepped::Stopped(4);
     }
-    write_new(
-        groups,
-        types,
-        script,
-        at,
-        plan,
-        end,
-        size.records,
-        written,
-    );
+    write_new(groups, types, script, at, plan, end, size.records, written);
     Stepped::Moved(total)
 }
 

@@ -171,9 +171,10 @@ same-length c = search needs
 
 returns-2 : tie.Need-returns-2
 returns-2 c =
-    let h = goes-on (c .before .before .before .before) in
-    (ap Moved (total (c .before .before .before .before .before .before .before)) ∙ sym (ap told h),
-    c .before .before .write-new .ensures (placing (c .before .before .before .before)) ∙ place-front (encode (whole (c .before .before .before .before .before .before .before .before .before .before .before .before .before .before .before .before))) (c .before .before .before .before .before .before .before .before .before .before .before .before .before .before .before .before .args .written .now) ∙ sym (ap (after (c .before .before .before .before .before .before .before .before .before .before .before .before .before .before .before .before)) h))
+    let h = goes-on (c .before .before .before .before) in (
+      ap Moved (total (c .before .before .before .before .before .before .before)) ∙ sym (ap told h),
+      c .before .before .write-new .ensures (placing (c .before .before .before .before)) ∙ place-front (encode (whole (c .before .before .before .before .before .before .before .before .before .before .before .before .before .before .before .before))) (c .before .before .before .before .before .before .before .before .before .before .before .before .before .before .before .before .args .written .now) ∙ sym (ap (after (c .before .before .before .before .before .before .before .before .before .before .before .before .before .before .before .before)) h),
+    )
 
 pub contract-spec : {M : Type 1} → statement M
 contract-spec =

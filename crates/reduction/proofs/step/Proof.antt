@@ -76,9 +76,10 @@ record-count-requires c κs = search needs
 
 step-term-requires : tie.Need-step-term-requires
 step-term-requires c κs =
-    let s = c .before .before .before .before .before .before .before .before .before .before .before .before in
-    (startable [] (s .args .groups .now) (s .args .types .now) (s .args .script .now) (λ k. omega (arith, c .before .before .before .before .before .before .before .before .before .shared-slice-known3 .given k)) (yes (c .before .before)),
-    omega arith)
+    let s = c .before .before .before .before .before .before .before .before .before .before .before .before in (
+      startable [] (s .args .groups .now) (s .args .types .now) (s .args .script .now) (λ k. omega (arith, c .before .before .before .before .before .before .before .before .before .shared-slice-known3 .given k)) (yes (c .before .before)),
+      omega arith,
+    )
 
 ended-requires : tie.Need-ended-requires
 ended-requires c κs = search needs
@@ -91,11 +92,12 @@ returns-3 c =
     let s = c .before .before .before .before .before .before .before .before .before .before .before .before .before .before .before .before in
     let x = c .before .before .before .step-term .ensures in
     let h = passed-step (s .args .groups .now) (s .args .types .now) (s .args .script .now) (length (s .args .written .now)) (yes (c .before .before .before .before .before .before)) in
-    let a = c .ended .ensures ∙ ap (λ n. as-step n (c .before .before .before .step-term .result)) (c .before .before .before .before .before .record-count .ensures) in
-    (ap reported (a ∙ ap (as-step (records (s .args .script .now))) (x .0))
-    ∙ made-report (s .args .script .now) (end s)
-    ∙ sym (ap (step-report (s .args .script .now)) h),
-    x .1 ∙ sym (ap (λ (o : Answer End). written-after o (s .args .written .now)) h))
+    let a = c .ended .ensures ∙ ap (λ n. as-step n (c .before .before .before .step-term .result)) (c .before .before .before .before .before .record-count .ensures) in (
+      ap reported (a ∙ ap (as-step (records (s .args .script .now))) (x .0))
+          ∙ made-report (s .args .script .now) (end s)
+          ∙ sym (ap (step-report (s .args .script .now)) h),
+      x .1 ∙ sym (ap (λ (o : Answer End). written-after o (s .args .written .now)) h),
+    )
 
 pub step-spec : {M : Type 1} → statement M
 step-spec =

@@ -76,17 +76,18 @@ sub-copy-part c = let s = c .before .before .before .before .before .before .bef
 copy-part-requires-2 : tie.Need-copy-part-requires-2
 copy-part-requires-2 c κs =
     let s = c .before .before .before .before .before .before .before .before .before .before .before .before .before in
-    let q = s .pre in
-    (omega (arith, inside s q, bytes s q),
-    omega (
-      arith,
-      inside s q,
-      bytes s q,
-      q .fits,
-      total s q,
-      c .before .before .before .before .before .before .before .copy-part .kept .1 .1 .1 .0,
-      c .before .before .before .write-contractum .kept .1 .1 .1 .1 .1 .0,
-    ))
+    let q = s .pre in (
+      omega (arith, inside s q, bytes s q),
+      omega (
+        arith,
+        inside s q,
+        bytes s q,
+        q .fits,
+        total s q,
+        c .before .before .before .before .before .before .before .copy-part .kept .1 .1 .1 .0,
+        c .before .before .before .write-contractum .kept .1 .1 .1 .1 .1 .0,
+      ),
+    )
 
 same-length : tie.Need-same-length
 same-length c = search needs

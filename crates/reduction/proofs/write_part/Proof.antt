@@ -45,9 +45,10 @@ add-copy-part : tie.Need-add-copy-part
 add-copy-part c = search needs
 
 copy-part-requires : tie.Need-copy-part-requires
-copy-part-requires c κs =
-    (omega (arith, end (c .before .before .before .before .before .before) (c .before .before .before .before .before .before .before .before .before .pre), inside (c .before .before .before .before .before .before .before .before .before)),
-    omega (arith, end (c .before .before .before .before .before .before) (c .before .before .before .before .before .before .before .before .before .pre), c .before .before .before .before .before .before .before .before .before .pre .fits, c .before .before .before .write-record .kept .1 .1 .1 .1 .0))
+copy-part-requires c κs = (
+  omega (arith, end (c .before .before .before .before .before .before) (c .before .before .before .before .before .before .before .before .before .pre), inside (c .before .before .before .before .before .before .before .before .before)),
+  omega (arith, end (c .before .before .before .before .before .before) (c .before .before .before .before .before .before .before .before .before .pre), c .before .before .before .before .before .before .before .before .before .pre .fits, c .before .before .before .write-record .kept .1 .1 .1 .1 .0),
+)
 
 same-length : tie.Need-same-length
 same-length c = search needs

@@ -71,9 +71,10 @@ add-copy-part : tie.Need-add-copy-part
 add-copy-part c = omega (arith, c .before .before .before .before .before .before .before .before .before .before .before .before .before .before .before .before .pre .fits, some-record (c .before .before .before .before .before .before .before .before .before .before .before .before .before .before .before .before), c .before .before .before .before .before .before .before .before .before .before .before .before .before .before .before .before .good)
 
 copy-part-requires : tie.Need-copy-part-requires
-copy-part-requires c κs =
-    (omega (arith, end (c .before .before .before .before .before .before .before .before .before .before .before .before) (c .before .before .before .before .before .before .before .before .before .before .before .before .before .before .before .before .pre), inside (c .before .before .before .before .before .before .before .before .before .before .before .before .before .before .before .before), some-record (c .before .before .before .before .before .before .before .before .before .before .before .before .before .before .before .before)),
-    omega (arith, end (c .before .before .before .before .before .before .before .before .before .before .before .before) (c .before .before .before .before .before .before .before .before .before .before .before .before .before .before .before .before .pre), c .before .before .before .before .before .before .before .before .before .before .before .before .before .before .before .before .pre .fits, some-record (c .before .before .before .before .before .before .before .before .before .before .before .before .before .before .before .before), c .before .before .before .write-record .kept .1 .1 .1 .1 .0))
+copy-part-requires c κs = (
+  omega (arith, end (c .before .before .before .before .before .before .before .before .before .before .before .before) (c .before .before .before .before .before .before .before .before .before .before .before .before .before .before .before .before .pre), inside (c .before .before .before .before .before .before .before .before .before .before .before .before .before .before .before .before), some-record (c .before .before .before .before .before .before .before .before .before .before .before .before .before .before .before .before)),
+  omega (arith, end (c .before .before .before .before .before .before .before .before .before .before .before .before) (c .before .before .before .before .before .before .before .before .before .before .before .before .before .before .before .before .pre), c .before .before .before .before .before .before .before .before .before .before .before .before .before .before .before .before .pre .fits, some-record (c .before .before .before .before .before .before .before .before .before .before .before .before .before .before .before .before), c .before .before .before .write-record .kept .1 .1 .1 .1 .0),
+)
 
 same-length : tie.Need-same-length
 same-length c = search needs

@@ -1,0 +1,190 @@
+/*
+ * A small editor's view of a script: checks it, shows what is wrong with it or its type, runs it and prints what the readers of a
+ * group may see of the result.
+ *
+ *     editor FOLDER [GROUP [BUDGET]]
+ *
+ * FOLDER holds the files groups, types and script. GROUP is 0 and BUDGET 1,000 unless they are given.
+ */
+#include <errno.h>
+#include <inttypes.h>
+#include <stdio.h>
+#include <stdlib.h>
+#include <string.h>
+
+#include "wigneld.h"
+
+/* A file's bytes. One byte more than the longest is read, so that an over-long file is refused by the check itself. */
+struct file {
+    uint8_t *bytes;
+    size_t length;
+};
+
+struct document {
+    struct file groups, types, script;
+};
+
+static void *room_for(size_t bytes)
+{
+    void *room = calloc(bytes, 1);
+
+    if (room == NULL) {
+        fputs("editor: no memory\n", stderr);
+        exit(2);
+    }
+    return room;
+}
+
+static struct file load(const char *folder, const char *name, size_t longest)
+{
+    struct file file = { room_for(longest + 1), 0 };
+    char path[4096];
+    FILE *from;
+
+    if (snprintf(path, sizeof path, "%s/%s", folder, name) >= (int)sizeof path) {
+        fprintf(stderr, "editor: %s: the name is too long\n", folder);
+        exit(2);
+    }
+    from = fopen(path, "rb");
+    if (from == NULL) {
+        fprintf(stderr, "editor: %s: %s\n", path, strerror(errno));
+        exit(2);
+    }
+    file.length = fread(file.bytes, 1, longest + 1, from);
+    fclose(from);
+    return file;
+}
+
+/* A refusal in words; the place is shown where it counts something. */
+static void show_refusal(uint64_t answer)
+{
+    unsigned question = wigneld_question(answer);
+    uint32_t place = wigneld_place(answer);
+
+    printf("refused, question %u: it is not so that %s", question, wigneld_asked(question));
+    if (question >= 3 && question <= 6)
+        printf(" (group %" PRIu32 ")", place);
+    else if (question >= 9 && question <= 12)
+        printf(" (type record %" PRIu32 ")", place);
+    else if (question >= 14 && question <= 24)
+        printf(" (script record %" PRIu32 ")", place);
+    putchar('\n');
+}
+
+/* A type in one line; gives the record after it. */
+static const uint8_t *show_type(const uint8_t *record)
+{
+    static const char *const between[] = { "", " or ", " and ", " to " };
+    unsigned kind = record[0], r = record[1], ir = record[2];
+
+    if (kind == 0) {
+        printf("unit(%u,%u)", r, ir);
+        return record + WIGNELD_TYPE_RECORD;
+    }
+    putchar('(');
+    record = show_type(record + WIGNELD_TYPE_RECORD);
+    fputs(between[kind & 3], stdout);
+    record = show_type(record);
+    printf(")(%u,%u)", r, ir);
+    return record;
+}
+
+static int check(const struct document *d)
+{
+    uint8_t *work = room_for(WIGNELD_WORK), *type = room_for(WIGNELD_ANSWER);
+    uint64_t answer = wigneld_check(d->groups.bytes, d->groups.length, d->types.bytes, d->types.length, d->script.bytes,
+                                    d->script.length, work, WIGNELD_WORK, type, WIGNELD_ANSWER);
+    int accepted = wigneld_question(answer) == 0;
+
+    if (accepted) {
+        fputs("accepted, type ", stdout);
+        show_type(type);
+        putchar('\n');
+    } else {
+        show_refusal(answer);
+    }
+    free(work);
+    free(type);
+    return accepted;
+}
+
+/* Runs the script and leaves its last term in `last`; gives its record count where it is a value, and 0 otherwise. */
+static uint32_t run(const struct document *d, uint64_t budget, uint8_t *last)
+{
+    static const char *const ends[] = { "a value", "not done yet", "stopped: the reader may not", "stopped: wrong kind",
+                                        "stopped: too big" };
+    uint8_t *scratch = room_for(WIGNELD_RUN), steps[WIGNELD_STEPS];
+    uint64_t answer = wigneld_run(d->groups.bytes, d->groups.length, d->types.bytes, d->types.length, d->script.bytes,
+                                  d->script.length, budget, last, WIGNELD_RUN, scratch, WIGNELD_RUN, steps, sizeof steps);
+
+    free(scratch);
+    if (wigneld_question(answer) != 0) {
+        show_refusal(answer);
+        return 0;
+    }
+    printf("%s after %" PRIu64 " steps, %" PRIu32 " records\n", ends[wigneld_run_end(answer)], wigneld_run_steps(steps),
+           wigneld_run_count(answer));
+    return wigneld_run_end(answer) == WIGNELD_END_VALUE ? wigneld_run_count(answer) : 0;
+}
+
+static void show_sheet(const struct document *d, const uint8_t *value, uint32_t records, uint64_t group)
+{
+    static const char *const words[] = { "unit", "first", "second", "pair", "function", "closed" };
+    uint8_t *sheet = room_for(WIGNELD_SHEET);
+    uint64_t answer = wigneld_sheet(d->groups.bytes, d->groups.length, d->types.bytes, d->types.length, value,
+                                    (size_t)records * WIGNELD_SCRIPT_RECORD, group, sheet, WIGNELD_SHEET);
+    uint32_t i, count = wigneld_count(answer);
+
+    if (wigneld_question(answer) != 0) {
+        show_refusal(answer);
+        count = 0;
+    }
+    for (i = 0; i < count; i++) {
+        const uint8_t *line = sheet + (size_t)i * WIGNELD_SHEET_RECORD;
+
+        printf("  %s", words[line[0]]);
+        if (line[0] != WIGNELD_SHEET_CLOSED)
+            printf(" (%u,%u)", line[1], line[2]);
+        putchar('\n');
+    }
+    free(sheet);
+}
+
+/* What the editor shows of a document; gives 0 where its script is accepted. */
+static int view(const struct document *d, uint64_t group, uint64_t budget)
+{
+    uint8_t *last;
+    uint32_t records;
+
+    if (!check(d))
+        return 1;
+    last = room_for(WIGNELD_RUN);
+    records = run(d, budget, last);
+    if (records > 0) {
+        printf("sheet for group %" PRIu64 ":\n", group);
+        show_sheet(d, last, records, group);
+    }
+    free(last);
+    return 0;
+}
+
+int main(int count, char **words)
+{
+    uint64_t group = count > 2 ? strtoull(words[2], NULL, 10) : 0;
+    uint64_t budget = count > 3 ? strtoull(words[3], NULL, 10) : 1000;
+    struct document d;
+    int refused;
+
+    if (count < 2 || count > 4) {
+        fputs("usage: editor FOLDER [GROUP [BUDGET]]\n", stderr);
+        return 2;
+    }
+    d.groups = load(words[1], "groups", WIGNELD_GROUPS_LONGEST);
+    d.types = load(words[1], "types", WIGNELD_TYPES_LONGEST);
+    d.script = load(words[1], "script", WIGNELD_SCRIPT_LONGEST);
+    refused = view(&d, group, budget);
+    free(d.groups.bytes);
+    free(d.types.bytes);
+    free(d.script.bytes);
+    return refused;
+}
