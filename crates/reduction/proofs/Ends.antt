@@ -14,13 +14,13 @@ use Rattle.calculus.specs.Security.{Security}
 use Rattle.calculus.specs.Types.{Ty}
 use Rattle.calculus.specs.Terms.{Term}
 use Rattle.calculus.specs.Reduction.{moved, step}
-use Rattle.rules.specs.Answer.{Bytes, Octets, Answer, accepted, refused, _>>_, ask}
+use Rattle.rules.specs.Answer.{Bytes, Octets, Answer, accepted, _>>_, ask}
 use Rattle.rules.specs.Limits.{table-limit}
 use Rattle.rules.specs.Groups.{readers}
 use Rattle.rules.specs.Types.{type-count, type-at, q8}
 use Rattle.rules.specs.Script.{records, term}
 use Rattle.rules.specs.Step.{End, at-value, moves, may-not, wrong-kind, too-big, exceeds, limited, step-in}
-use Rattle.rules.specs.Calls.{types-check, groups-check, script-check, stepping, written-after}
+use Rattle.rules.specs.Calls.{step-report, types-check, groups-check, script-check, stepping, written-after}
 use Rattle.lattice.specs.declared.Checked.{Checked}
 use Rattle.lattice.specs.declared.Checked.the-variants.{Passed, Refused}
 use Rattle.lattice.specs.Said.{said}
@@ -29,12 +29,12 @@ use Rattle.script.specs.Check.{terms-check}
 use Rattle.script.proofs.Asked.{script-check-is}
 use Rattle.demands.proofs.Answers.{and-then, asked, both, go-on}
 use Rattle.demands.proofs.Checked.{script-passed}
-use Rattle.redex.specs.Found.{Site, Finds, finds-value, finds-redex, finds-denied, finds-stuck}
+use Rattle.redex.specs.Found.{Site, Finds, finds-redex}
 use Rattle.redex.specs.declared.Found.{Found}
 use Rattle.redex.specs.declared.Found.the-variants.{Value, Redex, Denied, Stuck}
 use Rattle.redex.proofs.Found.{the-type}
 use Rattle.redex.proofs.Searches.{finds-step}
-use Rattle.reduction.specs.Steps.{Startable, told, as-step, refused-step, reported, step-report}
+use Rattle.reduction.specs.Steps.{Startable, told, as-step, refused-step, reported}
 
 module _ {S : Security} {tab : ℕ → Ty} {e : Term} where
   pub ends-value : (room : ℕ) (f : Found) → OneOf (0 ∷ []) (tagOf the-type f) → Finds S tab 0 0 e f → step-in S tab room e ≡ at-value

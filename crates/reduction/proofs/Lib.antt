@@ -3,3 +3,6 @@ pub mod Plans
 pub mod Rooms
 pub mod Splices
 pub mod Ends
+pub mod Runs
+pub mod Buffers
+pub mod Answers

@@ -1,16 +1,16 @@
 -- A node whose turn it is and that goes is a left side of table 1, and what its plan is by the kinds of its records.
-use mathlib.Core.Path.{_≡_, refl, sym, subst, _∙_}
-use mathlib.Core.Bool.{Bool, true, false, cond, So, _&&_, false≢true}
+use mathlib.Core.Path.{_≡_, refl, subst}
+use mathlib.Core.Bool.{Bool, true, false, So, false≢true}
 use Prim.Native.Nat.{ℕ, _+_, _≤_}
 use native.Mathlib.Omega.{arith}
-use Rattle.calculus.specs.Security.{Property, Reader, Security}
+use Rattle.calculus.specs.Security.{Reader, Security}
 use Rattle.calculus.specs.Types.{sum, product, function, Ty}
-use Rattle.calculus.specs.Terms.{Side, first, second, Term, var, unit, lam, pair, inj, app, proj, case, protect, mu, is-value}
+use Rattle.calculus.specs.Terms.{Side, first, second, Term, var, unit, lam, pair, inj, app, proj, case, protect, mu}
 use Rattle.calculus.specs.Stuck.{built-by}
 use Rattle.rules.specs.Answer.{Bytes}
-use Rattle.rules.specs.Script.{size, kind}
+use Rattle.rules.specs.Script.{size}
 use Rattle.script.specs.Place.{At}
-use Rattle.script.proofs.Stands.{kind-of, operands, op1, op2, op3, at-op1, at-op2, at-op3, stands-kind}
+use Rattle.script.proofs.Stands.{kind-of, operands, op1, op2, at-op1, at-op2, at-op3}
 use Rattle.redex.specs.Fates.{property-of, goes, reading-fate, ready, fate}
 use Rattle.reduction.specs.declared.Plan.the-variants.{Part, Body, Raised, Unrolled}
 use Rattle.reduction.specs.Plans.{Left, applies, projects, branches, lifts, unrolls, Planned, applied, projected, branched, lifted, unrolled-one}

@@ -1,12 +1,11 @@
 -- A planned redex whose contractum has room: the room that its plan's writer asks for, and what that writer leaves in the buffer.
-use mathlib.Core.Path.{_≡_, sym, ap, ap₂, _∙_}
+use mathlib.Core.Path.{_≡_, sym, ap, _∙_}
 use mathlib.Core.Path.{subst as transport}
-use Prim.Native.Nat.{ℕ, _+_, _*_, _≤_}
+use Prim.Native.Nat.{ℕ, _+_, _≤_}
 use native.Mathlib.Omega.{arith}
-use lib.ListN.{length}
 use Rattle.calculus.specs.Security.{Security}
 use Rattle.calculus.specs.Types.{Ty, top}
-use Rattle.calculus.specs.Terms.{Term, mu, protect, subst, raise-value}
+use Rattle.calculus.specs.Terms.{Term, protect, subst, raise-value}
 use Rattle.calculus.specs.Reduction.{unrolled}
 use Rattle.rules.specs.Answer.{Bytes}
 use Rattle.rules.specs.Groups.{readers}
@@ -14,7 +13,7 @@ use Rattle.rules.specs.Types.{type-at}
 use Rattle.rules.specs.Script.{ir, encode, size, depth}
 use Rattle.script.specs.Place.{At}
 use Rattle.script.proofs.Stands.{operands, at-op1}
-use Rattle.redex.specs.Fates.{property-of, goes, fate, contractum}
+use Rattle.redex.specs.Fates.{property-of, fate, contractum}
 use Rattle.substitution.specs.Place.{place}
 use Rattle.reduction.specs.declared.Plan.{Plan}
 use Rattle.reduction.specs.declared.Plan.the-variants.{Part, Body, Raised, Unrolled}

@@ -1,14 +1,14 @@
 -- A redex in its script, and the new term around its contractum.
-use mathlib.Core.Path.{_≡_, refl, sym, ap, ap₂, _∙_}
-use mathlib.Core.Bool.{Bool, _||_}
+use mathlib.Core.Path.{_≡_, sym, ap, ap₂, _∙_}
+use mathlib.Core.Bool.{_||_}
 use mathlib.Core.List.{_++_, append-assoc}
-use Prim.Native.Nat.{ℕ, _+_, _*_, _-_, _/_, _≤_, _<_, max}
+use Prim.Native.Nat.{ℕ, _+_, _*_, _-_, _/_, _≤_, _<_}
 use native.Mathlib.Omega.{arith}
 use native.Mathlib.Decide.{decLt}
 use borrow.Author.Tests.{lt-ltb, le-ltb}
 use lib.Dec.{ltb}
 use lib.ListN.{length, take, drop, length-append, length-drop}
-use lib.Seq.{take-all, length-take-le}
+use lib.Seq.{take-all}
 use Rattle.calculus.specs.Security.{Security}
 use Rattle.calculus.specs.Types.{Ty}
 use Rattle.calculus.specs.Terms.{Term}
@@ -19,7 +19,7 @@ use Rattle.rules.specs.Script.{records, encode, term, size, depth}
 use Rattle.rules.specs.Step.{exceeds}
 use Rattle.script.specs.Place.{At}
 use Rattle.script.proofs.Stands.{at-start, start-records}
-use Rattle.redex.specs.Contexts.{before, after, offset, beside, level}
+use Rattle.redex.specs.Contexts.{before, after, offset, beside}
 use Rattle.redex.specs.Found.{Site}
 use Rattle.redex.proofs.Splice.{splice, plug-size, plug-depth, plug-within, plug-past, before-length, after-length, before-is, after-is}
 use Rattle.redex.proofs.Places.{site-at}

@@ -8,8 +8,9 @@ use Rattle.rules.specs.Answer.{Bytes, Answer, accepted, refused}
 use Rattle.rules.specs.Limits.{script-limit, depth-limit, table-limit, script-width}
 use Rattle.rules.specs.Groups.{readers}
 use Rattle.rules.specs.Types.{type-count, type-at}
-use Rattle.rules.specs.Script.{records, encode, term, size, depth}
-use Rattle.rules.specs.Step.{End, at-value, moves, may-not, wrong-kind, too-big, end-number, end-count}
+use Rattle.rules.specs.Script.{encode, term, size, depth}
+use Rattle.rules.specs.Step.{End, at-value, moves, may-not, wrong-kind, too-big}
+use Rattle.rules.specs.Calls.{StepReport}
 use Rattle.lattice.specs.declared.Checked.{Checked}
 use Rattle.lattice.specs.declared.Checked.the-variants as checked
 use Rattle.redex.specs.Fates.{contractum}
@@ -64,15 +65,7 @@ abbrev pub refused-step : Checked → StepAnswer
 refused-step checked.Passed = Ended 0 0
 refused-step (checked.Refused question place) = Refused question place
 
--- "A step reports its end and a record count."
-pub record Made : Type 0 where
-  pub end : ℕ
-  pub count : ℕ
-
-abbrev pub step-report : Bytes → Answer End → Answer Made
-step-report s (accepted x) = accepted (record { end = end-number x; count = end-count (records s) x })
-step-report s (refused q p) = refused q p
-
-abbrev pub reported : StepAnswer → Answer Made
+-- what a step of bytes reports
+abbrev pub reported : StepAnswer → Answer StepReport
 reported (Ended end count) = accepted (record { end = end; count = count })
 reported (Refused question place) = refused question place

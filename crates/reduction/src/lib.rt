@@ -1,11 +1,14 @@
+// One step of a script's term, and the run: steps repeated within a budget.
+
 ghost use mathlib.Core.Path.{_≡_};
 ghost use mathlib.Core.Bool.{_||_};
-ghost use Prim.Native.Nat.{ℕ, _+_, _*_, _/_, _%_, _≤_, _<_};
+ghost use mathlib.Core.List.{_++_};
+ghost use Prim.Native.Nat.{ℕ, _+_, _*_, _-_, _/_, _%_, _≤_, _<_, min};
 ghost use lib.Dec.{ltb};
-ghost use lib.ListN.{length};
+ghost use lib.ListN.{length, take};
 ghost use Rattle.calculus.specs.Security.{Security};
 ghost use Rattle.calculus.specs.Types.{Ty, top};
-ghost use Rattle.calculus.specs.Terms.{Term, protect, mu, subst, raise-value};
+ghost use Rattle.calculus.specs.Terms.{protect, mu, subst, raise-value};
 ghost use Rattle.calculus.specs.Reduction.{unrolled};
 ghost use Rattle.rules.specs.Answer.{Bytes};
 ghost use Rattle.rules.specs.Limits.{script-width, script-limit, depth-limit};
@@ -13,13 +16,15 @@ ghost use Rattle.rules.specs.Groups.{readers};
 ghost use Rattle.rules.specs.Types.{type-count, type-r, type-ir, type-at};
 ghost use Rattle.rules.specs.Script.{ir, script-record, encode, term, size, depth};
 ghost use Rattle.rules.specs.Step.{step-in};
-ghost use Rattle.rules.specs.Calls.{stepping, front-after, written-after};
-ghost use Rattle.script.specs.Place.{At};
+ghost use Rattle.rules.specs.Run.{run};
+ghost use Rattle.rules.specs.Reach.{Accepted};
+ghost use Rattle.rules.specs.Calls.{step-report, zeros, stepping, front-after, written-after, running, run-report, first-after, scratch-after};
 ghost use Rattle.redex.specs.Fates.{contractum};
 ghost use Rattle.substitution.specs.Place.{place};
 ghost use Rattle.substitution.specs.Substituted.{Within};
 ghost use Rattle.reduction.specs.Plans.{Fires, Planned, Ready, Measures, Both, Recursive, PartRoom, BodyRoom, RaisedRoom, UnrolledRoom, Fit};
-ghost use Rattle.reduction.specs.Steps.{told, Startable, Sited, Placing, as-step, refused-step, reported, step-report};
+ghost use Rattle.reduction.specs.Steps.{told, Startable, Sited, Placing, as-step, refused-step, reported};
+ghost use Rattle.reduction.specs.Runs.{front, Loaded, Halted, Ends, number-of, spent-on, refused-run, run-reported, Demanded};
 use lattice::Checked;
 use lattice::Indirect;
 use lattice::Reader;
@@ -91,7 +96,7 @@ fn type_indirect(types: &[u8], i: usize) -> Indirect
 
 // The plan of the redex at record `at`. Its first operand's own operand stands two records on, since each record stands before
 // its operands.
-fn plan_of(script: &[u8], at: usize) -> Plan
+pub fn plan_of(script: &[u8], at: usize) -> Plan
     requires { ⌜ Fires (now script) at ⌝ }
     ensures { λ a. ⌜ ((q : Fires (now (script .entry)) at) → Planned (now (script .entry)) (q .tree) a) ⌝ }
 {
@@ -170,7 +175,7 @@ fn measure_unrolled(script: &[u8], at: usize) -> Size
 }
 
 // The records and the depth of the contractum, with nothing written: a substitution can name millions of records.
-fn measure(script: &[u8], at: usize, plan: Plan) -> Size
+pub fn measure(script: &[u8], at: usize, plan: Plan) -> Size
     requires { ⌜ Ready (now script) at plan ⌝ }
     ensures { λ a. ⌜ ((q : Ready (now (script .entry)) at plan) (S : Security) (tab : ℕ → Ty) → Measures (contractum S tab (q .tree)) a) ⌝ }
 {
@@ -258,6 +263,7 @@ fn write_unrolled(types: &[u8], script: &[u8], at: usize, written: &mut [u8], st
     let r = type_reader(types, index(named));
     let ir = type_indirect(types, index(named));
     let parameter = named + 1;
+    let caller = r.0;
     let front = [
         2u8,
         r.0,
@@ -266,7 +272,7 @@ fn write_unrolled(types: &[u8], script: &[u8], at: usize, written: &mut [u8], st
         low(parameter),
         high(parameter),
         6,
-        r.0,
+        caller,
         0,
         0,
         0,
@@ -288,7 +294,7 @@ fn write_unrolled(types: &[u8], script: &[u8], at: usize, written: &mut [u8], st
 }
 
 // The contractum, over `written` from byte `start` on.
-fn write_contractum(
+pub fn write_contractum(
     groups: &[u8],
     types: &[u8],
     script: &[u8],
@@ -422,4 +428,158 @@ pub fn step(groups: &[u8], types: &[u8], script: &[u8], written: &mut [u8]) -> S
     let room = written.len();
     let x = step_term(groups, types, script, written, room);
     ended(x, own)
+}
+
+// How a run of a term ends: the end's number, the steps made and the records of the last term.
+pub struct Halt {
+    pub end: u8,
+    pub steps: u64,
+    pub records: usize,
+}
+
+// What a run reports: end, steps made and record count, or the number of the first question answered no and the place.
+pub enum RunAnswer {
+    Ended(u8, u64, usize),
+    Refused(u8, usize),
+}
+
+fn smaller(a: usize, b: usize) -> usize
+    ensures { λ r. ⌜ r ≡ min a b ⌝ }
+{
+    if a < b {
+        return a;
+    }
+    b
+}
+
+// Zeros from byte `start` to the end of the buffer.
+fn clear_from(buffer: &mut [u8], start: usize)
+    requires { ⌜ start ≤ length (now buffer) ⌝ }
+    ensures { λ _. ⌜ now (buffer .exit) ≡ take start (now (buffer .entry)) ++ zeros (length (now (buffer .entry)) - start) ⌝ }
+{
+    let mut i = start;
+    while i < buffer.len() {
+        buffer[i] = 0;
+        i += 1;
+    }
+}
+
+// The number of a step's end.
+fn number_of(x: Stepped) -> u8
+    ensures { λ a. ⌜ a ≡ number-of x ⌝ }
+{
+    match x {
+        Stepped::Stopped(end) => end,
+        Stepped::Moved(_) => 1,
+    }
+}
+
+// The end of a run whose budget is spent: 0 for a value, 1 for any other term, whatever its next step would say.
+fn spent_on(found: Found) -> u8
+    ensures { λ a. ⌜ a ≡ spent-on found ⌝ }
+{
+    match found {
+        Found::Value(_) => 0,
+        Found::Redex(_, _) => 1,
+        Found::Denied => 1,
+        Found::Stuck => 1,
+    }
+}
+
+// Steps of the term at the front of `first`, each written to the scratch and copied back.
+fn walk(
+    groups: &[u8],
+    types: &[u8],
+    records: usize,
+    budget: u64,
+    first: &mut [u8],
+    scratch: &mut [u8],
+    room: usize,
+) -> Halt
+    requires { ⌜ Loaded (now types) (now first) records room × (room ≤ length (now first)) × (room ≤ length (now scratch)) ⌝ }
+    ensures { λ a. ⌜ Halted (run (readers (now (groups .entry))) (type-at (now (types .entry))) room budget (front (now (first .entry)) records)) room a (now (first .exit)) ⌝ }
+{
+    let mut n = records;
+    let mut steps: u64 = 0;
+    while steps < budget {
+        let bytes = WIDTH * n;
+        let x = step_term(groups, types, &first[0..bytes], scratch, room);
+        let Stepped::Moved(m) = x else {
+            return Halt {
+                end: number_of(x),
+                steps,
+                records: n,
+            };
+        };
+        substitution::copy_part(scratch, 0, WIDTH * m, first, 0);
+        n = m;
+        steps += 1;
+    }
+    let bytes = WIDTH * n;
+    let found = redex::find(groups, types, &first[0..bytes], 0, 0);
+    Halt {
+        end: spent_on(found),
+        steps,
+        records: n,
+    }
+}
+
+// A run of the term that the first buffer starts with, of this many records. Too big is judged with the shorter buffer.
+// Afterwards the first buffer holds the last term, then zeros, and the scratch is all zeros.
+pub fn run_term(
+    groups: &[u8],
+    types: &[u8],
+    records: usize,
+    budget: u64,
+    first: &mut [u8],
+    scratch: &mut [u8],
+) -> Halt
+    requires { ⌜ Loaded (now types) (now first) records (min (length (now first)) (length (now scratch))) ⌝ }
+    ensures { λ a. ⌜ Ends (run (readers (now (groups .entry))) (type-at (now (types .entry))) (min (length (now (first .entry))) (length (now (scratch .entry)))) budget (front (now (first .entry)) records)) (now (first .entry)) (now (scratch .entry)) a (now (first .exit)) (now (scratch .exit)) ⌝ }
+{
+    let room = smaller(first.len(), scratch.len());
+    let x = walk(groups, types, records, budget, first, scratch, room);
+    let end = WIDTH * x.records;
+    clear_from(first, end);
+    clear_from(scratch, 0);
+    x
+}
+
+// A refusal, as an answer to a run.
+fn refused_run(a: Checked) -> RunAnswer
+    ensures { λ x. ⌜ x ≡ refused-run a ⌝ }
+{
+    match a {
+        Checked::Passed => RunAnswer::Ended(0, 0, 0),
+        Checked::Refused(question, place) => RunAnswer::Refused(question, place),
+    }
+}
+
+// A run: questions 2 to 19, in order, and then the run of the script's term. The last clause is demand 3.
+pub fn run(
+    groups: &[u8],
+    types: &[u8],
+    script: &[u8],
+    budget: u64,
+    first: &mut [u8],
+    scratch: &mut [u8],
+) -> RunAnswer
+    ensures { λ a. ⌜ (run-reported a ≡ run-report (running (now (groups .entry)) (now (types .entry)) (now (script .entry)) budget (length (now (first .entry))) (length (now (scratch .entry)))))
+        × (now (first .exit) ≡ first-after (running (now (groups .entry)) (now (types .entry)) (now (script .entry)) budget (length (now (first .entry))) (length (now (scratch .entry)))) (now (first .entry)))
+        × (now (scratch .exit) ≡ scratch-after (running (now (groups .entry)) (now (types .entry)) (now (script .entry)) budget (length (now (first .entry))) (length (now (scratch .entry)))) (now (scratch .entry)))
+        × ((type : Ty) → Accepted (now (groups .entry)) (now (types .entry)) (now (script .entry)) type → length (now (script .entry)) ≤ length (now (first .entry)) → length (now (script .entry)) ≤ length (now (scratch .entry))
+        → Demanded (now (groups .entry)) (now (types .entry)) (now (script .entry)) type budget (now (first .entry)) (now (scratch .entry)) a (now (first .exit)) (now (scratch .exit))) ⌝ }
+{
+    let tables = types::types_check(groups, types);
+    let Checked::Passed = tables else {
+        return refused_run(tables);
+    };
+    let terms = script::terms_check_in_run(groups, types, script, first.len(), scratch.len());
+    let Checked::Passed = terms else {
+        return refused_run(terms);
+    };
+    substitution::copy_part(script, 0, script.len(), first, 0);
+    let records = script::record_count(script);
+    let x = run_term(groups, types, records, budget, first, scratch);
+    RunAnswer::Ended(x.end, x.steps, x.records)
 }

@@ -121,8 +121,7 @@ pub record StepReport : Type 0 where
   pub end : ℕ
   pub count : ℕ
 
-unfoldable pub step-report : Bytes → Answer End → Answer StepReport
-unfolding size
+abbrev pub step-report : Bytes → Answer End → Answer StepReport
 step-report s (accepted x) = accepted (record { end = end-number x; count = end-count (records s) x })
 step-report s (refused q p) = refused q p
 

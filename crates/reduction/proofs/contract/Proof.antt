@@ -1,6 +1,6 @@
 -- `reduction::contract` meets its contract: counted, the new term is too big, or it is written.
 use mathlib.Core.Path.{_≡_, refl, sym, ap, _∙_}
-use Prim.Native.Nat.{_+_, _*_, _-_, _≤_, _<_}
+use Prim.Native.Nat.{_+_, _-_, _≤_}
 use native.Mathlib.Omega.{arith}
 use borrow.Author.Needs.{needs}
 use Rattle.calculus.specs.Terms.{Term}
@@ -8,7 +8,7 @@ use Rattle.calculus.specs.Reduction.{plug, moved, step}
 use Rattle.rules.specs.Answer.{Bytes}
 use Rattle.rules.specs.Groups.{readers}
 use Rattle.rules.specs.Types.{type-at}
-use Rattle.rules.specs.Script.{records, encode, term, size, depth}
+use Rattle.rules.specs.Script.{records, encode, term, size}
 use Rattle.rules.specs.Step.{End, too-big, moves, exceeds, step-in}
 use Rattle.rules.specs.Calls.{front-after}
 use Rattle.script.proofs.Stands.{here, start-records}
@@ -18,12 +18,11 @@ use Rattle.redex.proofs.Turns.{site-moves}
 use Rattle.substitution.proofs.Nodes.{depth-size}
 use Rattle.substitution.proofs.Placed.{place-front}
 use Rattle.reduction.specs.Plans.{Fires, Ready, Measures}
-use Rattle.reduction.specs.Steps.{Sited, Placing, told}
-use Rattle.reduction.specs.declared.Stepped.{Stepped}
+use Rattle.reduction.specs.Steps.{Placing, told}
 use Rattle.reduction.specs.declared.Stepped.the-variants.{Moved}
 use Rattle.reduction.proofs.Redexes.{left-side}
 use Rattle.reduction.proofs.Rooms.{contractum-few}
-use Rattle.reduction.proofs.Splices.{redex-at, redex-small, redex-shallow, length-is, new-size, end-inside, exceeds-is}
+use Rattle.reduction.proofs.Splices.{redex-at, redex-small, redex-shallow, new-size, end-inside, exceeds-is}
 use Rattle.reduction.proofs.Ends.{ends-moved, ends-too-big}
 use Rattle.reduction.proofs.contract.Statement.{statement}
 use Rattle.reduction.proofs.contract.Tie as tie

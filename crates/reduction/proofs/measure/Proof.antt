@@ -3,7 +3,7 @@ use mathlib.Core.Path.{_≡_, sym, _∙_}
 use mathlib.Core.Path.{subst as transport}
 use native.Mathlib.Omega.{arith}
 use borrow.Author.Needs.{needs}
-use Rattle.calculus.specs.Terms.{Term, mu}
+use Rattle.calculus.specs.Terms.{Term}
 use Prim.Native.Nat.{_≤_}
 use Rattle.rules.specs.Limits.{script-limit, depth-limit}
 use Rattle.rules.specs.Script.{size, depth}
@@ -11,9 +11,8 @@ use Rattle.script.specs.Place.{At}
 use Rattle.script.proofs.Stands.{room-one}
 use Rattle.redex.specs.Fates.{property-of, contractum}
 use Rattle.reduction.specs.declared.Plan.{Plan}
-use Rattle.reduction.specs.declared.Plan.the-variants.{Part, Body, Raised, Unrolled}
 use Rattle.reduction.specs.Plans.{Planned, Ready, Measures, Recursive}
-use Rattle.reduction.proofs.Plans.{PartPlan, part-plan, BodyPlan, body-plan, LiftPlan, lift-plan, RollPlan, roll-plan, influence-of, raise-size, counted, is-raised, is-unrolled}
+use Rattle.reduction.proofs.Plans.{part-plan, body-plan, LiftPlan, lift-plan, RollPlan, roll-plan, influence-of, raise-size, counted, is-raised, is-unrolled}
 use Rattle.reduction.proofs.measure.Statement.{statement}
 use Rattle.reduction.proofs.measure.Tie as tie
 

@@ -1,10 +1,10 @@
 -- `reduction::plan_of` meets its contract: the kinds of two records tell the left side and where its parts stand.
 use mathlib.Core.Path.{_≡_, sym, _∙_}
-use Prim.Native.Nat.{ℕ, _+_}
+use Prim.Native.Nat.{_+_}
 use native.Mathlib.Omega.{arith}
 use Rattle.rules.specs.Script.{size}
 use Rattle.script.specs.Place.{At}
-use Rattle.script.proofs.Stands.{kind-of, op1, room, room-one, stands-kind, here}
+use Rattle.script.proofs.Stands.{kind-of, op1, room-one, stands-kind, here}
 use Rattle.reduction.specs.Plans.{Fires}
 use Rattle.reduction.proofs.Redexes.{taken-at, inner-at, plan-unrolled, plan-raised, plan-first, plan-second, plan-applied, Cased, cased}
 use Rattle.reduction.proofs.plan_of.Statement.{statement}

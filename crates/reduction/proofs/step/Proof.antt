@@ -1,18 +1,18 @@
 -- `reduction::step` meets its contract: the questions in order, and then the step of the script's term.
-use mathlib.Core.Path.{_≡_, refl, sym, ap, _∙_}
+use mathlib.Core.Path.{_≡_, sym, ap, _∙_}
 use mathlib.Core.Path.{subst as transport}
 use mathlib.Core.List.{[]}
 use native.Mathlib.Omega.{arith}
 use lib.ListN.{length}
 use borrow.Author.Needs.{needs}
-use Rattle.rules.specs.Answer.{Bytes, Octets, Answer, accepted}
+use Rattle.rules.specs.Answer.{Bytes, Answer, accepted}
 use Rattle.rules.specs.Groups.{readers}
 use Rattle.rules.specs.Types.{type-at}
 use Rattle.rules.specs.Script.{term, records}
 use Rattle.rules.specs.Step.{End, step-in}
-use Rattle.rules.specs.Calls.{script-check, stepping, written-after}
+use Rattle.rules.specs.Calls.{step-report, script-check, stepping, written-after}
 use Rattle.reduction.specs.declared.StepAnswer.{StepAnswer}
-use Rattle.reduction.specs.Steps.{told, as-step, reported, step-report}
+use Rattle.reduction.specs.Steps.{as-step, reported}
 use Rattle.reduction.proofs.Ends.{made-report, refused-tables, refused-script, passed, passed-step, startable}
 use Rattle.reduction.proofs.step.Statement.{statement}
 use Rattle.reduction.proofs.step.Tie as tie

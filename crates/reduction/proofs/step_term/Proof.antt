@@ -1,5 +1,5 @@
 -- `reduction::step_term` meets its contract: the search says how the step ends, or where its redex is.
-use mathlib.Core.Path.{_≡_, refl, sym, ap, _∙_}
+use mathlib.Core.Path.{sym, ap}
 use mathlib.Core.Path.{subst as transport}
 use native.Mathlib.Omega.{arith}
 use borrow.Author.Needs.{needs}
@@ -12,7 +12,6 @@ use Rattle.rules.specs.Calls.{front-after}
 use Rattle.script.proofs.Stands.{at-start}
 use Rattle.redex.specs.Found.{Finds}
 use Rattle.redex.specs.declared.Found.{Found}
-use Rattle.reduction.specs.declared.Stepped.{Stepped}
 use Rattle.reduction.specs.Steps.{told}
 use Rattle.reduction.proofs.Ends.{ends-value, ends-denied, ends-stuck, found-site}
 use Rattle.reduction.proofs.step_term.Statement.{statement}

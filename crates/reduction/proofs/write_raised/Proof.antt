@@ -5,7 +5,7 @@ use native.Mathlib.Omega.{arith}
 use lib.ListN.{length}
 use borrow.Author.Needs.{needs}
 use Rattle.rules.specs.Groups.{join}
-use Rattle.rules.specs.Script.{size, r, ir}
+use Rattle.rules.specs.Script.{size, ir}
 use Rattle.script.proofs.Stands.{room}
 use Rattle.substitution.proofs.Reading.{size-from}
 use Rattle.reduction.specs.Plans.{RaisedRoom}
@@ -32,7 +32,7 @@ end-of-requires : tie.Need-end-of-requires
 end-of-requires c κs = let q = c .before .before .before .pre in record { tree = q .value; at = q .stands }
 
 indirect-requires : tie.Need-indirect-requires
-indirect-requires c κs = omega (arith, inside (c .before .before .before .before))
+indirect-requires c κs = omega (arith, inside (c .before .before .before .before), some-record (c .before .before .before .before))
 
 reader-requires : tie.Need-reader-requires
 reader-requires c κs = omega (arith, inside (c .before .before .before .before .before), some-record (c .before .before .before .before .before))

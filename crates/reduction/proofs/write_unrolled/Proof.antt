@@ -2,12 +2,12 @@
 -- around it and those of the variable.
 use mathlib.Core.Path.{_≡_, ap, _∙_}
 use mathlib.Core.List.{[], _∷_, _++_}
-use Prim.Native.Nat.{ℕ, _+_, _*_, _-_, _%_, _/_, _≤_, _<_}
+use Prim.Native.Nat.{_+_, _*_, _-_, _%_, _/_, _≤_, _<_}
 use native.Mathlib.Omega.{arith}
 use lib.ListN.{length, take, drop}
 use borrow.Author.Needs.{needs}
 use Rattle.calculus.specs.Types.{top}
-use Rattle.calculus.specs.Terms.{mu, subst}
+use Rattle.calculus.specs.Terms.{mu}
 use Rattle.calculus.specs.Reduction.{unrolled}
 use Rattle.rules.specs.Answer.{Bytes}
 use Rattle.rules.specs.Groups.{readers}
@@ -16,7 +16,6 @@ use Rattle.rules.specs.Script.{size, encode}
 use Rattle.script.specs.Place.{At}
 use Rattle.script.proofs.Stands.{room, room-one, at-op1}
 use Rattle.redex.proofs.Answers.{function-inside}
-use Rattle.substitution.proofs.Reading.{size-from}
 use Rattle.reduction.specs.Plans.{UnrolledRoom}
 use Rattle.reduction.proofs.Plans.{own-bytes, rolled-bytes, type-groups, recursion-number}
 use Rattle.reduction.proofs.write_unrolled.Statement.{statement}

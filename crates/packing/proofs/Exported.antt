@@ -1,0 +1,117 @@
+-- Every exported answer is bounded, and one number holds it: `unpack` gives it back. Assumes nothing.
+use mathlib.Core.Path.{_≡_, refl, sym, ap, subst, _∙_}
+use mathlib.Core.Bool.{Bool, true, false, cond, So}
+use mathlib.Core.List.{[], _∷_}
+use Prim.Native.Nat.{ℕ, _+_, _*_, _/_, _≤_, _<_, min}
+use native.Mathlib.Omega.{arith}
+use borrow.Author.Tests.{leb-true}
+use lib.Dec.{leb}
+use lib.ListN.{length}
+use Rattle.calculus.specs.Types.{Ty, sizeT, type-limit}
+use Rattle.calculus.specs.Terms.{Term}
+use Rattle.rules.specs.Answer.{Bytes, Octets, Answer, accepted, refused}
+use Rattle.rules.specs.Limits.{script-limit, sheet-width}
+use Rattle.rules.specs.Groups.{rows, readers}
+use Rattle.rules.specs.Types.{type-at}
+use Rattle.rules.specs.Script.{records, term, size, q13}
+use Rattle.rules.specs.Step.{End, at-value, moves, may-not, wrong-kind, too-big, end-count, step-in}
+use Rattle.rules.proofs.ScriptLength.{q13-fitting}
+use Rattle.rules.specs.Typing.{typing}
+use Rattle.rules.specs.Sheet.{sheet}
+use Rattle.rules.specs.Run.{Ran, run}
+use Rattle.rules.specs.Calls.{q1, q25, q26, q27, groups-check, types-check, at-or-below, script-check, checking, type-records, stepping, running, Report, run-report, sheeting, sheet-records}
+use Rattle.demands.proofs.Answers.{accepted-inj, and-then}
+use Rattle.demands.proofs.TypesTable.{tables}
+use Rattle.packing.specs.Packed.{half, packed, unpacked, passed, yes-or-no, ended, run-ended, Bounded, bounded-yes, bounded-no, Holds, holds-yes, holds-no}
+use Rattle.packing.proofs.Unpacked.{unpack}
+use Rattle.packing.proofs.Bounds.{groups-bounded, types-bounded, compare-bounded, check-bounded, run-bounded, page-bounded, script-small}
+use Rattle.packing.proofs.Sizes.{Small, small-yes, small-no, no-binders, typing-small, Within, within-move, step-within, Ends, run-within, sheet-length}
+
+pub records-bounded : (a : Answer Ty) → Bounded a → Bounded (type-records a)
+unfolding type-records
+records-bounded (accepted s) x = bounded-yes
+records-bounded (refused q p) (bounded-no l m n) = bounded-no l m n
+
+pub sheet-bounded : (a : Answer Bytes) → Bounded a → Bounded (sheet-records a)
+unfolding sheet-records
+sheet-bounded (accepted b) x = bounded-yes
+sheet-bounded (refused q p) (bounded-no l m n) = bounded-no l m n
+
+pub passed-holds : (a : Answer (Unit {0})) → Bounded a → Holds (passed a)
+passed-holds (accepted u) x = holds-yes {n = 0} (omega arith)
+passed-holds (refused q p) (bounded-no l m n) = holds-no {q = q} {p = p} l m (omega arith)
+
+pub compare-holds : (a : Answer Bool) → Bounded a → Holds (yes-or-no a)
+compare-holds (accepted true) x = holds-yes {n = 1} (omega arith)
+compare-holds (accepted false) x = holds-yes {n = 0} (omega arith)
+compare-holds (refused q p) (bounded-no l m n) = holds-no {q = q} {p = p} l m (omega arith)
+
+-- a found type's count
+found-size : (a : Answer Ty) (s : Ty) → Small a → a ≡ accepted s → sizeT s ≤ type-limit
+found-size (accepted s′) s (small-yes l) e = omega (arith, ap sizeT (accepted-inj e))
+found-size (refused q p) s small-no e = let z : _≡_ {A = ℕ} 0 1 = cc in absurd (omega arith)
+
+check-size : (g t s : Bytes) (work answer : ℕ) (type : Ty) → Octets g → checking work answer g t s ≡ accepted type → sizeT type ≤ type-limit
+unfolding checking script-check
+check-size g t s work answer type o e =
+    let e1 = and-then (q1 work answer) _ e .1 in
+    let e2 = and-then (script-check [] g t s) _ e1 in
+    let T = tables g t o (and-then (types-check g t) _ (e2 .0) .0) in
+    found-size (typing (readers g) (type-at t) [] 0 (term s)) type
+    (typing-small (readers g) (type-at t) (λ i. leb-true (sizeT (type-at t i)) type-limit (T .table .small i)) [] no-binders 0 (term s)) (e2 .1)
+
+pub check-holds : (g t s : Bytes) (work answer : ℕ) → Octets g → Octets s → Holds (type-records (checking work answer g t s))
+unfolding type-records
+check-holds g t s work answer o o′ = go (checking work answer g t s) refl (check-bounded g t s work answer o′)
+  where
+    go : (a : Answer Ty) → checking work answer g t s ≡ a → Bounded a → Holds (type-records a)
+    go (accepted type) e x = holds-yes {n = sizeT type} (omega (arith, check-size g t s work answer type o e))
+    go (refused q p) e (bounded-no l m n) = holds-no {q = q} {p = p} l m (omega arith)
+
+pub page-holds : (g t s : Bytes) (group room : ℕ) → Octets s → Holds (sheet-records (sheeting g t s group room))
+unfolding sheet-records sheeting
+page-holds g t s group room o = go (sheeting g t s group room) refl (page-bounded g t s group room)
+  where
+    go : (a : Answer Bytes) → sheeting g t s group room ≡ a → Bounded a → Holds (sheet-records a)
+    go (accepted b) e x =
+        let e1 = and-then (script-check [] g t s) _ e in
+        let e2 = and-then (q25 0 group (rows g)) _ (e1 .1) .1 in
+        let e3 = and-then (q26 (term s)) _ e2 .1 in
+        let e4 = and-then (q27 (sheet g group (term s)) room) _ e3 .1 in
+        holds-yes {n = length b / 4}
+        (omega (arith, ap length (accepted-inj e4), sheet-length g group (term s), script-small [] g t s o (e1 .0)))
+    go (refused q p) e (bounded-no l m n) = holds-no {q = q} {p = p} l m (omega arith)
+
+-- a run's end and count
+pub run-ends : (g t s : Bytes) (budget first scratch : ℕ) (x : Ran) → Octets s → running g t s budget first scratch ≡ accepted x → Ends x
+unfolding running
+run-ends g t s budget first scratch x o e =
+    let e1 = and-then (script-check (first ∷ scratch ∷ []) g t s) _ e in
+    subst Ends (accepted-inj (e1 .1))
+    (run-within (readers g) (type-at t) (min first scratch) budget (term s) (script-small (first ∷ scratch ∷ []) g t s o (e1 .0)))
+
+pub run-holds : (g t s : Bytes) (budget first scratch : ℕ) → Octets s → Holds (run-ended (run-report (running g t s budget first scratch)))
+unfolding run-report
+run-holds g t s budget first scratch o = go (running g t s budget first scratch) refl (run-bounded g t s budget first scratch)
+  where
+    go : (a : Answer Ran) → running g t s budget first scratch ≡ a → Bounded a → Holds (run-ended (run-report a))
+    go (accepted x) e b =
+        let r = run-ends g t s budget first scratch x o e in
+        holds-yes {n = ended (x .end) (size (x .last))} (omega (arith, r .end, r .last))
+    go (refused q p) e (bounded-no l m n) = holds-no {q = q} {p = p} l m (omega arith)
+
+-- a step's count
+count-small : (own : ℕ) (x : End) → own ≤ script-limit → Within x → end-count own x ≤ script-limit
+count-small own at-value l w = l
+count-small own (moves e) l (within-move m) = m
+count-small own may-not l w = l
+count-small own wrong-kind l w = l
+count-small own too-big l w = l
+
+pub step-count : (g t s : Bytes) (room : ℕ) (x : End) → stepping g t s room ≡ accepted x → end-count (records s) x ≤ script-limit
+unfolding stepping script-check
+step-count g t s room x e =
+    let e1 = and-then (script-check [] g t s) _ e in
+    let e13 = and-then (q13 [] s) _ (and-then (types-check g t) _ (e1 .0) .1) .0 in
+    subst (λ (y : End). end-count (records s) y ≤ script-limit) (accepted-inj (e1 .1))
+    (count-small (records s) (step-in (readers g) (type-at t) room (term s)) (q13-fitting [] s e13 .limited) (step-within (readers g) (type-at t) room (term s)))

@@ -1,0 +1,5 @@
+pub mod Unpacked
+pub mod Bounds
+pub mod Steps
+pub mod Sizes
+pub mod Exported

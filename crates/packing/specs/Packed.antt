@@ -1,0 +1,66 @@
+-- An exported answer: one number of 64 bits, and a run's steps as bytes.
+use mathlib.Core.Bool.{Bool, true, false, cond}
+use mathlib.Core.List.{[], _∷_}
+use Prim.Native.Nat.{ℕ, zero, suc, _+_, _*_, _/_, _%_, _≤_, _<_}
+use lib.Dec.{eqb}
+use lib.ListN.{length, take}
+use Rattle.rules.specs.Answer.{Bytes, Answer, accepted, refused}
+use Rattle.rules.specs.Limits.{script-limit}
+use Rattle.rules.specs.Run.{Ran}
+use Rattle.rules.specs.Calls.{StepReport, Report, fill-front}
+
+-- 2^32
+abbrev pub half : ℕ
+half = 4294967296
+
+-- Refused is question * 2^32 + place; otherwise the upper half is 0 and the lower half is the call's number.
+abbrev pub packed : Answer ℕ → ℕ
+packed (accepted n) = n
+packed (refused q p) = q * half + p
+
+-- what a caller reads off it
+abbrev pub unpacked : ℕ → Answer ℕ
+unpacked n = cond (eqb (n / half) 0) (accepted (n % half)) (refused (n / half) (n % half))
+
+-- an answer that one number holds
+pub data Holds : Answer ℕ → Type 0 where
+  holds-yes : {n : ℕ} → n < half → Holds (accepted n)
+  holds-no : {q p : ℕ} → 1 ≤ q → q ≤ 27 → p < half → Holds (refused q p)
+
+-- an answer whose refusal, if it is one, has a question and a place of the document: no place is past 8,192
+pub data Bounded {A : Type 0} : Answer A → Type 0 where
+  bounded-yes : {a : A} → Bounded (accepted a)
+  bounded-no : {q p : ℕ} → 1 ≤ q → q ≤ 27 → p ≤ script-limit → Bounded (refused q p)
+
+-- the lower half of a check of tables, of 'at or below', and of a run or a step: end * 65,536 + records
+abbrev pub passed : Answer (Unit {0}) → Answer ℕ
+passed (accepted tt) = accepted 0
+passed (refused q p) = refused q p
+
+abbrev pub yes-or-no : Answer Bool → Answer ℕ
+yes-or-no (accepted b) = accepted (cond b 1 0)
+yes-or-no (refused q p) = refused q p
+
+abbrev pub ended : ℕ → ℕ → ℕ
+ended end count = end * 65536 + count
+
+abbrev pub step-ended : Answer StepReport → Answer ℕ
+step-ended (accepted x) = accepted (ended (x .end) (x .count))
+step-ended (refused q p) = refused q p
+
+abbrev pub run-ended : Answer Report → Answer ℕ
+run-ended (accepted x) = accepted (ended (x .end) (x .count))
+run-ended (refused q p) = refused q p
+
+-- the lowest bytes of a number, the lowest first
+unfoldable pub low-bytes : ℕ → ℕ → Bytes
+low-bytes zero n = []
+low-bytes (suc k) n = n % 256 ∷ low-bytes k (n / 256)
+
+-- Steps made have 64 bits: as many of their 8 bytes as a slice has, later bytes kept; nothing on a refusal.
+abbrev pub steps-in : ℕ → Bytes → Bytes
+steps-in n old = fill-front (take (length old) (low-bytes 8 n)) old
+
+abbrev pub steps-after : Answer Ran → Bytes → Bytes
+steps-after (accepted x) old = steps-in (x .steps) old
+steps-after (refused q p) old = old
