@@ -115,3 +115,6 @@ step-count g t s room x e =
     let e13 = and-then (q13 [] s) _ (and-then (types-check g t) _ (e1 .0) .1) .0 in
     subst (λ (y : End). end-count (records s) y ≤ script-limit) (accepted-inj (e1 .1))
     (count-small (records s) (step-in (readers g) (type-at t) room (term s)) (q13-fitting [] s e13 .limited) (step-within (readers g) (type-at t) room (term s)))
+
+pub place-fits : {A : Type 0} (q p : ℕ) → Bounded {A = A} (refused q p) → p < half
+place-fits q p (bounded-no l m n) = omega arith

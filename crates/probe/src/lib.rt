@@ -1,0 +1,117 @@
+// The inner calls, exported for the tests only. Answers are packed as the library's own are.
+
+ghost use mathlib.Core.Path.{_≡_};
+ghost use mathlib.Core.Bool.{cond};
+ghost use Prim.Native.Nat.{min};
+ghost use lib.ListN.{length, take};
+ghost use Rattle.rules.specs.Script.{subterm};
+ghost use Rattle.rules.specs.Strip.{strip-script, strip-types};
+ghost use Rattle.rules.specs.Calls.{fill-front, groups-check, types-check, at-or-below, stepping, step-report, written-after};
+ghost use Rattle.lattice.specs.Said.{said};
+ghost use Rattle.types.specs.Ordered.{answered};
+ghost use Rattle.reduction.specs.Steps.{reported};
+ghost use Rattle.packing.specs.Packed.{packed, passed, yes-or-no, step-ended, Bounded};
+ghost use Rattle.probe.specs.Stepped.{Counted};
+use lattice::Checked;
+use reduction::StepAnswer;
+use types::Ordered;
+
+// A check of tables: 0 for a pass.
+fn checked(a: Checked) -> u64
+    requires { ⌜ Bounded (said a) ⌝ }
+    ensures { λ n. ⌜ n ≡ packed (passed (said a)) ⌝ }
+{
+    match a {
+        Checked::Passed => 0,
+        Checked::Refused(question, place) => packing::refusal(question, place),
+    }
+}
+
+#[no_mangle]
+pub extern "C" fn probe_groups_check(groups: &[u8]) -> u64
+    ensures { λ n. ⌜ n ≡ packed (passed (groups-check (now (groups .entry)))) ⌝ }
+{
+    checked(lattice::groups_check(groups))
+}
+
+#[no_mangle]
+pub extern "C" fn probe_types_check(groups: &[u8], types: &[u8]) -> u64
+    ensures { λ n. ⌜ n ≡ packed (passed (types-check (now (groups .entry)) (now (types .entry)))) ⌝ }
+{
+    checked(types::types_check(groups, types))
+}
+
+fn one_or_zero(yes: bool) -> u64
+    ensures { λ n. ⌜ n ≡ cond yes 1 0 ⌝ }
+{
+    if yes { 1 } else { 0 }
+}
+
+// At or below: 1 or 0.
+fn ordered(a: Ordered) -> u64
+    requires { ⌜ Bounded (answered a) ⌝ }
+    ensures { λ n. ⌜ n ≡ packed (yes-or-no (answered a)) ⌝ }
+{
+    match a {
+        Ordered::Answered(yes) => one_or_zero(yes),
+        Ordered::Refused(question, place) => packing::refusal(question, place),
+    }
+}
+
+#[no_mangle]
+pub extern "C" fn probe_at_or_below(groups: &[u8], types: &[u8], i: u64, j: u64) -> u64
+    ensures { λ n. ⌜ n ≡ packed (yes-or-no (at-or-below (now (groups .entry)) (now (types .entry)) i j)) ⌝ }
+{
+    ordered(types::compare(groups, types, i, j))
+}
+
+// A step: end * 65,536 + records.
+fn stepped(a: StepAnswer) -> u64
+    requires { ⌜ Counted (reported a) ⌝ }
+    ensures { λ n. ⌜ n ≡ packed (step-ended (reported a)) ⌝ }
+{
+    match a {
+        StepAnswer::Ended(end, count) => packing::end_and_count(end, count),
+        StepAnswer::Refused(question, place) => packing::refusal(question, place),
+    }
+}
+
+#[no_mangle]
+pub extern "C" fn probe_step(groups: &[u8], types: &[u8], script: &[u8], written: &mut [u8]) -> u64
+    ensures { λ n. ⌜ (n ≡ packed (step-ended (step-report (now (script .entry)) (stepping (now (groups .entry)) (now (types .entry)) (now (script .entry)) (length (now (written .entry)))))))
+        × (now (written .exit) ≡ written-after (stepping (now (groups .entry)) (now (types .entry)) (now (script .entry)) (length (now (written .entry)))) (now (written .entry))) ⌝ }
+{
+    stepped(reduction::step(groups, types, script, written))
+}
+
+fn shorter(a: usize, b: usize) -> usize
+    ensures { λ n. ⌜ n ≡ min a b ⌝ }
+{
+    if a < b { a } else { b }
+}
+
+// The part that the look-up hands back: its bytes to the front of `copy` as far as they fit, and their count.
+#[no_mangle]
+pub extern "C" fn probe_subterm(script: &[u8], index: u64, copy: &mut [u8]) -> u64
+    ensures { λ n. ⌜ (n ≡ length (subterm (now (script .entry)) index))
+        × (now (copy .exit) ≡ fill-front (take (length (now (copy .entry))) (subterm (now (script .entry)) index)) (now (copy .entry))) ⌝ }
+{
+    let part = script::subterm(script, index as usize);
+    let n = shorter(part.len(), copy.len());
+    memory::copy(part, n, copy, 0);
+    part.len() as u64
+}
+
+#[no_mangle]
+pub extern "C" fn probe_strip_script(script: &mut [u8])
+    ensures { λ _. ⌜ now (script .exit) ≡ strip-script (now (script .entry)) ⌝ }
+{
+    script::strip_script(script);
+}
+
+#[no_mangle]
+pub extern "C" fn probe_strip_types(types: &mut [u8])
+    ensures { λ _. ⌜ now (types .exit) ≡ strip-types (now (types .entry)) ⌝ }
+{
+    script::strip_types(types);
+}
