@@ -1,0 +1,31 @@
+-- What the exported run passes on. Assumes nothing.
+use mathlib.Core.Path.{_≡_, refl}
+use Prim.Native.Nat.{ℕ, _≤_, _<_}
+use native.Mathlib.Omega.{arith}
+use Rattle.rules.specs.Answer.{Bytes, Octets, Answer, accepted, refused}
+use Rattle.rules.specs.Limits.{script-limit}
+use Rattle.rules.specs.Run.{Ran}
+use Rattle.rules.specs.Calls.{running, Report, run-report}
+use Rattle.packing.specs.Packed.{half, steps-after, Bounded, bounded-no}
+use Rattle.packing.proofs.Bounds.{run-bounded}
+use Rattle.packing.proofs.Exported.{run-ends}
+use Rattle.wigneld.specs.Exported.{Counted, counted-yes, counted-no, steps-told}
+
+pub count-fits : (x : Report) → Counted (accepted x) → x .count < half
+count-fits x (counted-yes l) = omega arith
+
+pub place-counted : (q p : ℕ) → Counted (refused q p) → p < half
+place-counted q p (counted-no l) = omega arith
+
+pub run-counted : (g t s : Bytes) (budget first scratch : ℕ) → Octets s → Counted (run-report (running g t s budget first scratch))
+unfolding run-report
+run-counted g t s budget first scratch o = go (running g t s budget first scratch) refl (run-bounded g t s budget first scratch)
+  where
+    go : (a : Answer Ran) → running g t s budget first scratch ≡ a → Bounded a → Counted (run-report a)
+    go (accepted x) e b = counted-yes (run-ends g t s budget first scratch x o e .last)
+    go (refused q p) e (bounded-no l m n) = counted-no n
+
+pub steps-same : (a : Answer Ran) (old : Bytes) → steps-told (run-report a) old ≡ steps-after a old
+unfolding run-report
+steps-same (accepted x) old = refl
+steps-same (refused q p) old = refl

@@ -1,0 +1,27 @@
+-- `found` meets its contract.
+use mathlib.Core.Path.{_≡_, sym, ap, subst, _∙_}
+use Rattle.typing.specs.declared.Found.{Found}
+use Rattle.typing.specs.Answered.{answered}
+use Rattle.packing.specs.Packed.{packed, Bounded}
+use Rattle.packing.proofs.Exported.{place-fits}
+use borrow.Author.Needs.{needs}
+use Rattle.wigneld.proofs.found.Statement.{statement}
+use Rattle.wigneld.proofs.found.Tie as tie
+
+enum-known-a : tie.Need-enum-known-a
+enum-known-a c = search needs
+
+enum-known-a-2 : tie.Need-enum-known-a-2
+enum-known-a-2 c = search needs
+
+refusal-requires : tie.Need-refusal-requires
+refusal-requires c κs = place-fits _ _ (subst (λ (x : Found). Bounded (answered x)) (c .before .a2 .given .1) (c .before .before .before .pre))
+
+returns : tie.Need-returns
+returns c = search needs
+
+returns-2 : tie.Need-returns-2
+returns-2 c = c .refusal .ensures ∙ sym (ap (λ (x : Found). packed (answered x)) (c .before .before .a2 .given .1))
+
+pub found-spec : {M : Type 1} → statement M
+found-spec = tie.close (tie.spec enum-known-a enum-known-a-2 refusal-requires returns returns-2)

@@ -1,0 +1,57 @@
+-- `ran` meets its contract.
+use mathlib.Core.Path.{_≡_, sym, ap, subst, _∙_}
+use Rattle.reduction.specs.declared.RunAnswer.{RunAnswer}
+use Rattle.reduction.specs.Runs.{run-reported}
+use Rattle.packing.specs.Packed.{packed, run-ended}
+use Rattle.wigneld.specs.Exported.{Counted, steps-told}
+use Rattle.wigneld.proofs.Reports.{count-fits, place-counted}
+use borrow.Author.Needs.{needs}
+use Rattle.wigneld.proofs.ran.Statement.{statement}
+use Rattle.wigneld.proofs.ran.Tie as tie
+
+enum-known-a : tie.Need-enum-known-a
+enum-known-a c = search needs
+
+put-steps-requires : tie.Need-put-steps-requires
+put-steps-requires c κs = search needs
+
+end-and-count-requires : tie.Need-end-and-count-requires
+end-and-count-requires c κs = count-fits _ (subst (λ (x : RunAnswer). Counted (run-reported x)) (c .before .before .before .before .before .a .given .1) (c .before .before .before .before .before .before .before .before .pre))
+
+enum-known-a-2 : tie.Need-enum-known-a-2
+enum-known-a-2 c = search needs
+
+refusal-requires : tie.Need-refusal-requires
+refusal-requires c κs = place-counted _ _ (subst (λ (x : RunAnswer). Counted (run-reported x)) (c .before .a2 .given .1) (c .before .before .before .before .pre))
+
+same-length : tie.Need-same-length
+same-length c = search needs
+
+returns : tie.Need-returns
+returns c =
+    let e = c .before .before .before .before .before .before .a .given .1 in
+    let old = c .before .before .before .before .before .before .before .before .before .args .steps .now in (
+      c .end-and-count .ensures ∙ sym (ap (λ (x : RunAnswer). packed (run-ended (run-reported x))) e),
+      c .before .before .before .put-steps .ensures ∙ sym (ap (λ (x : RunAnswer). steps-told (run-reported x) old) e),
+    )
+
+returns-2 : tie.Need-returns-2
+returns-2 c =
+    let e = c .before .before .a2 .given .1 in
+    let old = c .before .before .before .before .before .args .steps .now in (
+      c .refusal .ensures ∙ sym (ap (λ (x : RunAnswer). packed (run-ended (run-reported x))) e),
+      sym (ap (λ (x : RunAnswer). steps-told (run-reported x) old) e),
+    )
+
+pub ran-spec : {M : Type 1} → statement M
+ran-spec =
+    tie.close
+    (tie.spec
+    enum-known-a
+    put-steps-requires
+    end-and-count-requires
+    enum-known-a-2
+    refusal-requires
+    same-length
+    returns
+    returns-2)
