@@ -629,6 +629,8 @@ fn refused(a: Checked) -> Found
 
 // Checking: questions 1 to 24. The type is written to the answer buffer's front, and the work buffer is left all zeros once
 // typing has begun.
+// That it accepts exactly the scripts to which the calculus gives a type, and reports the lowest, is demand 2 of this definition
+// (crates/demands).
 pub fn checking(
     groups: &[u8],
     types: &[u8],
