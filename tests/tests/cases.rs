@@ -170,7 +170,16 @@ fn case_j() {
     check_finds(&inputs, &[0, 3, 3, 0]);
     run_reports(&inputs, 1000, 0, 1, 1, Some(&record(1, 3, 3, 0)));
     // And it decides an end: a pair of group 1 protected by group 2 is for group 3, not for the larger of the two.
-    let read_as = |w| [record(7, w, 0, 0), record(10, 0, 2, 0), record(3, 1, 1, 0), record(1, 0, 0, 0), record(1, 0, 0, 0)].concat();
+    let read_as = |w| {
+        [
+            record(7, w, 0, 0),
+            record(10, 0, 2, 0),
+            record(3, 1, 1, 0),
+            record(1, 0, 0, 0),
+            record(1, 0, 0, 0),
+        ]
+        .concat()
+    };
     let inputs = Inputs { script: read_as(2), ..inputs };
     check_refuses(&inputs, 21, 0);
     run_reports(&inputs, 1000, 2, 1, 4, None);

@@ -6,7 +6,8 @@ use wigneld_tests::report::report;
 
 fn prints_expected(name: &str) {
     let folder = Path::new(env!("CARGO_MANIFEST_DIR")).join("../examples").join(name);
-    let read = |file: &str| fs::read(folder.join(file)).unwrap_or_else(|e| panic!("{name}/{file}: {e}"));
+    let read =
+        |file: &str| fs::read(folder.join(file)).unwrap_or_else(|e| panic!("{name}/{file}: {e}"));
     let printed = report(&read("groups"), &read("types"), &read("script"));
     assert_eq!(
         String::from_utf8(printed).expect("plain text"),

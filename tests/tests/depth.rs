@@ -1,0 +1,178 @@
+//! Typing at depth 256 with types of 63 records at every level: binders, first operands, arguments, tested operands and
+//! branches, each once accepted and once with a no at its innermost record. Question 1 asks for no byte more than these use.
+
+mod common;
+
+use common::*;
+use wigneld_tests::cases::{record, Inputs};
+use wigneld_tests::generate::{wide_type, words};
+use wigneld_tests::limits::*;
+
+type Record = [u8; 6];
+
+/// Types, all groups 0: a sum of unit and a pair of 61 records, a function from 31 to 31 records, a pair of 63.
+const SUM: u16 = 0;
+const RIGHT_OF_SUM: u16 = 2;
+const FUNCTION: u16 = 63;
+const PARAMETER: u16 = 64;
+const LARGE_PAIR: u16 = 126;
+
+const UNIT: Record = [1, 0, 0, 0, 0, 0];
+const PAIR: Record = [3, 0, 0, 0, 0, 0];
+const APPLICATION: Record = [6, 0, 0, 0, 0, 0];
+const FIRST_OF: Record = [7, 0, 0, 0, 0, 0];
+const SECOND_OF: Record = [8, 0, 0, 0, 0, 0];
+const PROTECT: Record = [10, 0, 0, 0, 0, 0];
+
+fn types() -> Vec<u8> {
+    let half = wide_type(31).write();
+    [
+        vec![1, 0, 0, 0, 0, 0, 0, 0],
+        wide_type(61).write(),
+        vec![3, 0, 0, 0],
+        half.clone(),
+        half,
+        wide_type(63).write(),
+    ]
+    .concat()
+}
+
+fn variable(number: u16) -> Record {
+    record(0, 0, 0, number)
+}
+
+fn function(number: u16) -> Record {
+    record(2, 0, 0, number)
+}
+
+fn first(number: u16) -> Record {
+    record(4, 0, 0, number)
+}
+
+fn second(number: u16) -> Record {
+    record(5, 0, 0, number)
+}
+
+fn case(number: u16) -> Record {
+    record(9, 0, 0, number)
+}
+
+fn recursion(number: u16) -> Record {
+    record(11, 0, 0, number)
+}
+
+/// `levels` times `before`, the innermost records, and as often `after`, inside `outermost` and `last`.
+fn nested(
+    [outermost, before, innermost, after, last]: [&[Record]; 5],
+    levels: usize,
+) -> Vec<Record> {
+    [
+        outermost.to_vec(),
+        before.repeat(levels),
+        innermost.to_vec(),
+        after.repeat(levels),
+        last.to_vec(),
+    ]
+    .concat()
+}
+
+/// The depth of the deepest record.
+fn depth(records: &[Record]) -> usize {
+    let mut open = Vec::new();
+    let mut deepest = 0;
+    for record in records {
+        deepest = deepest.max(open.len() + 1);
+        let operands = [0, 0, 1, 2, 1, 1, 2, 1, 1, 3, 1, 1][record[0] as usize];
+        open.push(operands);
+        while open.last() == Some(&0) {
+            open.pop();
+            if let Some(left) = open.last_mut() {
+                *left -= 1;
+            }
+        }
+    }
+    deepest
+}
+
+fn inputs(records: &[Record]) -> Inputs {
+    Inputs { groups: words(&[3, 2]), types: types(), script: records.concat() }
+}
+
+/// At depth 256, accepted with a type of 63 records, and a run goes on with it.
+fn accepted(records: &[Record]) {
+    assert_eq!(depth(records), MOST_DEPTH);
+    let (result, work, _) = check_in(&inputs(records), WORK_BYTES, ANSWER_BYTES);
+    assert_eq!(result, Ok(63));
+    assert_eq!(work, vec![0; WORK_BYTES]);
+    let (ran, _, _) = run_in(&inputs(records), 3, REPORT_RUN_BYTES, REPORT_RUN_BYTES);
+    assert!(ran.is_ok());
+}
+
+fn refused(records: &[Record], question: u32, place: usize) {
+    assert!(MOST_DEPTH - 1 <= depth(records));
+    check_refuses(&inputs(records), question, place as u32);
+}
+
+#[test]
+fn binders_of_recursions() {
+    let all =
+        |innermost: Record| nested([&[], &[recursion(FUNCTION)], &[innermost], &[], &[]], 255);
+    accepted(&all(variable(0)));
+    accepted(&all(variable(254)));
+    refused(&all(UNIT), 22, 254);
+}
+
+#[test]
+fn parameters_of_functions() {
+    // The body has its type before its function is too large.
+    let all =
+        |innermost: Record| nested([&[], &[function(LARGE_PAIR)], &[innermost], &[], &[]], 255);
+    refused(&all(variable(0)), 24, 254);
+    refused(&all(variable(254)), 24, 254);
+    refused(&all(UNIT), 24, 254);
+}
+
+#[test]
+fn arguments_beside_functions() {
+    let outermost = [function(PARAMETER)];
+    let level = [APPLICATION, function(PARAMETER), variable(0)];
+    let all =
+        |innermost: Record| nested([&outermost, &level, &[PROTECT, innermost], &[], &[]], 253);
+    accepted(&all(variable(0)));
+    refused(&all(UNIT), 22, 1 + 3 * 252);
+}
+
+#[test]
+fn first_operands() {
+    let outermost = [function(RIGHT_OF_SUM), SECOND_OF, PAIR];
+    let all = |innermost: &[Record], levels| {
+        nested([&outermost, &[FIRST_OF, PAIR], innermost, &[UNIT], &[UNIT]], levels)
+    };
+    accepted(&all(&[variable(0)], 126));
+    refused(&all(&[FIRST_OF, UNIT], 125), 20, 3 + 2 * 125);
+}
+
+#[test]
+fn tested_operands() {
+    let after = [first(SUM), variable(0), second(SUM), variable(0)];
+    let all = |innermost: &[Record]| nested([&[], &[case(SUM)], innermost, &after, &[]], 254);
+    accepted(&all(&[first(SUM), UNIT]));
+    refused(&all(&[PROTECT, UNIT]), 20, 253);
+}
+
+#[test]
+fn branches() {
+    let left = [case(SUM), first(SUM), UNIT];
+    let right = [second(SUM), variable(0)];
+    let in_first =
+        |innermost: Record| nested([&[], &left, &[first(SUM), innermost], &right, &[]], 254);
+    accepted(&in_first(variable(0)));
+    accepted(&in_first(variable(253)));
+    refused(&in_first(record(1, 1, 0, 0)), 22, 3 * 254);
+    let before = [case(SUM), first(SUM), UNIT, first(SUM), UNIT];
+    let in_second =
+        |innermost: Record| nested([&[], &before, &[second(SUM), innermost], &[], &[]], 254);
+    accepted(&in_second(variable(0)));
+    accepted(&in_second(variable(253)));
+    refused(&in_second(UNIT), 22, 5 * 254);
+}
