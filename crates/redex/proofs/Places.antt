@@ -1,8 +1,7 @@
 -- What stands at a record: the fields of its term, the term's end, and what stands in an evaluation context.
 use mathlib.Core.Path.{_≡_, refl, sym, ap, _∙_}
 use mathlib.Core.List.{_++_, append-assoc}
-use mathlib.Core.Option.{some}
-use Prim.Native.Nat.{ℕ, _+_, _*_, _-_, _≤_}
+use Prim.Native.Nat.{ℕ, _+_, _*_, _≤_}
 use native.Mathlib.Omega.{arith}
 use Rattle.calculus.specs.Security.{Security}
 use Rattle.calculus.specs.Types.{Ty}
@@ -10,14 +9,14 @@ use Rattle.calculus.specs.Terms.{first, second, Term, var, unit, lam, pair, inj
 use Rattle.calculus.specs.Reduction.{Context, plug}
 use Rattle.rules.specs.Answer.{Bytes, byte}
 use Rattle.rules.specs.Limits.{script-width}
-use Rattle.rules.specs.Script.{records, r, number, encode, size, term-end}
+use Rattle.rules.specs.Script.{r, number, encode}
 use Rattle.rules.proofs.Prefix.{record-at}
 use Rattle.rules.proofs.Parts.{past}
-use Rattle.rules.proofs.PrefixLaws.{record-is, tree-end}
-use Rattle.rules.proofs.TermCode.{term-head, term-code, term-prefix}
+use Rattle.rules.proofs.PrefixLaws.{record-is}
+use Rattle.rules.proofs.TermCode.{term-head, term-code}
 use Rattle.rules.proofs.RecordFields.{r-is, number-is}
 use Rattle.script.specs.Place.{At}
-use Rattle.script.proofs.Stands.{kind-of, room}
+use Rattle.script.proofs.Stands.{kind-of}
 use Rattle.redex.specs.Contexts.{before, after, offset}
 use Rattle.redex.specs.Fates.{property-of}
 use Rattle.redex.specs.Found.{Site}
@@ -62,10 +61,6 @@ module _ {s : Bytes} {i : ℕ} {e : Term} (a : At s i e) where
 
   pub number-at : number s i ≡ number-of e
   number-at = sym (number-is s i) ∙ ap (λ b. number b 0) own-record
-
-  pub end-at : term-end s i ≡ some (i + size e)
-  unfolding term-end
-  end-at = tree-end term-prefix e s i (records s - i) (a .rest) (omega (arith, room s i e a)) (a .stands)
 
 -- what stands in the hole of a context
 pub hole-at : {s : Bytes} {i : ℕ} {e : Term} (E : Context) (x : Term) → At s i e → e ≡ plug E x → At s (i + offset E) x

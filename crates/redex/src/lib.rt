@@ -7,11 +7,10 @@ ghost use Rattle.calculus.specs.Terms.{Term};
 ghost use Rattle.rules.specs.Limits.{script-width};
 ghost use Rattle.rules.specs.Groups.{leq, readers};
 ghost use Rattle.rules.specs.Types.{type-at};
-ghost use Rattle.rules.specs.Script.{kind, r, size};
-ghost use Rattle.script.specs.Place.{At, Here};
+ghost use Rattle.rules.specs.Script.{kind, r};
+ghost use Rattle.script.specs.Place.{At};
 ghost use Rattle.redex.specs.Fates.{is-function, fate};
 ghost use Rattle.redex.specs.Found.{Shallow, Finds, answer, takes-apart};
-use script::Ended;
 
 const TYPE_WIDTH: usize = 4;
 
@@ -28,18 +27,6 @@ fn index(n: u16) -> usize
     ensures { λ a. ⌜ (a ≡ n) × (a < 65536) ⌝ }
 {
     n as usize
-}
-
-// The record after the term at record `at`.
-pub fn end_of(script: &[u8], at: usize) -> usize
-    requires { ⌜ Here (now script) at ⌝ }
-    ensures { λ a. ⌜ ((e : Term) → At (now (script .entry)) at e → a ≡ at + size e) ⌝ }
-{
-    let end = script::term_end(script, at);
-    let Ended::Before(next) = end else {
-        return at;
-    };
-    next
 }
 
 // Is type i a function? Asked again here, and of any index, so that no step has to keep question 16.
@@ -117,7 +104,7 @@ pub fn find(groups: &[u8], types: &[u8], script: &[u8], at: usize, depth: usize)
         return Found::Value(at + 1);
     }
     if kind == 2 {
-        return Found::Value(end_of(script, at));
+        return Found::Value(script::end_of(script, at));
     }
     if kind == 11 {
         return unrolling(types, script, at, depth);

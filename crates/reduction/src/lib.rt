@@ -111,7 +111,7 @@ pub fn plan_of(script: &[u8], at: usize) -> Plan
     if kind == 7 {
         return Plan::Part(inner);
     }
-    let next = redex::end_of(script, inner);
+    let next = script::end_of(script, inner);
     if kind == 8 {
         return Plan::Part(next);
     }
@@ -121,7 +121,7 @@ pub fn plan_of(script: &[u8], at: usize) -> Plan
     if script::kind(script, at + 1) == 4 {
         return Plan::Body(next, inner);
     }
-    Plan::Body(redex::end_of(script, next), inner)
+    Plan::Body(script::end_of(script, next), inner)
 }
 
 // A protected part, counted.
@@ -201,7 +201,7 @@ fn write_part(script: &[u8], at: usize, x: usize, written: &mut [u8], start: usi
     requires { ⌜ PartRoom (now script) at x (now written) start ⌝ }
     ensures { λ _. ⌜ ((q : PartRoom (now (script .entry)) at x (now (written .entry)) start) → now (written .exit) ≡ place start (encode (protect (ir (now (script .entry)) (at + 1)) (q .part))) (now (written .entry))) ⌝ }
 {
-    let end = redex::end_of(script, x);
+    let end = script::end_of(script, x);
     let influence = script::indirect(script, at + 1);
     write_record(10, Reader(0), influence, 0, written, start);
     substitution::copy_part(script, WIDTH * x, WIDTH * (end - x), written, start + WIDTH);
@@ -212,7 +212,7 @@ fn write_body(script: &[u8], at: usize, x: usize, y: usize, written: &mut [u8], 
     requires { ⌜ BodyRoom (now script) at x y (now written) start ⌝ }
     ensures { λ _. ⌜ ((q : BodyRoom (now (script .entry)) at x y (now (written .entry)) start) → now (written .exit) ≡ place start (encode (protect (ir (now (script .entry)) (at + 1)) (subst 0 (q .value) (q .body)))) (now (written .entry))) ⌝ }
 {
-    let end = redex::end_of(script, y);
+    let end = script::end_of(script, y);
     let influence = script::indirect(script, at + 1);
     write_record(10, Reader(0), influence, 0, written, start);
     let from = WIDTH * y;
@@ -235,7 +235,7 @@ fn write_raised(groups: &[u8], script: &[u8], at: usize, written: &mut [u8], sta
     ensures { λ _. ⌜ ((q : RaisedRoom (now (script .entry)) at (now (written .entry)) start) → now (written .exit) ≡ place start (encode (raise-value (readers (now (groups .entry))) (q .value) (ir (now (script .entry)) at))) (now (written .entry))) ⌝ }
 {
     let x = at + 1;
-    let end = redex::end_of(script, x);
+    let end = script::end_of(script, x);
     let by = script::indirect(script, at);
     let r = script::reader(script, x).joined(groups, by);
     let ir = script::indirect(script, x).joined(groups, by);
@@ -258,7 +258,7 @@ fn write_unrolled(types: &[u8], script: &[u8], at: usize, written: &mut [u8], st
     requires { ⌜ UnrolledRoom (now types) (now script) at (now written) start ⌝ }
     ensures { λ _. ⌜ ((q : UnrolledRoom (now (types .entry)) (now (script .entry)) at (now (written .entry)) start) (g : Bytes) → now (written .exit) ≡ place start (encode (subst 0 (unrolled (readers g) (q .type) (top (type-at (now (types .entry)) (q .type))) (q .body)) (q .body))) (now (written .entry))) ⌝ }
 {
-    let end = redex::end_of(script, at);
+    let end = script::end_of(script, at);
     let named = script::number(script, at);
     let r = type_reader(types, index(named));
     let ir = type_indirect(types, index(named));
@@ -361,7 +361,7 @@ fn contract(
 {
     let plan = plan_of(script, at);
     let size = measure(script, at, plan);
-    let end = redex::end_of(script, at);
+    let end = script::end_of(script, at);
     let total = at + size.records + (script::record_count(script) - end);
     if exceeds(room, total, around + size.depth) {
         return Stepped::Stopped(4);

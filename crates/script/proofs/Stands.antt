@@ -99,8 +99,6 @@ pub start-records : (s : Bytes) → encode (term s) ≡ s → records s ≡ size
 start-records s h = ap records (sym h) ∙ records-encode (term s)
 
 -- a term ends size e records on
-pub stands-end : (s : Bytes) (e : Term) → At s 0 e → term-end s 0 ≡ some (size e)
+pub stands-end : (s : Bytes) (i : ℕ) (e : Term) → At s i e → term-end s i ≡ some (i + size e)
 unfolding term-end
-stands-end s e w =
-    let z : 0 + size e ≡ size e = omega arith in
-    tree-end term-prefix e s 0 (records s - 0) (w .rest) (omega (arith, room s 0 e w)) (w .stands) ∙ ap some z
+stands-end s i e w = tree-end term-prefix e s i (records s - i) (w .rest) (omega (arith, room s i e w)) (w .stands)

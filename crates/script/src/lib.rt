@@ -336,14 +336,14 @@ pub fn question_17(script: &[u8]) -> Checked
     ask(17, end, end == n)
 }
 
-// The record count of the term that s starts with. It ends, so the 0 is never returned.
-pub fn term_records(s: &[u8]) -> usize
-    requires { ⌜ Here (now s) 0 ⌝ }
-    ensures { λ a. ⌜ ((e : Term) → At (now (s .entry)) 0 e → a ≡ size e) ⌝ }
+// The record after the term that stands at record i. A term that stands there is not cut short, so the i is never returned.
+pub fn end_of(script: &[u8], i: usize) -> usize
+    requires { ⌜ Here (now script) i ⌝ }
+    ensures { λ a. ⌜ ((e : Term) → At (now (script .entry)) i e → a ≡ i + size e) ⌝ }
 {
-    let e = term_end(s, 0);
+    let e = term_end(script, i);
     let Ended::Before(end) = e else {
-        return 0;
+        return i;
     };
     end
 }

@@ -2,28 +2,18 @@
 use mathlib.Core.Path.{_≡_, refl}
 use mathlib.Core.Bool.{Bool, true, false, cond, _&&_}
 use mathlib.Core.List.{[], _∷_}
-use mathlib.Core.Option.{some}
-use Prim.Native.Nat.{ℕ, _+_, _-_, _≤_, _<_}
+use Prim.Native.Nat.{ℕ, _+_, _≤_, _<_}
 use native.Mathlib.Omega.{arith}
 use types.Run.{OneOf}
 use denote.Enum.Declared.{tagOf}
 use Rattle.calculus.specs.Security.{Property}
 use Rattle.calculus.specs.Terms.{Side, first, second, choose, Term, var, unit, lam, pair, inj, app, proj, case, protect, mu, is-value}
-use Rattle.rules.specs.Answer.{Bytes}
-use Rattle.rules.specs.Script.{size, records, term-end}
-use Rattle.rules.proofs.PrefixLaws.{tree-end}
-use Rattle.rules.proofs.TermCode.{term-prefix}
-use Rattle.script.specs.Place.{At}
-use Rattle.script.proofs.Stands.{kind-of, op1, op2, operands, room}
+use Rattle.rules.specs.Script.{size}
+use Rattle.script.proofs.Stands.{kind-of, op1, op2, operands}
 use Rattle.sheet.specs.Value.{lines, looked}
 use Rattle.sheet.specs.declared.Looked.{Looked}
 use Rattle.sheet.specs.declared.Looked.the-variants.{Value, Other}
 use Rattle.sheet.proofs.Looked.{the-type}
-
--- where a term ends
-pub term-end-is : (s : Bytes) (i : ℕ) (e : Term) → At s i e → term-end s i ≡ some (i + size e)
-unfolding term-end
-term-end-is s i e w = tree-end term-prefix e s i (records s - i) (w .rest) (omega (arith, room s i e w)) (w .stands)
 
 -- a term as a walk over values sees it
 pub data View : Term → Type 0 where

@@ -1,14 +1,13 @@
 use lattice::Checked;
 use lattice::Indirect;
 use lattice::Reader;
-use script::Ended;
 ghost use mathlib.Core.Path.{_≡_};
 ghost use mathlib.Core.Bool.{true};
 ghost use Prim.Native.Nat.{_+_, _*_, _≤_, _<_};
 ghost use lib.ListN.{length};
 ghost use Rattle.calculus.specs.Terms.{Term, is-value};
 ghost use Rattle.rules.specs.Limits.{script-width, sheet-width};
-ghost use Rattle.rules.specs.Script.{kind, size};
+ghost use Rattle.rules.specs.Script.{kind};
 ghost use Rattle.rules.specs.Calls.{sheeting, sheet-records, sheet-after};
 ghost use Rattle.lattice.specs.Said.{said};
 ghost use Rattle.script.specs.Place.{At, Here};
@@ -68,19 +67,6 @@ struct Reached {
     pub line: usize,
 }
 
-// The record after the term at record i. Pending terms are counted, so the body of a function may have any depth.
-fn end_of(value: &[u8], i: usize) -> usize
-    requires { ⌜ Here (now value) i ⌝ }
-    ensures { λ a. ⌜ ((e : Term) → At (now (value .entry)) i e → a ≡ i + size e) ⌝ }
-{
-    let ended = script::term_end(value, i);
-    let Ended::Before(end) = ended else {
-        // Not reached: a term stands here.
-        return i;
-    };
-    end
-}
-
 // Is the term at record i a value, where does it end, and how many records has the sheet by then? `count` are before it. Calls are
 // as deep as the value, which question 18 bounds.
 fn look(value: &[u8], i: usize, count: usize) -> Looked
@@ -96,7 +82,7 @@ fn look(value: &[u8], i: usize, count: usize) -> Looked
     }
     // A function's body is neither asked to be a value nor counted.
     if kind <= FUNCTION {
-        return Looked::Value(end_of(value, i), count + 1);
+        return Looked::Value(script::end_of(value, i), count + 1);
     }
     let first = look(value, i + 1, count + 1);
     let Looked::Value(next, so_far) = first else {
@@ -171,7 +157,7 @@ fn write(
     // Only pairs and injections have parts to show.
     if kind < PAIR {
         return Reached {
-            next: end_of(value, i),
+            next: script::end_of(value, i),
             line: at + 1,
         };
     }

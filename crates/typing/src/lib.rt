@@ -20,7 +20,7 @@ ghost use Rattle.rules.specs.Typing.{q22, typing};
 ghost use Rattle.rules.specs.Calls.{script-check, checking, type-records, answer-after, work-after};
 ghost use Rattle.memory.specs.Splice.{splice};
 ghost use Rattle.types.specs.Held.{Held, Starts, Sided, left-of, right-of, kind-of};
-ghost use Rattle.script.specs.Place.{At, Here};
+ghost use Rattle.script.specs.Place.{At};
 ghost use Rattle.typing.specs.Memory.{high, Slot, Sized, Holds, Meets, Ready, Enters, Says, Named, Named-sided, Beside, Some-sides, In-scope, Typed-front, Sided-front, Part, Entered, Answers};
 ghost use Rattle.typing.specs.Stages.{leaf-type, before-first, first-context, kept-front, function-type, pair-type, injection-type, may-read, after-one, between, second-context, after-two, Leaf, One, Some, Passes, Two, Set-aside, Part-of, side-of, wanting, projection-type, kept-between};
 ghost use Rattle.typing.specs.Answered.{answered, refusal};
@@ -84,15 +84,6 @@ fn operands(s: &[u8]) -> usize
     ensures { λ a. ⌜ a ≡ arity (kind (now (s .entry)) 0) ⌝ }
 {
     script::arity(script::kind(s, 0))
-}
-
-// The record after the operand that starts at record i.
-fn operand_end(s: &[u8], i: usize) -> usize
-    requires { ⌜ Here (now s) i ⌝ }
-    ensures { λ a. ⌜ ((e : Term) → At (now (s .entry)) i e → a ≡ i + size e) ⌝ }
-{
-    let from = SCRIPT_WIDTH * i;
-    i + script::term_records(&s[from..])
 }
 
 // The part of an operand, from its record i to its end.
@@ -558,7 +549,7 @@ fn type_node(groups: &[u8], types: &[u8], s: &[u8], place: usize, b: usize, w: &
     let Found::Typed(c) = e else {
         return e;
     };
-    let i2 = operand_end(s, 1);
+    let i2 = script::end_of(s, 1);
     let low = kept_front(s);
     let first = operand(s, 1, i2);
     let x1 = type_node(groups, types, first, place + 1, c, &mut w[low..]);
@@ -573,7 +564,7 @@ fn type_node(groups: &[u8], types: &[u8], s: &[u8], place: usize, b: usize, w: &
     let Found::Typed(c2) = t else {
         return t;
     };
-    let i3 = operand_end(s, i2);
+    let i3 = script::end_of(s, i2);
     let mid = kept_between(o);
     let second = operand(s, i2, i3);
     let x2 = type_node(groups, types, second, place + i2, c2, &mut w[mid..]);
@@ -588,7 +579,7 @@ fn type_node(groups: &[u8], types: &[u8], s: &[u8], place: usize, b: usize, w: &
     let Found::Typed(_) = u else {
         return u;
     };
-    let end = operand_end(s, i3);
+    let end = script::end_of(s, i3);
     let third = operand(s, i3, end);
     let x3 = type_node(groups, types, third, place + i3, c2, w);
     let Found::Typed(_) = x3 else {

@@ -26,7 +26,7 @@ use borrow.Fn.PlainCycle.{Measures, is, falls, and}
 use Rattle.redex.proofs.find.Reads as find
 use Rattle.redex.proofs.find.Kinds as find-kinds
 use Rattle.redex.proofs.+find.Lts-find as find-lts
-use Rattle.redex.proofs.end_of.Reads as end-of-reads
+use Rattle.script.proofs.end_of.Reads as end-of-reads
 use Rattle.redex.proofs.reading.Reads as reading-reads
 use Rattle.redex.proofs.unrolling.Reads as unrolling-reads
 use Rattle.script.proofs.kind.Reads as kind-reads

@@ -16,7 +16,7 @@ use Rattle.sheet.proofs.look.Reads as look
 use Rattle.sheet.proofs.look.Kinds as look-kinds
 use Rattle.sheet.proofs.+look.Lts-look as lts
 use Rattle.script.proofs.kind.Reads as kind-reads
-use Rattle.sheet.proofs.end_of.Reads as end-of-reads
+use Rattle.script.proofs.end_of.Reads as end-of-reads
 use Rattle.sheet.proofs.+look.{statement}
 use Rattle.sheet.proofs.+look.Tie.{close}
 

@@ -20,7 +20,7 @@ use Rattle.sheet.proofs.write.Reads as write
 use Rattle.sheet.proofs.write.Kinds as write-kinds
 use Rattle.sheet.proofs.+write.Lts-write as lts
 use Rattle.script.proofs.kind.Reads as kind-reads
-use Rattle.sheet.proofs.end_of.Reads as end-of-reads
+use Rattle.script.proofs.end_of.Reads as end-of-reads
 use Rattle.sheet.proofs.line_of.Reads as line-of-reads
 use Rattle.sheet.proofs.put.Reads as put-reads
 use Rattle.sheet.proofs.+write.{statement}
