@@ -13,7 +13,7 @@ ghost use Rattle.calculus.specs.Reduction.{unrolled};
 ghost use Rattle.rules.specs.Answer.{Bytes};
 ghost use Rattle.rules.specs.Limits.{script-width, script-limit, depth-limit};
 ghost use Rattle.rules.specs.Groups.{readers};
-ghost use Rattle.rules.specs.Types.{type-count, type-r, type-ir, type-at};
+ghost use Rattle.rules.specs.Types.{type-at};
 ghost use Rattle.rules.specs.Script.{ir, script-record, encode, term, size, depth};
 ghost use Rattle.rules.specs.Step.{step-in};
 ghost use Rattle.rules.specs.Run.{run};
@@ -31,8 +31,6 @@ use lattice::Reader;
 use redex::Found;
 
 const WIDTH: usize = 6;
-
-const TYPE_WIDTH: usize = 4;
 
 // How a redex's contractum is made: a protected part of the script; a protected body with a value put in for its variable; the
 // operand raised; a recursion's body with the recursion put in. Places are records.
@@ -77,21 +75,6 @@ fn high(n: u16) -> u8
     ensures { λ a. ⌜ a ≡ n / 256 ⌝ }
 {
     (n / 256) as u8
-}
-
-// The groups of type i.
-fn type_reader(types: &[u8], i: usize) -> Reader
-    requires { ⌜ i < type-count (now types) ⌝ }
-    ensures { λ a. ⌜ a .0 ≡ type-r (now (types .entry)) i ⌝ }
-{
-    Reader(types[TYPE_WIDTH * i + 1])
-}
-
-fn type_indirect(types: &[u8], i: usize) -> Indirect
-    requires { ⌜ i < type-count (now types) ⌝ }
-    ensures { λ a. ⌜ a .0 ≡ type-ir (now (types .entry)) i ⌝ }
-{
-    Indirect(types[TYPE_WIDTH * i + 2])
 }
 
 // The plan of the redex at record `at`. Its first operand's own operand stands two records on, since each record stands before
@@ -260,8 +243,8 @@ fn write_unrolled(types: &[u8], script: &[u8], at: usize, written: &mut [u8], st
 {
     let end = script::end_of(script, at);
     let named = script::number(script, at);
-    let r = type_reader(types, index(named));
-    let ir = type_indirect(types, index(named));
+    let r = types::reader_at(types, index(named));
+    let ir = types::indirect_at(types, index(named));
     let parameter = named + 1;
     let caller = r.0;
     let front = [

@@ -64,14 +64,14 @@ fn kind_at(types: &[u8], i: usize) -> u8
     types[TYPE_WIDTH * i]
 }
 
-fn reader_at(types: &[u8], i: usize) -> Reader
+pub fn reader_at(types: &[u8], i: usize) -> Reader
     requires { ⌜ i < type-count (now types) ⌝ }
     ensures { λ a. ⌜ a .0 ≡ type-r (now (types .entry)) i ⌝ }
 {
     Reader(types[TYPE_WIDTH * i + 1])
 }
 
-fn indirect_at(types: &[u8], i: usize) -> Indirect
+pub fn indirect_at(types: &[u8], i: usize) -> Indirect
     requires { ⌜ i < type-count (now types) ⌝ }
     ensures { λ a. ⌜ a .0 ≡ type-ir (now (types .entry)) i ⌝ }
 {

@@ -40,15 +40,15 @@ in-table : (s : tie.Start) (q : Q s) → q .type < type-count (s .args .types .n
 in-table s q = function-inside _ _ (q .function)
 
 pieces : (c : tie.After-high) (q : Q (c .before .before .before .before .before .before .before .before .before .before .before)) (g : Bytes)
-    → (2 ∷ c .before .before .before .before .type-reader .result .0 ∷ c .before .before .type-indirect .result .0 ∷ 0 ∷ c .before .low .result ∷ c .high .result ∷ 6 ∷ c .before .before .before .before .type-reader .result .0 ∷ 0 ∷ 0 ∷ 0 ∷ 0 ∷ [])
+    → (2 ∷ c .before .before .before .before .reader-at .result .0 ∷ c .before .before .indirect-at .result .0 ∷ 0 ∷ c .before .low .result ∷ c .high .result ∷ 6 ∷ c .before .before .before .before .reader-at .result .0 ∷ 0 ∷ 0 ∷ 0 ∷ 0 ∷ [])
     ++ (take (6 * c .before .before .before .before .before .before .before .end-of .result - 6 * c .before .before .before .before .before .before .before .before .before .before .before .args .at) (drop (6 * c .before .before .before .before .before .before .before .before .before .before .before .args .at) (c .before .before .before .before .before .before .before .before .before .before .before .args .script .now)) ++ (0 ∷ 0 ∷ 0 ∷ 0 ∷ 0 ∷ 0 ∷ []))
     ≡ encode (unrolled (readers g) (q .type) (top (type-at (c .before .before .before .before .before .before .before .before .before .before .before .args .types .now) (q .type))) (q .body))
 pieces c q g =
     let t = c .before .before .before .before .before .before .before .before .before .before .before .args .types .now in
     let n = named (c .before .before .before .before .before .before) q in
     rolled-bytes g (q .type) (top (type-at t (q .type))) (q .body) _ _ _ _ _
-    (c .before .before .before .before .type-reader .ensures ∙ type-groups t (q .type) _ (q .function) (c .before .before .before .before .before .index .ensures .0 ∙ n) .0)
-    (c .before .before .type-indirect .ensures ∙ type-groups t (q .type) _ (q .function) (c .before .before .before .index2 .ensures .0 ∙ n) .1)
+    (c .before .before .before .before .reader-at .ensures ∙ type-groups t (q .type) _ (q .function) (c .before .before .before .before .before .index .ensures .0 ∙ n) .0)
+    (c .before .before .indirect-at .ensures ∙ type-groups t (q .type) _ (q .function) (c .before .before .before .index2 .ensures .0 ∙ n) .1)
     (c .before .low .ensures ∙ ap (λ m. (m + 1) % 256) n) (c .high .ensures ∙ ap (λ m. (m + 1) / 256) n)
     (own-bytes (q .stands) (6 * c .before .before .before .before .before .before .before .end-of .result - 6 * c .before .before .before .before .before .before .before .before .before .before .before .args .at) (omega (arith, end (c .before .before .before .before .before .before .before) q)))
 
@@ -61,15 +61,15 @@ number-requires c κs = room-one _ _ _ (c .before .before .before .before .pre .
 index-requires : tie.Need-index-requires
 index-requires c κs = search needs
 
-type-reader-requires : tie.Need-type-reader-requires
-type-reader-requires c κs =
+reader-at-requires : tie.Need-reader-at-requires
+reader-at-requires c κs =
     omega (arith, c .index .ensures .0, named (c .before) (c .before .before .before .before .before .before .pre), in-table (c .before .before .before .before .before .before) (c .before .before .before .before .before .before .pre))
 
 index-requires-2 : tie.Need-index-requires-2
 index-requires-2 c κs = search needs
 
-type-indirect-requires : tie.Need-type-indirect-requires
-type-indirect-requires c κs =
+indirect-at-requires : tie.Need-indirect-at-requires
+indirect-at-requires c κs =
     omega (arith, c .index2 .ensures .0, named (c .before .before .before) (c .before .before .before .before .before .before .before .before .pre), in-table (c .before .before .before .before .before .before .before .before) (c .before .before .before .before .before .before .before .before .pre))
 
 add-parameter : tie.Need-add-parameter
@@ -132,9 +132,9 @@ write-unrolled-spec =
     end-of-requires
     number-requires
     index-requires
-    type-reader-requires
+    reader-at-requires
     index-requires-2
-    type-indirect-requires
+    indirect-at-requires
     add-parameter
     low-requires
     high-requires
