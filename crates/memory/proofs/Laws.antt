@@ -1,15 +1,11 @@
 -- Laws of writing over a piece. Assumes nothing.
 use mathlib.Core.Path.{_≡_, refl, sym, ap, _∙_}
-use mathlib.Core.List.{List, [], _∷_, _++_, append-assoc, append-nil}
-use Prim.Native.Nat.{ℕ, zero, suc, _+_, _-_, _*_, _≤_, _<_}
-use native.Mathlib.Numerals.{add-one}
+use mathlib.Core.List.{List, [], _∷_, _++_, append-assoc}
+use Prim.Native.Nat.{ℕ, zero, suc, _+_, _-_, _≤_}
 use native.Mathlib.Omega.{arith}
-use lib.ListN.{length, take, drop, set, getD, length-append, length-take, length-drop, length-set, List·getD-append, take-append-drop, drop-of-length-le}
-use lib.Seq.{take-suc, drop-cons, set-at, length-take-le, drop-at, take-at, drop-drop, drop-append-le, drop-append-add, take-append-le, take-append-add, take-take, take-add, take-length, take-all, getD-take, getD-drop, getD-append-add, paste, paste-zero, paste-suc, length-paste}
+use lib.ListN.{length, take, drop, set, length-append, length-take, length-drop, take-append-drop}
+use lib.Seq.{length-take-le, drop-at, take-at, drop-drop, drop-append-le, drop-append-add, take-append-le, take-take, take-add}
 use Rattle.memory.specs.Splice.{splice}
-
-pub length-piece : (n : ℕ) (l : List ℕ) → n ≤ length l → length (take n l) ≡ n
-length-piece n l h = length-take-le n l h
 
 pub length-splice : (at : ℕ) (x w : List ℕ) → at + length x ≤ length w → length (splice at x w) ≡ length w
 length-splice at x w h = simp (length-append, length-take, length-drop) (omega arith)
@@ -53,88 +49,58 @@ join-before at x y w f =
     ∙ ap (λ (z : List ℕ). take at w ++ (x ++ z)) (b ∙ ap (λ (j : ℕ). y ++ drop j w) c)
     ∙ ap (λ (z : List ℕ). take at w ++ z) (sym (append-assoc x y (drop (at + length (x ++ y)) w)))
 
+-- a piece in front
+pub splice-front : (x w : List ℕ) → splice 0 x w ≡ x ++ drop (length x) w
+splice-front x w = let z : 0 + length x ≡ length x = omega arith in rw z
+
+-- an empty piece
+pub splice-none : (at : ℕ) (w : List ℕ) → splice at [] w ≡ w
+splice-none at w = let z : at + 0 ≡ at = omega arith in rw z (take-append-drop at w)
+
 -- two pieces that meet, the second one last
-pub join-after : (at : ℕ) (x y w : List ℕ) → at + (length x + length y) ≤ length w → splice (at + length x) y (splice at x w) ≡ splice at (x ++ y) w
-join-after at x y w f =
-    let m : length (take at w ++ x) ≡ at + length x = simp length-append (omega (arith, length-take-le at w (omega arith))) in
-    let a : take (at + length x) (splice at x w) ≡ take at w ++ x =
-    ap (take (at + length x)) (sym (append-assoc (take at w) x (drop (at + length x) w))) ∙ take-at (take at w ++ x) (drop (at + length x) w) (at + length x) m in
-    let b : drop (at + length x + length y) (splice at x w) ≡ drop (at + length x + length y) w = drop-past at (at + length x + length y) x w (omega arith) (omega arith) in
-    let c : at + length x + length y ≡ at + length (x ++ y) = simp length-append (omega arith) in
-    ap (λ (z : List ℕ). z ++ (y ++ drop (at + length x + length y) (splice at x w))) a
-    ∙ ap (λ (z : List ℕ). (take at w ++ x) ++ (y ++ z)) (b ∙ ap (λ (j : ℕ). drop j w) c)
-    ∙ append-assoc (take at w) x (y ++ drop (at + length (x ++ y)) w)
-    ∙ ap (λ (z : List ℕ). take at w ++ z) (sym (append-assoc x y (drop (at + length (x ++ y)) w)))
+pub join-after : (at end : ℕ) (b c w : List ℕ) → end ≡ at + length b → at + length b ≤ length w → splice end c (splice at b w) ≡ splice at (b ++ c) w
+join-after at end b c w e l =
+    let k : length (take at w ++ b) ≡ at + length b = simp (length-append, length-take-le at w (omega arith)) in
+    let q : splice at b w ≡ (take at w ++ b) ++ drop (at + length b) w = sym (append-assoc (take at w) b (drop (at + length b) w)) in
+    let t : take end (splice at b w) ≡ take at w ++ b = rw (q, e) (take-at (take at w ++ b) (drop (at + length b) w) (at + length b) k) in
+    let n : at + length b + length c ≡ at + length (b ++ c) = omega (arith, length-append b c) in
+    let d : drop (end + length c) (splice at b w) ≡ drop (at + length (b ++ c)) w =
+    sym (drop-drop (length c) end (splice at b w))
+    ∙ ap (drop (length c)) (rw (q, e) (drop-at (take at w ++ b) (drop (at + length b) w) (at + length b) k))
+    ∙ drop-drop (length c) (at + length b) w
+    ∙ ap (λ (m : ℕ). drop m w) n in
+    ap (λ (x : List ℕ). x ++ (c ++ drop (end + length c) (splice at b w))) t
+    ∙ ap (λ (x : List ℕ). (take at w ++ b) ++ (c ++ x)) d
+    ∙ simp append-assoc
 
--- a copy, turn by turn
-pub paste-splice : (d : List ℕ) (at : ℕ) (s : List ℕ) (n : ℕ) → n ≤ length s → paste d at s n ≡ splice at (take n s) d
-paste-splice d at s n h = append-assoc (take at d) (take n s) (drop (at + n) d) ∙ ap (λ (j : ℕ). take at d ++ (take n s ++ drop (at + j) d)) (sym (length-take-le n s h))
+-- A piece that kept the buffer's length had room.
+pub splice-fits : (at : ℕ) (b w : List ℕ) → at ≤ length w → length (splice at b w) ≡ length w → at + length b ≤ length w
+splice-fits at b w l e =
+    omega
+    (arith, length-append (take at w) (b ++ drop (at + length b) w), length-append b (drop (at + length b) w), length-take-le at w l, length-drop (at + length b) w)
 
-pub copy-step : (d : List ℕ) (at : ℕ) (s : List ℕ) (j : ℕ) → at + j < length d → j < length s → set (paste d at s j) (at + j) (getD s j 0) ≡ paste d at s (j + 1)
-copy-step d at s j hd hs = rw add-one (paste-suc d at s j 0 hd hs)
+-- one more piece, in a buffer that was written to
+pub join-next : (at end : ℕ) (b c w w1 w2 : List ℕ) → at ≤ length w → end ≡ at + length b → w1 ≡ splice at b w → length w1 ≡ length w → w2 ≡ splice end c w1
+    → w2 ≡ splice at (b ++ c) w
+join-next at end b c w w1 w2 l e e1 l1 e2 =
+    e2 ∙ ap (splice end c) e1 ∙ join-after at end b c w e (splice-fits at b w l (ap length (sym e1) ∙ l1))
 
--- the byte that a turn of `down` reads is still the first one
-pub down-reads : (w : List ℕ) (from to i : ℕ) → to ≤ from → from + i < length w → getD (paste w to (drop from w) i) (from + i) 0 ≡ getD (drop from w) i 0
-down-reads w from to i l f =
-    let n : length (take to w ++ take i (drop from w)) ≡ to + i = length-paste-head' in
-    let e : from + i ≡ (to + i) + (from - to) = omega arith in
-    ap (λ (j : ℕ). getD (paste w to (drop from w) i) j 0) (e ∙ ap (λ (j : ℕ). j + (from - to)) (sym n))
-    ∙ getD-append-add (take to w ++ take i (drop from w)) (drop (to + i) w) (from - to) 0
-    ∙ getD-drop (to + i) w (from - to) 0
-    ∙ ap (λ (j : ℕ). getD w j 0) (sym e)
-    ∙ sym (getD-drop from w i 0)
-  where
-    length-paste-head' : length (take to w ++ take i (drop from w)) ≡ to + i
-    length-paste-head' = simp length-append (omega (arith, length-take-le to w (omega arith), length-take-le i (drop from w) (simp length-drop (omega arith))))
+-- four stores, one after the other
+stores : (i : ℕ) (w : List ℕ) (k r ir : ℕ) → i + 4 ≤ length w
+    → set (set (set (set w i k) (suc i) r) (suc (suc i)) ir) (suc (suc (suc i))) 0 ≡ take i w ++ (k ∷ r ∷ ir ∷ 0 ∷ drop (suc (suc (suc (suc i)))) w)
+stores zero [] k r ir l = absurd (omega arith)
+stores zero (a ∷ []) k r ir l = absurd (omega arith)
+stores zero (a ∷ b ∷ []) k r ir l = absurd (omega arith)
+stores zero (a ∷ b ∷ c ∷ []) k r ir l = absurd (omega arith)
+stores zero (a ∷ b ∷ c ∷ d ∷ w) k r ir l = refl
+stores (suc i) [] k r ir l = absurd (omega arith)
+stores (suc i) (x ∷ w) k r ir l = ap (λ (b : List ℕ). x ∷ b) (stores i w k r ir (omega arith))
 
-pub down-step : (w : List ℕ) (from to i : ℕ) → to ≤ from → from + i < length w
-    → set (paste w to (drop from w) i) (to + i) (getD (paste w to (drop from w) i) (from + i) 0) ≡ paste w to (drop from w) (i + 1)
-down-step w from to i l f = rw (down-reads w from to i l f) (copy-step w to (drop from w) i (omega arith) (simp length-drop (omega arith)))
-
--- what `up` has made when i bytes are left
-abbrev pub moved : List ℕ → ℕ → ℕ → ℕ → List ℕ
-moved w from to n = take n (drop from w) ++ drop (to + n) w
-
-abbrev pub risen : List ℕ → ℕ → ℕ → ℕ → ℕ → List ℕ
-risen w from to n i = take (to + i) w ++ drop i (moved w from to n)
-
-pub risen-start : (w : List ℕ) (from to n : ℕ) → from ≤ to → to + n ≤ length w → w ≡ risen w from to n n
-risen-start w from to n l f =
-    sym (ap (λ (z : List ℕ). take (to + n) w ++ z) (drop-at (take n (drop from w)) (drop (to + n) w) n (length-take-le n (drop from w) (simp length-drop (omega arith)))) ∙ take-append-drop (to + n) w)
-
-pub risen-end : (w : List ℕ) (from to n : ℕ) → from ≤ to → to + n ≤ length w → risen w from to n 0 ≡ splice to (take n (drop from w)) w
-risen-end w from to n l f =
-    let m : length (take n (drop from w)) ≡ n = length-take-le n (drop from w) (simp length-drop (omega arith)) in
-    let z : to + 0 ≡ to = omega arith in
-    ap (λ (j : ℕ). take j w ++ moved w from to n) z ∙ ap (λ (j : ℕ). take to w ++ (take n (drop from w) ++ drop (to + j) w)) (sym m)
-
-risen-suc : (w : List ℕ) (from to n j : ℕ) → from ≤ to → to + n ≤ length w → j < n
-    → set (risen w from to n (suc j)) (to + j) (getD (risen w from to n (suc j)) (from + j) 0) ≡ risen w from to n j
-risen-suc w from to n j l f h =
-    let m : length (take n (drop from w)) ≡ n = length-take-le n (drop from w) (simp length-drop (omega arith)) in
-    let k : length (take (to + j) w) ≡ to + j = length-take-le (to + j) w (omega arith) in
-    let k' : length (take (to + suc j) w) ≡ to + suc j = length-take-le (to + suc j) w (omega arith) in
-    let e : to + suc j ≡ suc (to + j) = omega arith in
-    let len : length (moved w from to n) ≡ n + (length w - (to + n)) = simp (length-append, length-drop) (omega (arith, m)) in
-    let x : getD (moved w from to n) j 0 ≡ getD w (from + j) 0 =
-    List·getD-append (take n (drop from w)) (drop (to + n) w) 0 j (omega arith) ∙ getD-take n (drop from w) j 0 h ∙ getD-drop from w j 0 in
-    let r : getD (risen w from to n (suc j)) (from + j) 0 ≡ getD (moved w from to n) j 0 =
-    List·getD-append (take (to + suc j) w) (drop (suc j) (moved w from to n)) 0 (from + j) (omega arith) ∙ getD-take (to + suc j) w (from + j) 0 (omega arith) ∙ sym x in
-    ap (set (risen w from to n (suc j)) (to + j)) r
-    ∙ ap (λ (z : List ℕ). set (z ++ drop (suc j) (moved w from to n)) (to + j) (getD (moved w from to n) j 0)) (ap (λ (i : ℕ). take i w) e ∙ take-suc w (to + j) 0 (omega arith))
-    ∙ ap (λ (z : List ℕ). set z (to + j) (getD (moved w from to n) j 0)) (append-assoc (take (to + j) w) (getD w (to + j) 0 ∷ []) (drop (suc j) (moved w from to n)))
-    ∙ set-at (take (to + j) w) (getD w (to + j) 0) (drop (suc j) (moved w from to n)) (getD (moved w from to n) j 0) (to + j) k
-    ∙ ap (λ (z : List ℕ). take (to + j) w ++ z) (sym (drop-cons (moved w from to n) j 0 (omega arith)))
-
-pub up-step : (w : List ℕ) (from to n i : ℕ) → from ≤ to → to + n ≤ length w → 0 < i → i ≤ n
-    → set (risen w from to n i) (to + (i - 1)) (getD (risen w from to n i) (from + (i - 1)) 0) ≡ risen w from to n (i - 1)
-up-step w from to n i l f p h =
-    let e : i ≡ suc (i - 1) = omega arith in
-    ap (λ (k : ℕ). set (risen w from to n k) (to + (i - 1)) (getD (risen w from to n k) (from + (i - 1)) 0)) e ∙ risen-suc w from to n (i - 1) l f (omega arith)
-
-pub four : (w : List ℕ) (k r i : ℕ) → 4 ≤ length w → set (set (set (set w 0 k) 1 r) 2 i) 3 0 ≡ splice 0 (k ∷ r ∷ i ∷ 0 ∷ []) w
-four [] k r i l = absurd (omega arith)
-four (a ∷ []) k r i l = absurd (omega arith)
-four (a ∷ b ∷ []) k r i l = absurd (omega arith)
-four (a ∷ b ∷ c ∷ []) k r i l = absurd (omega arith)
-four (a ∷ b ∷ c ∷ d ∷ w) k r i l = refl
+pub four : (i : ℕ) (w : List ℕ) (k r ir : ℕ) → i + 4 ≤ length w
+    → set (set (set (set w i k) (i + 1) r) (i + 2) ir) (i + 3) 0 ≡ splice i (k ∷ r ∷ ir ∷ 0 ∷ []) w
+four i w k r ir l =
+    let a : i + 1 ≡ suc i = omega arith in
+    let b : i + 2 ≡ suc (suc i) = omega arith in
+    let c : i + 3 ≡ suc (suc (suc i)) = omega arith in
+    let d : i + 4 ≡ suc (suc (suc (suc i))) = omega arith in
+    rw (a, b, c, d) (stores i w k r ir l)

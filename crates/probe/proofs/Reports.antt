@@ -1,17 +1,17 @@
 -- What the exports pass on. Assumes nothing.
 use mathlib.Core.Path.{_≡_, refl, sym, ap, _∙_}
 use mathlib.Core.Bool.{Bool, true, false}
-use mathlib.Core.List.{[], _++_}
-use Prim.Native.Nat.{ℕ, _+_, _≤_, _<_, min}
+use mathlib.Core.List.{[]}
+use Prim.Native.Nat.{ℕ, _≤_, _<_, min}
 use native.Mathlib.Omega.{arith}
 use borrow.Author.Tests.{leb-true, leb-false}
 use lib.Dec.{leb}
-use lib.ListN.{length, take, drop}
+use lib.ListN.{length, take}
 use lib.Seq.{take-all}
 use Rattle.rules.specs.Answer.{Bytes, Answer, accepted, refused}
-use Rattle.rules.specs.Limits.{script-limit}
 use Rattle.rules.specs.Step.{End}
 use Rattle.memory.specs.Splice.{splice}
+use Rattle.memory.proofs.Laws.{splice-front}
 use Rattle.rules.specs.Calls.{fill-front, stepping, StepReport, step-report}
 use Rattle.packing.specs.Packed.{half, Bounded, bounded-no}
 use Rattle.packing.proofs.Bounds.{step-bounded}
@@ -43,5 +43,4 @@ as-fits part old n e = go (leb (length part) (length old)) refl
 
 pub copied : (part old : Bytes) (n : ℕ) → n ≡ min (length part) (length old) → splice 0 (take n part) old ≡ fill-front (take (length old) part) old
 copied part old n e =
-    let z : 0 + length (take n part) ≡ length (take n part) = omega arith in
-    ap (λ (k : ℕ). take n part ++ drop k old) z ∙ ap (λ (b : Bytes). fill-front b old) (as-fits part old n e)
+    splice-front (take n part) old ∙ ap (λ (b : Bytes). fill-front b old) (as-fits part old n e)

@@ -1,4 +1,4 @@
-pub mod Splice
+pub mod Plugs
 pub mod Places
 pub mod Turns
 pub mod Forms

@@ -20,7 +20,7 @@ use Rattle.script.proofs.Stands.{kind-of}
 use Rattle.redex.specs.Contexts.{before, after, offset}
 use Rattle.redex.specs.Fates.{property-of}
 use Rattle.redex.specs.Found.{Site}
-use Rattle.redex.proofs.Splice.{splice, before-length}
+use Rattle.redex.proofs.Plugs.{plug-bytes, before-length}
 
 pub kind-bound : (e : Term) → kind-of e ≤ 11
 kind-bound (var n) = omega arith
@@ -70,7 +70,7 @@ hole-at {s} {i} {e} E x a w =
       stands =
           past s (script-width * i) (script-width * offset E) (script-width * (i + offset E)) (before E) (encode x ++ (after E ++ a .rest))
           (before-length E) (omega arith)
-          (a .stands ∙ ap (λ t. encode t ++ a .rest) w ∙ ap (λ b. b ++ a .rest) (splice E x) ∙ simp append-assoc);
+          (a .stands ∙ ap (λ t. encode t ++ a .rest) w ∙ ap (λ b. b ++ a .rest) (plug-bytes E x) ∙ simp append-assoc);
     }
 
 pub site-at : {S : Security} {tab : ℕ → Ty} {s : Bytes} {i d : ℕ} {e : Term} {place around : ℕ} (x : Site S tab i d e place around)

@@ -25,7 +25,7 @@ use Rattle.redex.specs.Found.{Site, Finds, finds-value, finds-redex, fin
 use Rattle.redex.specs.declared.Found.{Found}
 use Rattle.redex.specs.declared.Found.the-variants.{Value, Redex, Denied, Stuck}
 use Rattle.redex.proofs.Found.{the-type}
-use Rattle.redex.proofs.Splice.{plug-depth, compose-offset, compose-level}
+use Rattle.redex.proofs.Plugs.{plug-depth, compose-offset, compose-level}
 use Rattle.redex.proofs.Places.{hole-at}
 use Rattle.redex.proofs.Turns.{turn-step, site-moves}
 use Rattle.redex.proofs.Forms.{Position}

@@ -27,10 +27,10 @@ use Rattle.script.proofs.Stands.{kind-of, operands, op1, room, stands-kind, at-
 use Rattle.redex.specs.Fates.{property-of, is-function, goes, misfit, fate, contractum}
 use Rattle.redex.proofs.Places.{number-of, reader-at, number-at}
 use Rattle.redex.proofs.Answers.{function-top}
-use Rattle.substitution.specs.Place.{place}
+use Rattle.memory.specs.Splice.{splice}
 use Rattle.substitution.specs.Substituted.{value-limit}
 use Rattle.substitution.proofs.Nodes.{subst-bound}
-use Rattle.substitution.proofs.Placed.{place-both}
+use Rattle.memory.proofs.Laws.{join-after}
 use Rattle.substitution.proofs.Reading.{term-length, size-from}
 use Rattle.reduction.specs.declared.Plan.{Plan}
 use Rattle.reduction.specs.declared.Plan.the-variants.{Part, Body, Raised, Unrolled}
@@ -223,14 +223,14 @@ rolled-bytes g i k b r₁ ir₁ lo hi mid e1 e2 e3 e4 e5 = let z : i + 1 ≡ suc
 
 -- one record, as it is copied from an array
 pub record-placed : (k r₁ ir₁ n lo hi start : ℕ) (w w′ : Bytes) → lo ≡ n % 256 → hi ≡ n / 256
-    → w′ ≡ place start (k ∷ r₁ ∷ ir₁ ∷ 0 ∷ lo ∷ hi ∷ []) w → w′ ≡ place start (script-record k r₁ ir₁ n) w
-record-placed k r₁ ir₁ n lo hi start w w′ e1 e2 e = e ∙ ap₂ (λ a b. place start (k ∷ r₁ ∷ ir₁ ∷ 0 ∷ a ∷ b ∷ []) w) e1 e2
+    → w′ ≡ splice start (k ∷ r₁ ∷ ir₁ ∷ 0 ∷ lo ∷ hi ∷ []) w → w′ ≡ splice start (script-record k r₁ ir₁ n) w
+record-placed k r₁ ir₁ n lo hi start w w′ e1 e2 e = e ∙ ap₂ (λ a b. splice start (k ∷ r₁ ∷ ir₁ ∷ 0 ∷ a ∷ b ∷ []) w) e1 e2
 
 -- a record and what follows it
-pub record-then : (k r₁ ir₁ n start : ℕ) (b w w1 w2 : Bytes) → start + 6 ≤ length w → w1 ≡ place start (script-record k r₁ ir₁ n) w
-    → w2 ≡ place (start + 6) b w1 → w2 ≡ place start (script-record k r₁ ir₁ n ++ b) w
+pub record-then : (k r₁ ir₁ n start : ℕ) (b w w1 w2 : Bytes) → start + 6 ≤ length w → w1 ≡ splice start (script-record k r₁ ir₁ n) w
+    → w2 ≡ splice (start + 6) b w1 → w2 ≡ splice start (script-record k r₁ ir₁ n ++ b) w
 record-then k r₁ ir₁ n start b w w1 w2 l e1 e2 =
-    e2 ∙ ap (place (start + 6) b) e1 ∙ place-both start (start + 6) (script-record k r₁ ir₁ n) b w refl l
+    e2 ∙ ap (splice (start + 6) b) e1 ∙ join-after start (start + 6) (script-record k r₁ ir₁ n) b w refl l
 
 pub protect-bytes : (m : Indirect) (e : Term) → script-record 10 0 m 0 ++ encode e ≡ encode (protect m e)
 unfolding encode
@@ -267,23 +267,23 @@ is-unrolled Unrolled k = refl
 
 -- a protect record, and a term after it
 pub protect-placed : (m m′ start : ℕ) (e : Term) (b w w1 w2 : Bytes) → m ≡ m′ → b ≡ encode e → start + 6 ≤ length w
-    → w1 ≡ place start (script-record 10 0 m 0) w → w2 ≡ place (start + 6) b w1 → w2 ≡ place start (encode (protect m′ e)) w
+    → w1 ≡ splice start (script-record 10 0 m 0) w → w2 ≡ splice (start + 6) b w1 → w2 ≡ splice start (encode (protect m′ e)) w
 protect-placed m m′ start e b w w1 w2 p h l e1 e2 =
     record-then 10 0 m 0 start b w w1 w2 l e1 e2
-    ∙ ap (λ x. place start x w) (ap₂ (λ n x. script-record 10 0 n 0 ++ x) p h ∙ protect-bytes m′ e)
+    ∙ ap (λ x. splice start x w) (ap₂ (λ n x. script-record 10 0 n 0 ++ x) p h ∙ protect-bytes m′ e)
 
 -- a raised record, and the operands after it
 pub raise-placed : (g : Bytes) {s : Bytes} {x : ℕ} {v : Term} (a : At s x v) (m k₁ r₁ ir₁ n₁ start : ℕ) (b w w1 w2 : Bytes) → So (is-value v)
     → k₁ ≡ kind s x → r₁ ≡ join g (r s x) m → ir₁ ≡ join g (ir s x) m → n₁ ≡ number s x → b ≡ joined encode (term-operands v)
-    → start + 6 ≤ length w → w1 ≡ place start (script-record k₁ r₁ ir₁ n₁) w → w2 ≡ place (start + 6) b w1
-    → w2 ≡ place start (encode (raise-value (readers g) v m)) w
+    → start + 6 ≤ length w → w1 ≡ splice start (script-record k₁ r₁ ir₁ n₁) w → w2 ≡ splice (start + 6) b w1
+    → w2 ≡ splice start (encode (raise-value (readers g) v m)) w
 raise-placed g {s} {x} {v} a m k₁ r₁ ir₁ n₁ start b w w1 w2 h ek er ei en eb l e1 e2 =
     let pk : k₁ ≡ kind-of v = ek ∙ stands-kind s x v a in
     let pr : r₁ ≡ join g (property-of v .r) m = er ∙ ap (λ y. join g y m) (reader-at a) in
     let pi : ir₁ ≡ join g (property-of v .ir) m = ei ∙ ap (λ y. join g y m) (indirect-at a) in
     let pn : n₁ ≡ number-of v = en ∙ number-at a in
     record-then k₁ r₁ ir₁ n₁ start b w w1 w2 l e1 e2
-    ∙ ap (λ y. place start y w)
+    ∙ ap (λ y. splice start y w)
     (ap₂ (λ y z. script-record y z ir₁ n₁ ++ b) pk pr
     ∙ ap₂ (λ y z. script-record (kind-of v) (join g (property-of v .r) m) y z ++ b) pi pn
     ∙ ap (λ y. script-record (kind-of v) (join g (property-of v .r) m) (join g (property-of v .ir) m) (number-of v) ++ y) eb

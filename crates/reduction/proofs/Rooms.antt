@@ -14,7 +14,7 @@ use Rattle.rules.specs.Script.{ir, encode, size, depth}
 use Rattle.script.specs.Place.{At}
 use Rattle.script.proofs.Stands.{operands, at-op1}
 use Rattle.redex.specs.Fates.{property-of, fate, contractum}
-use Rattle.substitution.specs.Place.{place}
+use Rattle.memory.specs.Splice.{splice}
 use Rattle.reduction.specs.declared.Plan.{Plan}
 use Rattle.reduction.specs.declared.Plan.the-variants.{Part, Body, Raised, Unrolled}
 use Rattle.reduction.specs.Plans.{Planned, Ready, Fit, PartRoom, BodyRoom, RaisedRoom, UnrolledRoom}
@@ -24,8 +24,8 @@ pub planned-as : {s : Bytes} {e : Term} {p p′ : Plan} → p ≡ p′ → Plann
 planned-as {s} {e} h q = transport (λ (x : Plan). Planned s e x) h q
 
 -- what is written for a term is written for one equal to it
-renamed : (start : ℕ) (w w′ : Bytes) {e f : Term} → e ≡ f → w′ ≡ place start (encode f) w → w′ ≡ place start (encode e) w
-renamed start w w′ h p = p ∙ ap (λ (x : Term). place start (encode x) w) (sym h)
+renamed : (start : ℕ) (w w′ : Bytes) {e f : Term} → e ≡ f → w′ ≡ splice start (encode f) w → w′ ≡ splice start (encode e) w
+renamed start w w′ h p = p ∙ ap (λ (x : Term). splice start (encode x) w) (sym h)
 
 module _ {g t s : Bytes} {at : ℕ} {p : Plan} {w : Bytes} {start : ℕ} (q : Fit g t s at p w start) where
   abbrev S : Security
@@ -52,8 +52,8 @@ module _ {g t s : Bytes} {at : ℕ} {p : Plan} {w : Bytes} {start : ℕ} (q : Fi
   influence-at : 1 ≤ operands e → ir s (at + 1) ≡ influence-of S e
   influence-at h = indirect-at (at-op1 s at e (q .ready .stands) h)
 
-  pub part-written : {x : ℕ} (h : p ≡ Part x) (w′ : Bytes) → w′ ≡ place start (encode (protect (ir s (at + 1)) (part-room h .part))) w
-      → w′ ≡ place start (encode (contractum S tab e)) w
+  pub part-written : {x : ℕ} (h : p ≡ Part x) (w′ : Bytes) → w′ ≡ splice start (encode (protect (ir s (at + 1)) (part-room h .part))) w
+      → w′ ≡ splice start (encode (contractum S tab e)) w
   part-written h w′ k =
       renamed start w w′
       (part-of h .is S tab ∙ ap (λ m. protect m (part-of h .part)) (sym (influence-at (part-of h .operand)))) k
@@ -78,8 +78,8 @@ module _ {g t s : Bytes} {at : ℕ} {p : Plan} {w : Bytes} {start : ℕ} (q : Fi
   }
 
   pub body-written : {x y : ℕ} (h : p ≡ Body x y) (w′ : Bytes)
-      → w′ ≡ place start (encode (protect (ir s (at + 1)) (subst 0 (body-room h .value) (body-room h .body)))) w
-      → w′ ≡ place start (encode (contractum S tab e)) w
+      → w′ ≡ splice start (encode (protect (ir s (at + 1)) (subst 0 (body-room h .value) (body-room h .body)))) w
+      → w′ ≡ splice start (encode (contractum S tab e)) w
   body-written h w′ k =
       renamed start w w′
       (body-of h .is S tab ∙ ap (λ m. protect m (subst 0 (body-of h .value) (body-of h .body))) (sym (influence-at (body-of h .operand)))) k
@@ -95,8 +95,8 @@ module _ {g t s : Bytes} {at : ℕ} {p : Plan} {w : Bytes} {start : ℕ} (q : Fi
     fits = omega (arith, q .fits, ap size (lift-of h .is S tab), raise-size S (lift-of h .value) (property-of e .ir) .0);
   }
 
-  pub raised-written : (h : p ≡ Raised) (w′ : Bytes) → w′ ≡ place start (encode (raise-value S (raised-room h .value) (ir s at))) w
-      → w′ ≡ place start (encode (contractum S tab e)) w
+  pub raised-written : (h : p ≡ Raised) (w′ : Bytes) → w′ ≡ splice start (encode (raise-value S (raised-room h .value) (ir s at))) w
+      → w′ ≡ splice start (encode (contractum S tab e)) w
   raised-written h w′ k =
       renamed start w w′
       (lift-of h .is S tab ∙ ap (raise-value S (lift-of h .value)) (sym (indirect-at (q .ready .stands)))) k
@@ -122,9 +122,9 @@ module _ {g t s : Bytes} {at : ℕ} {p : Plan} {w : Bytes} {start : ℕ} (q : Fi
 
   pub unrolled-written : (h : p ≡ Unrolled) (w′ : Bytes)
       → w′
-      ≡ place start
+      ≡ splice start
       (encode (subst 0 (unrolled S (unrolled-room h .type) (top (tab (unrolled-room h .type))) (unrolled-room h .body)) (unrolled-room h .body))) w
-      → w′ ≡ place start (encode (contractum S tab e)) w
+      → w′ ≡ splice start (encode (contractum S tab e)) w
   unrolled-written h w′ k = renamed start w w′ (unroll-of h) k
 
 -- No plan makes more records than can be counted.

@@ -27,7 +27,7 @@ use Rattle.redex.specs.Found.{Finds, finds-value}
 use Rattle.redex.specs.declared.Found.{Found}
 use Rattle.redex.specs.declared.Found.the-variants.{Value, Redex, Denied, Stuck}
 use Rattle.redex.proofs.Searches.{finds-step}
-use Rattle.substitution.specs.Place.{place}
+use Rattle.memory.specs.Splice.{splice}
 use Rattle.substitution.proofs.Reading.{term-length}
 use Rattle.reduction.specs.declared.Stepped.{Stepped}
 use Rattle.reduction.specs.declared.Stepped.the-variants.{Stopped, Moved}
@@ -157,13 +157,13 @@ halted {t} {a} {n} {room} x k q b h e1 e2 e3 w l =
 
 -- The new term, copied back to the first buffer, is its front.
 module _ (S : Security) (tab : ℕ → Ty) (room : ℕ) (t a a′ b b′ : Bytes) (e e′ : Term) (m : ℕ) where
-  pub copied : step-in S tab room e ≡ moves e′ → m ≡ size e′ → b′ ≡ front-after (step-in S tab room e) b → a′ ≡ place 0 (take (script-width * m) (drop 0 b′)) a
+  pub copied : step-in S tab room e ≡ moves e′ → m ≡ size e′ → b′ ≡ front-after (step-in S tab room e) b → a′ ≡ splice 0 (take (script-width * m) (drop 0 b′)) a
       → take (script-width * m) a′ ≡ encode e′
   copied h c p q =
       let k : length (encode e′) ≡ script-width * m = omega (arith, term-length e′) in
       let f : take (script-width * m) b′ ≡ encode e′ =
       ap (take (script-width * m)) (p ∙ ap (λ (x : End). front-after x b) h) ∙ take-at (encode e′) (drop (length (encode e′)) b) (script-width * m) k in
-      let g : a′ ≡ place 0 (encode e′) a = q ∙ ap (λ (x : Bytes). place 0 x a) f in
+      let g : a′ ≡ splice 0 (encode e′) a = q ∙ ap (λ (x : Bytes). splice 0 x a) f in
       ap (take (script-width * m)) g ∙ take-at (encode e′) (drop (0 + length (encode e′)) a) (script-width * m) k
 
   pub reloaded : type-count t ≤ table-limit → step-in S tab room e ≡ moves e′ → m ≡ size e′ → take (script-width * m) a′ ≡ encode e′ → Loaded t a′ m room

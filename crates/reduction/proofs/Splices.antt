@@ -21,10 +21,10 @@ use Rattle.script.specs.Place.{At}
 use Rattle.script.proofs.Stands.{at-start, start-records}
 use Rattle.redex.specs.Contexts.{before, after, offset, beside}
 use Rattle.redex.specs.Found.{Site}
-use Rattle.redex.proofs.Splice.{splice, plug-size, plug-depth, plug-within, plug-past, before-length, after-length, before-is, after-is}
+use Rattle.redex.proofs.Plugs.{plug-bytes, plug-size, plug-depth, plug-within, plug-past, before-length, after-length, before-is, after-is}
 use Rattle.redex.proofs.Places.{site-at}
-use Rattle.substitution.specs.Place.{place}
-use Rattle.substitution.proofs.Placed.{place-next}
+use Rattle.memory.specs.Splice.{splice}
+use Rattle.memory.proofs.Laws.{join-next}
 use Rattle.substitution.proofs.Reading.{term-length}
 use Rattle.reduction.specs.Steps.{Startable}
 
@@ -71,18 +71,18 @@ module _ {S : Security} {tab : ℕ → Ty} {t s : Bytes} {at around : ℕ} (st :
 
   -- the three pieces
   pub new-term : (e′ : Term) (end to : ℕ) (w w1 w2 w3 : Bytes) → end ≡ at + size (x .redex) → to ≡ script-width * at + script-width * size e′
-      → w1 ≡ place 0 (take (script-width * at) (drop 0 s)) w → length w1 ≡ length w → w2 ≡ place (script-width * at) (encode e′) w1 → length w2 ≡ length w1
-      → w3 ≡ place to (take (length s - script-width * end) (drop (script-width * end) s)) w2
-      → w3 ≡ place 0 (encode (plug (x .context) e′)) w
+      → w1 ≡ splice 0 (take (script-width * at) (drop 0 s)) w → length w1 ≡ length w → w2 ≡ splice (script-width * at) (encode e′) w1 → length w2 ≡ length w1
+      → w3 ≡ splice to (take (length s - script-width * end) (drop (script-width * end) s)) w2
+      → w3 ≡ splice 0 (encode (plug (x .context) e′)) w
   new-term e′ end to w w1 w2 w3 h k e1 l1 e2 l2 e3 =
       let b = before (x .context) in
       let n : script-width * at ≡ 0 + length b = omega (arith, before-length (x .context), at-is) in
-      let p : w2 ≡ place 0 (b ++ encode e′) w =
-      place-next 0 (script-width * at) b (encode e′) w w1 w2 (omega arith) n (e1 ∙ ap (λ (y : Bytes). place 0 y w) front-is) l1 e2 in
+      let p : w2 ≡ splice 0 (b ++ encode e′) w =
+      join-next 0 (script-width * at) b (encode e′) w w1 w2 (omega arith) n (e1 ∙ ap (λ (y : Bytes). splice 0 y w) front-is) l1 e2 in
       let m : to ≡ 0 + length (b ++ encode e′) = omega (arith, length-append b (encode e′), term-length e′) in
-      place-next 0 to (b ++ encode e′) (after (x .context)) w w2 w3 (omega arith) m p (l2 ∙ l1)
-      (e3 ∙ ap (λ (y : Bytes). place to y w2) (rest-is end h))
-      ∙ ap (λ (y : Bytes). place 0 y w) (append-assoc b (encode e′) (after (x .context)) ∙ sym (splice (x .context) e′))
+      join-next 0 to (b ++ encode e′) (after (x .context)) w w2 w3 (omega arith) m p (l2 ∙ l1)
+      (e3 ∙ ap (λ (y : Bytes). splice to y w2) (rest-is end h))
+      ∙ ap (λ (y : Bytes). splice 0 y w) (append-assoc b (encode e′) (after (x .context)) ∙ sym (plug-bytes (x .context) e′))
 
   -- what stands beside the redex is within the limit of depth already
   deeper : (e′ : Term) → ltb depth-limit (around + depth e′) ≡ ltb depth-limit (depth (plug (x .context) e′))

@@ -2,10 +2,9 @@
 
 ghost use mathlib.Core.Path.{_≡_};
 ghost use mathlib.Core.Bool.{_||_};
-ghost use mathlib.Core.List.{_++_};
 ghost use Prim.Native.Nat.{ℕ, _+_, _*_, _-_, _/_, _%_, _≤_, _<_, min};
 ghost use lib.Dec.{ltb};
-ghost use lib.ListN.{length, take};
+ghost use lib.ListN.{length};
 ghost use Rattle.calculus.specs.Security.{Security};
 ghost use Rattle.calculus.specs.Types.{Ty, top};
 ghost use Rattle.calculus.specs.Terms.{protect, mu, subst, raise-value};
@@ -18,9 +17,9 @@ ghost use Rattle.rules.specs.Script.{ir, script-record, encode, term, size, dep
 ghost use Rattle.rules.specs.Step.{step-in};
 ghost use Rattle.rules.specs.Run.{run};
 ghost use Rattle.rules.specs.Reach.{Accepted};
-ghost use Rattle.rules.specs.Calls.{step-report, zeros, stepping, front-after, written-after, running, run-report, first-after, scratch-after};
+ghost use Rattle.rules.specs.Calls.{step-report, stepping, front-after, written-after, running, run-report, first-after, scratch-after};
 ghost use Rattle.redex.specs.Fates.{contractum};
-ghost use Rattle.substitution.specs.Place.{place};
+ghost use Rattle.memory.specs.Splice.{splice};
 ghost use Rattle.substitution.specs.Substituted.{Within};
 ghost use Rattle.reduction.specs.Plans.{Fires, Planned, Ready, Measures, Both, Recursive, PartRoom, BodyRoom, RaisedRoom, UnrolledRoom, Fit};
 ghost use Rattle.reduction.specs.Steps.{told, Startable, Sited, Placing, as-step, refused-step, reported};
@@ -173,27 +172,27 @@ pub fn measure(script: &[u8], at: usize, plan: Plan) -> Size
 // One record, over `written` from byte `start` on.
 fn write_record(kind: u8, r: Reader, ir: Indirect, number: u16, written: &mut [u8], start: usize)
     requires { ⌜ start + 6 ≤ length (now written) ⌝ }
-    ensures { λ _. ⌜ now (written .exit) ≡ place start (script-record kind (r .0) (ir .0) number) (now (written .entry)) ⌝ }
+    ensures { λ _. ⌜ now (written .exit) ≡ splice start (script-record kind (r .0) (ir .0) number) (now (written .entry)) ⌝ }
 {
     let record = [kind, r.0, ir.0, 0, low(number), high(number)];
-    substitution::copy_part(&record, 0, WIDTH, written, start);
+    memory::copy_part(&record, 0, WIDTH, written, start);
 }
 
 // A protected part. The protection is the indirect readers of what the destructor at record `at` takes apart.
 fn write_part(script: &[u8], at: usize, x: usize, written: &mut [u8], start: usize)
     requires { ⌜ PartRoom (now script) at x (now written) start ⌝ }
-    ensures { λ _. ⌜ ((q : PartRoom (now (script .entry)) at x (now (written .entry)) start) → now (written .exit) ≡ place start (encode (protect (ir (now (script .entry)) (at + 1)) (q .part))) (now (written .entry))) ⌝ }
+    ensures { λ _. ⌜ ((q : PartRoom (now (script .entry)) at x (now (written .entry)) start) → now (written .exit) ≡ splice start (encode (protect (ir (now (script .entry)) (at + 1)) (q .part))) (now (written .entry))) ⌝ }
 {
     let end = script::end_of(script, x);
     let influence = script::indirect(script, at + 1);
     write_record(10, Reader(0), influence, 0, written, start);
-    substitution::copy_part(script, WIDTH * x, WIDTH * (end - x), written, start + WIDTH);
+    memory::copy_part(script, WIDTH * x, WIDTH * (end - x), written, start + WIDTH);
 }
 
 // A protected body with a value put in. The value is put in as it stands: it isn't raised.
 fn write_body(script: &[u8], at: usize, x: usize, y: usize, written: &mut [u8], start: usize)
     requires { ⌜ BodyRoom (now script) at x y (now written) start ⌝ }
-    ensures { λ _. ⌜ ((q : BodyRoom (now (script .entry)) at x y (now (written .entry)) start) → now (written .exit) ≡ place start (encode (protect (ir (now (script .entry)) (at + 1)) (subst 0 (q .value) (q .body)))) (now (written .entry))) ⌝ }
+    ensures { λ _. ⌜ ((q : BodyRoom (now (script .entry)) at x y (now (written .entry)) start) → now (written .exit) ≡ splice start (encode (protect (ir (now (script .entry)) (at + 1)) (subst 0 (q .value) (q .body)))) (now (written .entry))) ⌝ }
 {
     let end = script::end_of(script, y);
     let influence = script::indirect(script, at + 1);
@@ -215,7 +214,7 @@ fn write_body(script: &[u8], at: usize, x: usize, y: usize, written: &mut [u8], 
 // The value at record `at` + 1, raised by the protect at record `at`: joined into the groups of its own record, nowhere deeper.
 fn write_raised(groups: &[u8], script: &[u8], at: usize, written: &mut [u8], start: usize)
     requires { ⌜ RaisedRoom (now script) at (now written) start ⌝ }
-    ensures { λ _. ⌜ ((q : RaisedRoom (now (script .entry)) at (now (written .entry)) start) → now (written .exit) ≡ place start (encode (raise-value (readers (now (groups .entry))) (q .value) (ir (now (script .entry)) at))) (now (written .entry))) ⌝ }
+    ensures { λ _. ⌜ ((q : RaisedRoom (now (script .entry)) at (now (written .entry)) start) → now (written .exit) ≡ splice start (encode (raise-value (readers (now (groups .entry))) (q .value) (ir (now (script .entry)) at))) (now (written .entry))) ⌝ }
 {
     let x = at + 1;
     let end = script::end_of(script, x);
@@ -232,14 +231,14 @@ fn write_raised(groups: &[u8], script: &[u8], at: usize, written: &mut [u8], sta
     );
     let from = WIDTH * x + WIDTH;
     let to = WIDTH * end;
-    substitution::copy_part(script, from, to - from, written, start + WIDTH);
+    memory::copy_part(script, from, to - from, written, start + WIDTH);
 }
 
 // The body of a recursion, with the recursion put in for its variable: (λx. (μf. e) x), with the groups of the recursion's type,
 // its parameter type the next record of the table, and the application made as r of that type.
 fn write_unrolled(types: &[u8], script: &[u8], at: usize, written: &mut [u8], start: usize)
     requires { ⌜ UnrolledRoom (now types) (now script) at (now written) start ⌝ }
-    ensures { λ _. ⌜ ((q : UnrolledRoom (now (types .entry)) (now (script .entry)) at (now (written .entry)) start) (g : Bytes) → now (written .exit) ≡ place start (encode (subst 0 (unrolled (readers g) (q .type) (top (type-at (now (types .entry)) (q .type))) (q .body)) (q .body))) (now (written .entry))) ⌝ }
+    ensures { λ _. ⌜ ((q : UnrolledRoom (now (types .entry)) (now (script .entry)) at (now (written .entry)) start) (g : Bytes) → now (written .exit) ≡ splice start (encode (subst 0 (unrolled (readers g) (q .type) (top (type-at (now (types .entry)) (q .type))) (q .body)) (q .body))) (now (written .entry))) ⌝ }
 {
     let end = script::end_of(script, at);
     let named = script::number(script, at);
@@ -287,7 +286,7 @@ pub fn write_contractum(
     start: usize,
 )
     requires { ⌜ Fit (now groups) (now types) (now script) at plan (now written) start ⌝ }
-    ensures { λ _. ⌜ ((q : Fit (now (groups .entry)) (now (types .entry)) (now (script .entry)) at plan (now (written .entry)) start) → now (written .exit) ≡ place start (encode (contractum (readers (now (groups .entry))) (type-at (now (types .entry))) (q .ready .tree))) (now (written .entry))) ⌝ }
+    ensures { λ _. ⌜ ((q : Fit (now (groups .entry)) (now (types .entry)) (now (script .entry)) at plan (now (written .entry)) start) → now (written .exit) ≡ splice start (encode (contractum (readers (now (groups .entry))) (type-at (now (types .entry))) (q .ready .tree))) (now (written .entry))) ⌝ }
 {
     match plan {
         Plan::Part(x) => write_part(script, at, x, written, start),
@@ -310,14 +309,14 @@ fn write_new(
     written: &mut [u8],
 )
     requires { ⌜ Placing (now groups) (now types) (now script) at plan end records (now written) ⌝ }
-    ensures { λ _. ⌜ ((q : Placing (now (groups .entry)) (now (types .entry)) (now (script .entry)) at plan end records (now (written .entry))) → now (written .exit) ≡ place 0 (encode (q .whole)) (now (written .entry))) ⌝ }
+    ensures { λ _. ⌜ ((q : Placing (now (groups .entry)) (now (types .entry)) (now (script .entry)) at plan end records (now (written .entry))) → now (written .exit) ≡ splice 0 (encode (q .whole)) (now (written .entry))) ⌝ }
 {
     let start = WIDTH * at;
-    substitution::copy_part(script, 0, start, written, 0);
+    memory::copy_part(script, 0, start, written, 0);
     write_contractum(groups, types, script, at, plan, written, start);
     let from = WIDTH * end;
     let to = start + WIDTH * records;
-    substitution::copy_part(script, from, script.len() - from, written, to);
+    memory::copy_part(script, from, script.len() - from, written, to);
 }
 
 // Too big: more than 8,192 records, more than the room divided by 6, or depth over 256.
@@ -435,18 +434,6 @@ fn smaller(a: usize, b: usize) -> usize
     b
 }
 
-// Zeros from byte `start` to the end of the buffer.
-fn clear_from(buffer: &mut [u8], start: usize)
-    requires { ⌜ start ≤ length (now buffer) ⌝ }
-    ensures { λ _. ⌜ now (buffer .exit) ≡ take start (now (buffer .entry)) ++ zeros (length (now (buffer .entry)) - start) ⌝ }
-{
-    let mut i = start;
-    while i < buffer.len() {
-        buffer[i] = 0;
-        i += 1;
-    }
-}
-
 // The number of a step's end.
 fn number_of(x: Stepped) -> u8
     ensures { λ a. ⌜ a ≡ number-of x ⌝ }
@@ -494,7 +481,7 @@ fn walk(
                 records: n,
             };
         };
-        substitution::copy_part(scratch, 0, WIDTH * m, first, 0);
+        memory::copy_part(scratch, 0, WIDTH * m, first, 0);
         n = m;
         steps += 1;
     }
@@ -523,8 +510,8 @@ pub fn run_term(
     let room = smaller(first.len(), scratch.len());
     let x = walk(groups, types, records, budget, first, scratch, room);
     let end = WIDTH * x.records;
-    clear_from(first, end);
-    clear_from(scratch, 0);
+    memory::clear_from(first, end);
+    memory::clear_from(scratch, 0);
     x
 }
 
@@ -561,7 +548,7 @@ pub fn run(
     let Checked::Passed = terms else {
         return refused_run(terms);
     };
-    substitution::copy_part(script, 0, script.len(), first, 0);
+    memory::copy_part(script, 0, script.len(), first, 0);
     let records = script::record_count(script);
     let x = run_term(groups, types, records, budget, first, scratch);
     RunAnswer::Ended(x.end, x.steps, x.records)

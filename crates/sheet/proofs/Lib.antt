@@ -1,4 +1,3 @@
-pub mod Placed
 pub mod Values
 pub mod Sheets
 pub mod Questions

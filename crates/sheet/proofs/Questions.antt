@@ -22,12 +22,12 @@ use Rattle.lattice.proofs.Passed.{No, few-rows}
 use Rattle.script.specs.Check.{terms-check}
 use Rattle.types.proofs.Questions.{all-yes}
 use Rattle.script.proofs.Asked.{script-check-is, Terms-pass, terms-pass}
-use Rattle.sheet.specs.Place.{place}
+use Rattle.memory.specs.Splice.{splice}
+use Rattle.memory.proofs.Laws.{splice-front}
 use Rattle.sheet.specs.Value.{lines}
 use Rattle.sheet.specs.Said.{reported, refusal, before-26}
 use Rattle.sheet.specs.declared.Sheet.{Sheet}
 use Rattle.sheet.specs.declared.Sheet.the-variants as the
-use Rattle.sheet.proofs.Placed.{place-front}
 use Rattle.sheet.proofs.Sheets.{sheet-length}
 
 regroup : {A : Type 0} (a b : Answer (Unit {0})) (c : Answer A) → _>>_ (_>>_ a b) c ≡ _>>_ a (_>>_ b c)
@@ -91,11 +91,11 @@ no-sheet : (o : Answer Bytes) (old : Bytes) (q p : ℕ) → o ≡ refused q p �
 unfolding sheet-records
 no-sheet o old q p e = record { answer = sym (ap sheet-records e); after = sym (ap (λ x. sheet-after x old) e) }
 
-the-sheet : (o : Answer Bytes) (b old new : Bytes) (n : ℕ) → o ≡ accepted b → length b ≡ 4 * n → new ≡ place 0 b old → Paged o old (the.Written n) new
+the-sheet : (o : Answer Bytes) (b old new : Bytes) (n : ℕ) → o ≡ accepted b → length b ≡ 4 * n → new ≡ splice 0 b old → Paged o old (the.Written n) new
 unfolding sheet-records
 the-sheet o b old new n e l h =
     let k : n ≡ length b / 4 = omega arith in
-    record { answer = ap accepted k ∙ sym (ap sheet-records e); after = h ∙ place-front b old ∙ sym (ap (λ x. sheet-after x old) e) }
+    record { answer = ap accepted k ∙ sym (ap sheet-records e); after = h ∙ splice-front b old ∙ sym (ap (λ x. sheet-after x old) e) }
 
 module _ (g t s : Bytes) (group : ℕ) (old : Bytes) where
   abbrev call : Answer Bytes
@@ -118,7 +118,7 @@ module _ (g t s : Bytes) (group : ℕ) (old : Bytes) where
         no-sheet call old 27 0 (after-25 ∙ rw (v, lt-leb (length (sheet g group (term s))) (length old) (omega (arith, sheet-length g group (term s)))))
 
     pub written : is-value (term s) ≡ true → 4 * lines (term s) ≤ length old → (n : ℕ) → n ≡ lines (term s) → (new : Bytes)
-        → new ≡ place 0 (sheet g group (term s)) old → Paged call old (the.Written n) new
+        → new ≡ splice 0 (sheet g group (term s)) old → Paged call old (the.Written n) new
     written v l n h new e =
         the-sheet call (sheet g group (term s)) old new n
         (after-25 ∙ rw (v, le-leb (length (sheet g group (term s))) (length old) (omega (arith, sheet-length g group (term s)))))

@@ -16,11 +16,11 @@ use Rattle.rules.proofs.RecordFields.{kind-is, r-is, ir-is}
 use Rattle.rules.proofs.TermCode.{term-code, term-head}
 use Rattle.script.specs.Place.{At}
 use Rattle.script.proofs.Stands.{kind-of, op1, op2, at-op1, at-op2}
-use Rattle.sheet.specs.Place.{place}
+use Rattle.memory.specs.Splice.{splice}
 use Rattle.sheet.specs.Shown.{shown, shown-kind}
 use Rattle.sheet.specs.Value.{lines, Room, Wrote}
 use Rattle.sheet.specs.declared.Reached.{Reached}
-use Rattle.sheet.proofs.Placed.{place-next}
+use Rattle.memory.proofs.Laws.{join-next}
 use Rattle.sheet.proofs.Values.{Pairs, injects, pairs, first-part}
 
 -- every record has four bytes
@@ -162,20 +162,20 @@ second-value e v p = and-eq-true-iff (is-value (op1 e)) (is-value (op2 e)) .0 (s
 
 -- The sheet of a node, once its record is written, and after it the sheets of its parts.
 module _ (g : Bytes) (group : ℕ) (s : Bytes) (i n : ℕ) (e : Term) (w : At s i e) (v : is-value e ≡ true) (b b1 : Bytes) (fits : 4 * n ≤ length b)
-    (put : b1 ≡ place (4 * n) (shown g group s i) b) where
+    (put : b1 ≡ splice (4 * n) (shown g group s i) b) where
   pub wrote-alone : (end : ℕ) → kind-of e ≤ 2 → end ≡ i + size e → Wrote g group i n e b (record { next = end; line = n + 1 }) b1
   wrote-alone end l h =
       let a = sheet-alone g group e v l in
       record {
         next = h;
         line = omega (arith, a .1);
-        wrote = put ∙ ap (λ x. place (4 * n) x b) (shown-at g group s i e w ∙ a .0);
+        wrote = put ∙ ap (λ x. splice (4 * n) x b) (shown-at g group s i e w ∙ a .0);
       }
 
   module _ (kept : length b1 ≡ length b) (x : Reached) (b2 : Bytes) (one : Wrote g group (i + 1) (n + 1) (op1 e) b1 x b2) where
-    so-far : b2 ≡ place (4 * n) (shown g group s i ++ sheet g group (op1 e)) b
+    so-far : b2 ≡ splice (4 * n) (shown g group s i ++ sheet g group (op1 e)) b
     so-far =
-        place-next (4 * n) (4 * (n + 1)) (shown g group s i) (sheet g group (op1 e)) b b1 b2 fits (omega (arith, shown-length g group s i)) put kept
+        join-next (4 * n) (4 * (n + 1)) (shown g group s i) (sheet g group (op1 e)) b b1 b2 fits (omega (arith, shown-length g group s i)) put kept
         (one .wrote)
 
     pub wrote-injection : 2 < kind-of e → (kind-of e ≡ 3 → ⊥) → Wrote g group i n e b x b2
@@ -186,7 +186,7 @@ module _ (g : Bytes) (group : ℕ) (s : Bytes) (i n : ℕ) (e : Term) (w : At s 
           next = omega (arith, one .next, p .sized);
           line = omega (arith, one .line, p .counted);
           wrote = so-far
-              ∙ ap (λ y. place (4 * n) y b) (ap (λ y. y ++ sheet g group (op1 e)) (shown-at g group s i e w) ∙ sheet-injection g group e l m h);
+              ∙ ap (λ y. splice (4 * n) y b) (ap (λ y. y ++ sheet g group (op1 e)) (shown-at g group s i e w) ∙ sheet-injection g group e l m h);
         }
 
     pub wrote-pair : kind-of e ≡ 3 → length b2 ≡ length b1 → (y : Reached) (b3 : Bytes) → Wrote g group (x .next) (x .line) (op2 e) b2 y b3
@@ -199,9 +199,9 @@ module _ (g : Bytes) (group : ℕ) (s : Bytes) (i n : ℕ) (e : Term) (w : At s 
         record {
           next = omega (arith, one .next, other-one .next, p .sized);
           line = omega (arith, one .line, other-one .line, p .counted);
-          wrote = place-next (4 * n) (4 * x .line) (o ++ sa) sb b b2 b3 fits
+          wrote = join-next (4 * n) (4 * x .line) (o ++ sa) sb b b2 b3 fits
               (omega (arith, one .line, length-append o sa, shown-length g group s i, sheet-length g group (op1 e))) so-far (kept2 ∙ kept) (other-one .wrote)
-              ∙ ap (λ z. place (4 * n) z b)
+              ∙ ap (λ z. splice (4 * n) z b)
               (append-assoc o sa sb ∙ ap (λ z. z ++ (sa ++ sb)) (shown-at g group s i e w) ∙ sheet-pair g group e h);
         }
 

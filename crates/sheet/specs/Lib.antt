@@ -1,4 +1,3 @@
-pub mod Place
 pub mod Shown
 pub mod Value
 pub mod Said

@@ -9,7 +9,7 @@ use Rattle.rules.specs.Limits.{sheet-width}
 use Rattle.rules.specs.Script.{size}
 use Rattle.rules.specs.Sheet.{sheet}
 use Rattle.script.specs.Place.{At}
-use Rattle.sheet.specs.Place.{place}
+use Rattle.memory.specs.Splice.{splice}
 use Rattle.sheet.specs.declared.Looked.{Looked}
 use Rattle.sheet.specs.declared.Looked.the-variants.{Value, Other}
 use Rattle.sheet.specs.declared.Reached.{Reached}
@@ -43,4 +43,4 @@ pub record Room (s : Bytes) (i : ℕ) (w : Bytes) (n : ℕ) : Type 0 where
 pub record Wrote (groups : Bytes) (group i n : ℕ) (e : Term) (w : Bytes) (x : Reached) (w′ : Bytes) : Type 0 where
   pub next : x .next ≡ i + size e
   pub line : x .line ≡ n + lines e
-  pub wrote : w′ ≡ place (sheet-width * n) (sheet groups group e) w
+  pub wrote : w′ ≡ splice (sheet-width * n) (sheet groups group e) w

@@ -11,7 +11,7 @@ ghost use Rattle.rules.specs.Script.{kind};
 ghost use Rattle.rules.specs.Calls.{sheeting, sheet-records, sheet-after};
 ghost use Rattle.lattice.specs.Said.{said};
 ghost use Rattle.script.specs.Place.{At, Here};
-ghost use Rattle.sheet.specs.Place.{place};
+ghost use Rattle.memory.specs.Splice.{splice};
 ghost use Rattle.sheet.specs.Shown.{shown-kind, shown, bytes-of};
 ghost use Rattle.sheet.specs.Value.{looked, Room, Wrote};
 ghost use Rattle.sheet.specs.Said.{reported, refusal, before-26};
@@ -128,7 +128,7 @@ fn line_of(groups: &[u8], value: &[u8], i: usize, group: Reader) -> Line
 // Writes a sheet record at its place.
 fn put(sheet: &mut [u8], at: usize, line: Line)
     requires { ⌜ sheet-width * at + 4 ≤ length (now sheet) ⌝ }
-    ensures { λ _. ⌜ now (sheet .exit) ≡ place (sheet-width * at) (bytes-of line) (now (sheet .entry)) ⌝ }
+    ensures { λ _. ⌜ now (sheet .exit) ≡ splice (sheet-width * at) (bytes-of line) (now (sheet .entry)) ⌝ }
 {
     let i = SHEET_WIDTH * at;
     let r = line.r;

@@ -1,4 +1,4 @@
-pub mod Placed
+pub mod Pieces
 pub mod Nodes
 pub mod Reading
 pub mod Counting

@@ -14,12 +14,12 @@ use Rattle.rules.proofs.Parts.{joined-append, total-append}
 use Rattle.rules.proofs.PrefixLaws.{joined-length}
 use Rattle.rules.proofs.TermCode.{term-operands, term-head, term-head-length, term-size-is, term-code}
 use Rattle.script.specs.Place.{At}
-use Rattle.substitution.specs.Place.{place}
+use Rattle.memory.specs.Splice.{splice}
 use Rattle.script.proofs.Stands.{kind-of, stands-kind}
 use Rattle.substitution.specs.Binders.{binds}
 use Rattle.substitution.specs.Substituted.{Room, Written}
 use Rattle.substitution.specs.declared.Wrote.{Wrote}
-use Rattle.substitution.proofs.Placed.{place-none, place-next}
+use Rattle.memory.proofs.Laws.{splice-none, join-next}
 use Rattle.substitution.proofs.Nodes.{View, variable, node, view, under, under-append, subst-var, subst-size, subst-encode, operand-depth}
 use Rattle.substitution.proofs.Reading.{head-at, number-at, term-length}
 use Rattle.substitution.proofs.Counting.{Passed, Ahead, started, split-at, operand-here, passed-more, whole, under-more}
@@ -28,11 +28,11 @@ use Rattle.substitution.proofs.Counting.{Passed, Ahead, started, split-
 pub record Copied (i n : ℕ) (e v : Term) (start : ℕ) (w : Bytes) (j next end : ℕ) (w′ : Bytes) : Type 0 where
   pub passed : Passed i e j next
   pub end-is : end ≡ start + script-width * total size (under (kind-of e) n v 0 (passed .before))
-  pub wrote : w′ ≡ place start (joined encode (under (kind-of e) n v 0 (passed .before))) w
+  pub wrote : w′ ≡ splice start (joined encode (under (kind-of e) n v 0 (passed .before))) w
   pub kept : length w′ ≡ length w
 
 pub copied-none : (i n : ℕ) (e v : Term) (start : ℕ) (w : Bytes) → Copied i n e v start w 0 (i + 1) start w
-copied-none i n e v start w = record { passed = started i e; end-is = omega arith; wrote = sym (place-none start w); kept = refl }
+copied-none i n e v start w = record { passed = started i e; end-is = omega arith; wrote = sym (splice-none start w); kept = refl }
 
 module _ {i n : ℕ} {e v : Term} {start : ℕ} {w : Bytes} {j next end : ℕ} {w′ : Bytes} (p : Copied i n e v start w j next end w′) where
   pub copied-more : (a : Ahead (p .passed)) (level : ℕ) → level ≡ n + binds (kind-of e) j → start ≤ length w → (x : Wrote) (w″ : Bytes)
@@ -47,13 +47,13 @@ module _ {i n : ℕ} {e v : Term} {start : ℕ} {w : Bytes} {j next end : ℕ} {
       record {
         passed = passed-more q a (x .next) (m .next);
         end-is = omega (arith, p .end-is, m .end, ap (total size) u, total-append size us (d ∷ []));
-        wrote = place-next start end (joined encode us) (encode d) w w′ w″ r (omega (arith, p .end-is, joined-length term-code us)) (p .wrote) (p .kept) (m .wrote)
-            ∙ ap (λ y. place start y w) b;
+        wrote = join-next start end (joined encode us) (encode d) w w′ w″ r (omega (arith, p .end-is, joined-length term-code us)) (p .wrote) (p .kept) (m .wrote)
+            ∙ ap (λ y. splice start y w) b;
         kept = l ∙ p .kept;
       }
 
   -- with the record in front of them
-  pub copied-all : (at : ℕ) (w₀ : Bytes) → (kind-of e ≡ 0 → ⊥) → j ≡ length (term-operands e) → at ≤ length w₀ → start ≡ at + 6 → w ≡ place at (term-head e) w₀
+  pub copied-all : (at : ℕ) (w₀ : Bytes) → (kind-of e ≡ 0 → ⊥) → j ≡ length (term-operands e) → at ≤ length w₀ → start ≡ at + 6 → w ≡ splice at (term-head e) w₀
       → length w ≡ length w₀ → Written i n e v at w₀ (record { next = next; end = end }) w′
   copied-all at w₀ h l r z hw lw =
       let q = p .passed in
@@ -63,8 +63,8 @@ module _ {i n : ℕ} {e v : Term} {start : ℕ} {w : Bytes} {j next end : ℕ} {
       record {
         next = omega (arith, q .next-is, ap (total size) f, term-size-is e);
         end = omega (arith, p .end-is, ap (total size) u, subst-size n v e h);
-        wrote = place-next at start (term-head e) (joined encode us) w₀ w w′ r (omega (arith, term-head-length e)) hw lw (p .wrote)
-            ∙ ap (λ y. place at y w₀) (ap (λ y. term-head e ++ joined encode y) u ∙ sym (subst-encode n v e h));
+        wrote = join-next at start (term-head e) (joined encode us) w₀ w w′ r (omega (arith, term-head-length e)) hw lw (p .wrote)
+            ∙ ap (λ y. splice at y w₀) (ap (λ y. term-head e ++ joined encode y) u ∙ sym (subst-encode n v e h));
       }
 
 -- an operand's room is part of its node's
@@ -124,22 +124,22 @@ module _ {s : Bytes} {i : ℕ} {e : Term} (a : At s i e) (k : kind s i ≡ 0) (n
       go e (variable m) a = (subst-var n v m ∙ rw (ne-eqb m n (λ z. h (number-at a ∙ z))), refl, refl)
       go e (node g) a = absurd (g (sym (stands-kind _ _ _ a) ∙ k))
 
-  pub written-here : (b : Bytes) (start : ℕ) (w w′ : Bytes) (end : ℕ) → number s i ≡ n → b ≡ encode v → end ≡ start + length b → w′ ≡ place start b w
+  pub written-here : (b : Bytes) (start : ℕ) (w w′ : Bytes) (end : ℕ) → number s i ≡ n → b ≡ encode v → end ≡ start + length b → w′ ≡ splice start b w
       → Written i n e v start w (record { next = i + 1; end = end }) w′
   written-here b start w w′ end h hb he hw =
       let z = variable-here h in
       record {
         next = omega (arith, z .1);
         end = omega (arith, he, ap length hb, term-length v, ap size (z .0));
-        wrote = hw ∙ ap (λ y. place start y w) (hb ∙ ap encode (sym (z .0)));
+        wrote = hw ∙ ap (λ y. splice start y w) (hb ∙ ap encode (sym (z .0)));
       }
 
-  pub written-else : (start : ℕ) (w w′ : Bytes) → (number s i ≡ n → ⊥) → w′ ≡ place start (take script-width (drop (script-width * i) s)) w
+  pub written-else : (start : ℕ) (w w′ : Bytes) → (number s i ≡ n → ⊥) → w′ ≡ splice start (take script-width (drop (script-width * i) s)) w
       → Written i n e v start w (record { next = i + 1; end = start + 6 }) w′
   written-else start w w′ h hw =
       let z = variable-else h in
       record {
         next = omega (arith, z .2);
         end = omega (arith, z .2, ap size (z .0));
-        wrote = hw ∙ ap (λ y. place start y w) (head-at a ∙ sym (z .1) ∙ ap encode (sym (z .0)));
+        wrote = hw ∙ ap (λ y. splice start y w) (head-at a ∙ sym (z .1) ∙ ap encode (sym (z .0)));
       }

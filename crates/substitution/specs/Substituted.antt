@@ -8,7 +8,7 @@ use Rattle.rules.specs.Answer.{Bytes}
 use Rattle.rules.specs.Limits.{script-width, script-limit, depth-limit}
 use Rattle.rules.specs.Script.{encode, size, depth}
 use Rattle.script.specs.Place.{At}
-use Rattle.substitution.specs.Place.{place}
+use Rattle.memory.specs.Splice.{splice}
 use Rattle.substitution.specs.declared.Wrote.{Wrote}
 use Rattle.substitution.specs.declared.Extent.{Extent}
 
@@ -59,4 +59,4 @@ pub record Room (s : Bytes) (i : ℕ) (front mid back : Bytes) (n : ℕ) (w : By
 pub record Written (i n : ℕ) (e v : Term) (start : ℕ) (w : Bytes) (x : Wrote) (w′ : Bytes) : Type 0 where
   pub next : x .next ≡ i + size e
   pub end : x .end ≡ start + script-width * size (subst n v e)
-  pub wrote : w′ ≡ place start (encode (subst n v e)) w
+  pub wrote : w′ ≡ splice start (encode (subst n v e)) w

@@ -3,12 +3,12 @@ ghost use mathlib.Core.Bool.{cond};
 ghost use mathlib.Core.List.{_++_};
 ghost use Prim.Native.Nat.{_+_, _*_, _≤_, _<_, max};
 ghost use lib.Dec.{eqb};
-ghost use lib.ListN.{length, take, drop};
+ghost use lib.ListN.{length};
 ghost use Rattle.calculus.specs.Terms.{Term};
 ghost use Rattle.rules.specs.Limits.{script-width};
 ghost use Rattle.rules.specs.Script.{kind, number, encode, size, depth};
 ghost use Rattle.script.specs.Place.{At};
-ghost use Rattle.substitution.specs.Place.{place};
+ghost use Rattle.memory.specs.Splice.{splice};
 ghost use Rattle.substitution.specs.Binders.{binds};
 ghost use Rattle.substitution.specs.Substituted.{Sizes, Measured, Within, Extends, Room, Written};
 
@@ -34,18 +34,6 @@ fn larger(a: usize, b: usize) -> usize
         return b;
     }
     a
-}
-
-// n bytes of `from`, from `start` on, over `to` from `at` on.
-pub fn copy_part(from: &[u8], start: usize, n: usize, to: &mut [u8], at: usize)
-    requires { ⌜ (start + n ≤ length (now from)) × (at + n ≤ length (now to)) ⌝ }
-    ensures { λ _. ⌜ now (to .exit) ≡ place at (take n (drop start (now (from .entry)))) (now (to .entry)) ⌝ }
-{
-    let mut j: usize = 0;
-    while j < n {
-        to[at + j] = from[start + j];
-        j += 1;
-    }
 }
 
 // How many binders stand over operand j of a record of this kind.
@@ -137,13 +125,13 @@ pub fn extent_at(script: &[u8], i: usize) -> Extent
 // Three pieces one after the other, over `to` from `at` on.
 fn write_three(front: &[u8], mid: &[u8], back: &[u8], to: &mut [u8], at: usize) -> usize
     requires { ⌜ at + length (now front ++ (now mid ++ now back)) ≤ length (now to) ⌝ }
-    ensures { λ r. ⌜ (r ≡ at + length (now (front .entry) ++ (now (mid .entry) ++ now (back .entry)))) × (now (to .exit) ≡ place at (now (front .entry) ++ (now (mid .entry) ++ now (back .entry))) (now (to .entry))) ⌝ }
+    ensures { λ r. ⌜ (r ≡ at + length (now (front .entry) ++ (now (mid .entry) ++ now (back .entry)))) × (now (to .exit) ≡ splice at (now (front .entry) ++ (now (mid .entry) ++ now (back .entry))) (now (to .entry))) ⌝ }
 {
-    copy_part(front, 0, front.len(), to, at);
+    memory::copy_part(front, 0, front.len(), to, at);
     let a = at + front.len();
-    copy_part(mid, 0, mid.len(), to, a);
+    memory::copy_part(mid, 0, mid.len(), to, a);
     let b = a + mid.len();
-    copy_part(back, 0, back.len(), to, b);
+    memory::copy_part(back, 0, back.len(), to, b);
     b + back.len()
 }
 
@@ -166,7 +154,7 @@ fn write_variable(
         let end = write_three(front, mid, back, to, at);
         return Wrote { next, end };
     }
-    copy_part(script, WIDTH * i, WIDTH, to, at);
+    memory::copy_part(script, WIDTH * i, WIDTH, to, at);
     let end = at + WIDTH;
     Wrote { next, end }
 }
@@ -190,7 +178,7 @@ pub fn write(
     if k == 0 {
         return write_variable(script, i, front, mid, back, n, to, at);
     }
-    copy_part(script, WIDTH * i, WIDTH, to, at);
+    memory::copy_part(script, WIDTH * i, WIDTH, to, at);
     let count = script::arity(k);
     let mut next = i + 1;
     let mut end = at + WIDTH;

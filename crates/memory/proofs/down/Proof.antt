@@ -1,12 +1,10 @@
-use mathlib.Core.Path.{_≡_, refl, sym, ap, _∙_}
-use mathlib.Core.List.{List, _∷_, _++_}
-use Prim.Native.Nat.{ℕ, _+_, _-_, _≤_, _<_}
+use mathlib.Core.Path.{_≡_, refl, _∙_}
+use mathlib.Core.List.{_∷_}
+use Prim.Native.Nat.{_-_, _≤_}
 use native.Mathlib.Omega.{arith}
-use lib.ListN.{length, take, drop, set, length-set, length-drop, length-take}
-use lib.Seq.{paste, paste-zero, length-paste}
-use Rattle.memory.specs.Splice.{splice}
-use Rattle.memory.proofs.Laws.{length-splice, paste-splice, copy-step, down-step, risen, risen-start, risen-end, up-step}
-use borrow.Author.Needs.{needs}
+use lib.ListN.{length, drop, length-set, length-drop}
+use lib.Seq.{paste, paste-zero}
+use Rattle.memory.proofs.Turns.{paste-splice, down-step}
 use Rattle.memory.proofs.down.Statement.{statement}
 use Rattle.memory.proofs.down.Tie as tie
 use Rattle.memory.proofs.down.Reads as reads

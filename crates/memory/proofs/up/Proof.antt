@@ -1,12 +1,9 @@
-use mathlib.Core.Path.{_≡_, refl, sym, ap, _∙_}
-use mathlib.Core.List.{List, _∷_, _++_}
-use Prim.Native.Nat.{ℕ, _+_, _-_, _≤_, _<_}
+use mathlib.Core.Path.{_≡_, refl, _∙_}
+use mathlib.Core.List.{_∷_}
+use Prim.Native.Nat.{_≤_}
 use native.Mathlib.Omega.{arith}
-use lib.ListN.{length, take, drop, set, length-set, length-drop, length-take}
-use lib.Seq.{paste, paste-zero, length-paste}
-use Rattle.memory.specs.Splice.{splice}
-use Rattle.memory.proofs.Laws.{length-splice, paste-splice, copy-step, down-step, risen, risen-start, risen-end, up-step}
-use borrow.Author.Needs.{needs}
+use lib.ListN.{length, length-set}
+use Rattle.memory.proofs.Turns.{risen, risen-start, risen-end, up-step}
 use Rattle.memory.proofs.up.Statement.{statement}
 use Rattle.memory.proofs.up.Tie as tie
 use Rattle.memory.proofs.up.Reads as reads

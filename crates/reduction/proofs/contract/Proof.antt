@@ -16,7 +16,7 @@ use Rattle.demands.proofs.Steps.{within-limits}
 use Rattle.redex.specs.Fates.{contractum}
 use Rattle.redex.proofs.Turns.{site-moves}
 use Rattle.substitution.proofs.Nodes.{depth-size}
-use Rattle.substitution.proofs.Placed.{place-front}
+use Rattle.memory.proofs.Laws.{splice-front}
 use Rattle.reduction.specs.Plans.{Fires, Ready, Measures}
 use Rattle.reduction.specs.Steps.{Placing, told}
 use Rattle.reduction.specs.declared.Stepped.the-variants.{Moved}
@@ -172,7 +172,7 @@ returns-2 : tie.Need-returns-2
 returns-2 c =
     let h = goes-on (c .before .before .before .before) in (
       ap Moved (total (c .before .before .before .before .before .before .before)) ∙ sym (ap told h),
-      c .before .before .write-new .ensures (placing (c .before .before .before .before)) ∙ place-front (encode (whole (c .before .before .before .before .before .before .before .before .before .before .before .before .before .before .before .before))) (c .before .before .before .before .before .before .before .before .before .before .before .before .before .before .before .before .args .written .now) ∙ sym (ap (after (c .before .before .before .before .before .before .before .before .before .before .before .before .before .before .before .before)) h),
+      c .before .before .write-new .ensures (placing (c .before .before .before .before)) ∙ splice-front (encode (whole (c .before .before .before .before .before .before .before .before .before .before .before .before .before .before .before .before))) (c .before .before .before .before .before .before .before .before .before .before .before .before .before .before .before .before .args .written .now) ∙ sym (ap (after (c .before .before .before .before .before .before .before .before .before .before .before .before .before .before .before .before)) h),
     )
 
 pub contract-spec : {M : Type 1} → statement M

@@ -10,7 +10,7 @@ use Rattle.rules.specs.Groups.{readers}
 use Rattle.rules.specs.Types.{type-at}
 use Rattle.rules.specs.Script.{records, encode, size}
 use Rattle.redex.specs.Fates.{contractum}
-use Rattle.substitution.specs.Place.{place}
+use Rattle.memory.specs.Splice.{splice}
 use Rattle.reduction.specs.Plans.{Fit}
 use Rattle.reduction.specs.Steps.{Placing}
 use Rattle.reduction.proofs.Splices.{redex-at, redex-small, redex-shallow, length-is, new-size, end-inside, new-term}
@@ -99,7 +99,7 @@ returns c q =
     (c .before .before .before .before .before .before .write-contractum .last .1 .1 .1 .1 .1 .0) _ (q .end-is) (ap (λ n. 6 * s .args .at + 6 * n) (q .count-is)) (c .before .before .before .before .before .before .before .before .before .before .copy-part .ensures)
     (c .before .before .before .before .before .before .before .before .before .before .copy-part .kept .1 .1 .1 .0) (c .before .before .before .before .before .before .write-contractum .ensures (fit s q _ (c .before .before .before .before .before .before .before .before .before .before .copy-part .kept .1 .1 .1 .0)))
     (c .before .before .before .before .before .before .write-contractum .kept .1 .1 .1 .1 .1 .0) (c .before .before .copy-part2 .ensures)
-    ∙ ap (λ (e : Term). place 0 (encode e) (s .args .written .now)) (sym (q .whole-is))
+    ∙ ap (λ (e : Term). splice 0 (encode e) (s .args .written .now)) (sym (q .whole-is))
 
 pub write-new-spec : {M : Type 1} → statement M
 write-new-spec =

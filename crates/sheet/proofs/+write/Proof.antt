@@ -11,7 +11,7 @@ use Rattle.calculus.specs.Terms.{Term, is-value}
 use Rattle.rules.specs.Answer.{Bytes}
 use Rattle.script.specs.Place.{At}
 use Rattle.script.proofs.Stands.{kind-of, op1, op2, here, room-one, stands-kind, at-op1, at-op2}
-use Rattle.sheet.specs.Place.{place}
+use Rattle.memory.specs.Splice.{splice}
 use Rattle.sheet.specs.Shown.{shown}
 use Rattle.sheet.specs.Value.{Room, Wrote}
 use Rattle.sheet.proofs.Values.{first-part, pairs}
@@ -81,10 +81,10 @@ module _ (t : ℕ) where
   line-kept c = c .before .before .before .put .kept .0
 
   line-is : (c : Known)
-      → line-written c ≡ place (4 * start c .args .at) (shown (start c .args .groups .now) (start c .args .group .0) (start c .args .value .now) (start c .args .i)) (start c .args .sheet .now)
+      → line-written c ≡ splice (4 * start c .args .at) (shown (start c .args .groups .now) (start c .args .group .0) (start c .args .value .now) (start c .args .i)) (start c .args .sheet .now)
   line-is c =
       c .before .before .before .put .ensures
-      ∙ ap (λ (b : Bytes). place (4 * start c .args .at) b (start c .args .sheet .now)) (c .before .before .before .before .line-of .ensures)
+      ∙ ap (λ (b : Bytes). splice (4 * start c .args .at) b (start c .args .sheet .now)) (c .before .before .before .before .line-of .ensures)
 
   kind-is : (c : Known) (u : Term) → Stands (start c) u → c .kind .result ≡ kind-of u
   kind-is c u w = c .kind .ensures ∙ stands-kind _ _ u w

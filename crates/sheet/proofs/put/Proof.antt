@@ -3,7 +3,7 @@ use native.Mathlib.Omega.{arith}
 use Prim.Native.Nat.{_*_}
 use lib.ListN.{length-set}
 use borrow.Author.Needs.{needs}
-use Rattle.sheet.proofs.Placed.{four}
+use Rattle.memory.proofs.Laws.{four}
 use Rattle.sheet.proofs.put.Statement.{statement}
 use Rattle.sheet.proofs.put.Tie as tie
 

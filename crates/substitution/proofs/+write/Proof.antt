@@ -13,7 +13,7 @@ use Rattle.rules.specs.Script.{encode, arity}
 use Rattle.rules.proofs.TermCode.{term-operands, term-head}
 use Rattle.script.specs.Place.{At}
 use Rattle.script.proofs.Stands.{kind-of, room-one, stands-kind, stands-arity}
-use Rattle.substitution.specs.Place.{place}
+use Rattle.memory.specs.Splice.{splice}
 use Rattle.substitution.specs.Binders.{binds}
 use Rattle.substitution.specs.Substituted.{Room}
 use Rattle.substitution.proofs.Reading.{head-at, size-from}
@@ -24,7 +24,7 @@ use Rattle.substitution.proofs.write.Kinds as write-kinds
 use Rattle.substitution.proofs.+write.Lts-write as lts
 use Rattle.script.proofs.kind.Reads as kind-reads
 use Rattle.substitution.proofs.binders.Reads as binders-reads
-use Rattle.substitution.proofs.copy_part.Reads as copy-part-reads
+use Rattle.memory.proofs.copy_part.Reads as copy-part-reads
 use Rattle.script.proofs.arity.Reads as arity-reads
 use Rattle.substitution.proofs.write_variable.Reads as write-variable-reads
 use Rattle.substitution.proofs.+write.{statement}
@@ -100,8 +100,8 @@ module _ (t : ℕ) where
   record-kept : (c : Known) → length (record-written c) ≡ length (entry c .args .to .now)
   record-kept c = c .before .before .before .copy-part .kept .1 .1 .1 .0
 
-  record-is : (c : Known) (u : Term) → Stands (entry c) u → record-written c ≡ place (entry c .args .at) (term-head u) (entry c .args .to .now)
-  record-is c u a = c .before .before .before .copy-part .ensures ∙ ap (λ (b : Bytes). place (entry c .args .at) b (entry c .args .to .now)) (head-at a)
+  record-is : (c : Known) (u : Term) → Stands (entry c) u → record-written c ≡ splice (entry c .args .at) (term-head u) (entry c .args .to .now)
+  record-is c u a = c .before .before .before .copy-part .ensures ∙ ap (λ (b : Bytes). splice (entry c .args .at) b (entry c .args .to .now)) (head-at a)
 
   other-kind : (c : Known) (u : Term) → Stands (entry c) u → kind-of u ≡ 0 → ⊥
   other-kind c u a h = c .before .before .before .before .before .if1 .left (c .before .before .before .before .before .before .kind .ensures ∙ stands-kind _ _ _ a ∙ h)

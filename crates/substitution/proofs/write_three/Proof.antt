@@ -5,7 +5,7 @@ use Prim.Native.Nat.{_+_}
 use native.Mathlib.Omega.{arith}
 use borrow.Author.Needs.{needs}
 use lib.ListN.{length}
-use Rattle.substitution.proofs.Placed.{three-length, place-three}
+use Rattle.substitution.proofs.Pieces.{three-length, three-joined}
 use Rattle.substitution.proofs.write_three.Statement.{statement}
 use Rattle.substitution.proofs.write_three.Tie as tie
 
@@ -42,7 +42,7 @@ returns : tie.Need-returns
 returns c =
     let st = c .before .before .before .before .before .before .before .before .before .before .before .before .before .before .before .before in (
       omega (arith, lengths st),
-      place-three (st .args .front .now) (st .args .mid .now) (st .args .back .now) (st .args .to .now) _ _ _ (st .args .at) (st .pre)
+      three-joined (st .args .front .now) (st .args .mid .now) (st .args .back .now) (st .args .to .now) _ _ _ (st .args .at) (st .pre)
           (c .before .before .before .before .before .before .before .before .before .before .copy-part .ensures) (c .before .before .before .before .before .before .copy-part2 .ensures) (c .before .before .copy-part3 .ensures),
     )
 

@@ -1,12 +1,10 @@
 -- `typing::hand_over` meets its contract.
 use mathlib.Core.Path.{sym, ap, _∙_}
-use mathlib.Core.List.{_++_}
 use native.Mathlib.Omega.{arith}
-use native.Mathlib.Nat.{zero-add}
-use lib.ListN.{length, drop}
 use Rattle.rules.specs.Types.{encode-type}
 use Rattle.rules.specs.Calls.{answer-after}
 use Rattle.memory.specs.Splice.{splice}
+use Rattle.memory.proofs.Laws.{splice-front}
 use Rattle.typing.proofs.Front.{held-long, held-bytes}
 use Rattle.typing.proofs.Rules.{Typed-as, typed-as, refused-as}
 use borrow.Author.Needs.{needs}
@@ -46,7 +44,7 @@ returns-2 c =
     let old = (c .before .before .before .before .before .before .before .before .before) .args .answer .now in
     let a = typed-as {n = n} ((c .before .before .before .before .before) .x .given .1) (v .meets) in
     (c .before .before) .copy .ensures ∙ ap (λ x. splice 0 x old) (held-bytes (a .wrote .sized .held) n (a .wrote .sized .count))
-    ∙ ap (λ j. encode-type (a .type) ++ drop j old) (zero-add (length (encode-type (a .type))))
+    ∙ splice-front (encode-type (a .type)) old
     ∙ sym (ap (λ o. answer-after o old) (a .is))
 
 pub hand-over-spec : {M : Type 1} → statement M

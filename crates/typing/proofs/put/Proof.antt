@@ -22,7 +22,7 @@ same-length : tie.Need-same-length
 same-length c = search needs
 
 returns : tie.Need-returns
-returns c = four (c .args .w .now) (c .args .kind) (c .args .r .0) (c .args .ir .0) (c .pre)
+returns c = four 0 (c .args .w .now) (c .args .kind) (c .args .r .0) (c .args .ir .0) (c .pre)
 
 pub put-spec : {M : Type 1} → statement M
 put-spec =

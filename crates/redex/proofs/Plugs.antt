@@ -1,4 +1,4 @@
--- The splice: a term in an evaluation context is what stands before the hole, the term, what stands after it.
+-- Plugging in bytes: a term in an evaluation context is what stands before the hole, the term, what stands after it.
 use mathlib.Core.Path.{_≡_, refl, sym, ap, _∙_}
 use mathlib.Core.List.{_++_, append-assoc, append-nil}
 use Prim.Native.Nat.{ℕ, _+_, _*_, _≤_, _<_, max}
@@ -14,19 +14,19 @@ use Rattle.rules.proofs.PrefixLaws.{encode-length}
 use Rattle.rules.proofs.TermCode.{term-code}
 use Rattle.redex.specs.Contexts.{before, after, offset, beside, level, depth-beside}
 
-pub splice : (E : Context) (e : Term) → encode (plug E e) ≡ before E ++ (encode e ++ after E)
+pub plug-bytes : (E : Context) (e : Term) → encode (plug E e) ≡ before E ++ (encode e ++ after E)
 unfolding encode plug before after
-splice hole e = sym (append-nil (encode e))
-splice (app-left w E a) e = rw (splice E e) (simp append-assoc)
-splice (app-right w v h E) e = rw (splice E e) (simp append-assoc)
-splice (in-proj first w E) e = rw (splice E e)
-splice (in-proj second w E) e = rw (splice E e)
-splice (in-inj first k i E) e = rw (splice E e)
-splice (in-inj second k i E) e = rw (splice E e)
-splice (pair-left k E b) e = rw (splice E e) (simp append-assoc)
-splice (pair-right k v h E) e = rw (splice E e) (simp append-assoc)
-splice (in-protect m E) e = rw (splice E e)
-splice (in-case w i E a b) e = rw (splice E e) (simp append-assoc)
+plug-bytes hole e = sym (append-nil (encode e))
+plug-bytes (app-left w E a) e = rw (plug-bytes E e) (simp append-assoc)
+plug-bytes (app-right w v h E) e = rw (plug-bytes E e) (simp append-assoc)
+plug-bytes (in-proj first w E) e = rw (plug-bytes E e)
+plug-bytes (in-proj second w E) e = rw (plug-bytes E e)
+plug-bytes (in-inj first k i E) e = rw (plug-bytes E e)
+plug-bytes (in-inj second k i E) e = rw (plug-bytes E e)
+plug-bytes (pair-left k E b) e = rw (plug-bytes E e) (simp append-assoc)
+plug-bytes (pair-right k v h E) e = rw (plug-bytes E e) (simp append-assoc)
+plug-bytes (in-protect m E) e = rw (plug-bytes E e)
+plug-bytes (in-case w i E a b) e = rw (plug-bytes E e) (simp append-assoc)
 
 pub plug-size : (E : Context) (e : Term) → size (plug E e) ≡ beside E + size e
 unfolding size plug beside
@@ -93,18 +93,13 @@ after-length (in-case w i E a b) =
 
 -- What stands around a term is what stands around another in its place.
 pub before-is : (E : Context) (e : Term) → take (script-width * offset E) (encode (plug E e)) ≡ before E
-before-is E e = rw (splice E e) (take-at (before E) (encode e ++ after E) (script-width * offset E) (before-length E))
+before-is E e = rw (plug-bytes E e) (take-at (before E) (encode e ++ after E) (script-width * offset E) (before-length E))
 
 pub after-is : (E : Context) (e : Term) → drop (script-width * (offset E + size e)) (encode (plug E e)) ≡ after E
 after-is E e =
-    ap (drop (script-width * (offset E + size e))) (splice E e ∙ sym (append-assoc (before E) (encode e) (after E)))
+    ap (drop (script-width * (offset E + size e))) (plug-bytes E e ∙ sym (append-assoc (before E) (encode e) (after E)))
     ∙ drop-at (before E ++ encode e) (after E) (script-width * (offset E + size e))
     (omega (arith, length-append (before E) (encode e), before-length E, encode-length term-code e))
-
-pub respliced : (E : Context) (e e′ : Term)
-    → encode (plug E e′)
-    ≡ take (script-width * offset E) (encode (plug E e)) ++ (encode e′ ++ drop (script-width * (offset E + size e)) (encode (plug E e)))
-respliced E e e′ = rw (before-is E e, after-is E e) (splice E e′)
 
 -- a context in a context
 pub compose-offset : (E F : Context) → offset (compose E F) ≡ offset E + offset F

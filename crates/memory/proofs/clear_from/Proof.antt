@@ -1,18 +1,17 @@
--- `reduction::clear_from` meets its contract.
+-- `memory::clear_from` meets its contract.
 use mathlib.Core.Path.{_≡_, refl, _∙_}
 use mathlib.Core.List.{_++_, append-nil}
 use Prim.Native.Nat.{_-_, _≤_}
 use native.Mathlib.Omega.{arith}
-use lib.ListN.{length, take, drop, length-set}
+use lib.ListN.{length, take, drop, replicate, length-set}
 use lib.Seq.{drop-length}
-use Rattle.rules.specs.Calls.{zeros}
-use Rattle.reduction.proofs.Buffers.{zeros-more, zeros-none}
-use Rattle.reduction.proofs.clear_from.Statement.{statement}
-use Rattle.reduction.proofs.clear_from.Tie as tie
+use Rattle.memory.proofs.Turns.{zeros-more, zeros-none}
+use Rattle.memory.proofs.clear_from.Statement.{statement}
+use Rattle.memory.proofs.clear_from.Tie as tie
 
 abbrev Inv-loop : tie.InvT-loop
 Inv-loop buffer₀ start i₀ buffer i =
-    (start ≤ i) × (i ≤ length buffer₀) × (length buffer ≡ length buffer₀) × (buffer ≡ (take start buffer₀ ++ zeros (i - start)) ++ drop i buffer₀)
+    (start ≤ i) × (i ≤ length buffer₀) × (length buffer ≡ length buffer₀) × (buffer ≡ (take start buffer₀ ++ replicate (i - start) 0) ++ drop i buffer₀)
 
 abbrev μ-loop : tie.MeasureT-loop
 μ-loop buffer₀ start i₀ buffer i = length buffer₀ - i

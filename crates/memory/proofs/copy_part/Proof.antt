@@ -3,19 +3,20 @@ use mathlib.Core.Path.{_≡_, refl, sym, _∙_}
 use Prim.Native.Nat.{_-_, _≤_}
 use native.Mathlib.Omega.{arith}
 use lib.ListN.{length, take, drop, length-set}
-use Rattle.substitution.specs.Place.{place}
-use Rattle.substitution.proofs.Placed.{place-none, copy-turn}
-use Rattle.substitution.proofs.copy_part.Statement.{statement}
-use Rattle.substitution.proofs.copy_part.Tie as tie
+use Rattle.memory.specs.Splice.{splice}
+use Rattle.memory.proofs.Laws.{splice-none}
+use Rattle.memory.proofs.Turns.{copy-turn}
+use Rattle.memory.proofs.copy_part.Statement.{statement}
+use Rattle.memory.proofs.copy_part.Tie as tie
 
 abbrev Inv-loop : tie.InvT-loop
-Inv-loop from start n to₀ at j₀ to j = (j ≤ n) × (length to ≡ length to₀) × (to ≡ place at (take j (drop start from)) to₀)
+Inv-loop from start n to₀ at j₀ to j = (j ≤ n) × (length to ≡ length to₀) × (to ≡ splice at (take j (drop start from)) to₀)
 
 abbrev μ-loop : tie.MeasureT-loop
 μ-loop from start n to₀ at j₀ to j = n - j
 
 loop-holds : tie.Need-loop-holds Inv-loop μ-loop
-loop-holds c = (omega arith, refl, sym (place-none (c .args .at) (c .args .to .now)))
+loop-holds c = (omega arith, refl, sym (splice-none (c .args .at) (c .args .to .now)))
 
 add-to : tie.Need-add-to Inv-loop μ-loop
 add-to c = omega (arith, c .before .before .pre, c .before .before .good)
