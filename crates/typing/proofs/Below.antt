@@ -10,6 +10,7 @@ use Rattle.rules.specs.Answer.{Bytes}
 use Rattle.rules.specs.Script.{kind, encode, size, depth}
 use Rattle.rules.proofs.Prefix.{total, joined}
 use Rattle.rules.proofs.Nodes.{operand-at}
+use Rattle.rules.proofs.PrefixLaws.{encode-length}
 use Rattle.rules.proofs.TermCode.{term-code, term-operands}
 use Rattle.script.specs.Place.{At}
 use Rattle.typing.specs.Operands.{operand-count, first-operand, second-operand, third-operand, Formed}
@@ -63,6 +64,59 @@ module _ (s : Bytes) where
   third-at (case w i e a b) j p o z = at-operand s (case w i e a b) p j (e ∷ a ∷ []) b [] refl (omega arith)
   third-at (protect m e) j p o z = absurd (omega arith)
   third-at (mu i e) j p o z = absurd (omega arith)
+
+-- the last operand ends where the term does
+first-ends : (e : Term) → operand-count e ≡ 1 → size e ≡ 1 + size (first-operand e)
+unfolding operand-count size
+first-ends (var n) o = absurd (omega arith)
+first-ends (unit k) o = absurd (omega arith)
+first-ends (lam k i e) o = omega arith
+first-ends (pair k a b) o = absurd (omega arith)
+first-ends (inj d k i e) o = omega arith
+first-ends (app w f a) o = absurd (omega arith)
+first-ends (proj d w e) o = omega arith
+first-ends (case w i e a b) o = absurd (omega arith)
+first-ends (protect m e) o = omega arith
+first-ends (mu i e) o = omega arith
+
+second-ends : (e : Term) → operand-count e ≡ 2 → size e ≡ 1 + size (first-operand e) + size (second-operand e)
+unfolding operand-count size
+second-ends (var n) o = absurd (omega arith)
+second-ends (unit k) o = absurd (omega arith)
+second-ends (lam k i e) o = absurd (omega arith)
+second-ends (pair k a b) o = omega arith
+second-ends (inj d k i e) o = absurd (omega arith)
+second-ends (app w f a) o = omega arith
+second-ends (proj d w e) o = absurd (omega arith)
+second-ends (case w i e a b) o = absurd (omega arith)
+second-ends (protect m e) o = absurd (omega arith)
+second-ends (mu i e) o = absurd (omega arith)
+
+third-ends : (e : Term) → operand-count e ≡ 3 → size e ≡ 1 + size (first-operand e) + size (second-operand e) + size (third-operand e)
+unfolding operand-count size
+third-ends (var n) o = absurd (omega arith)
+third-ends (unit k) o = absurd (omega arith)
+third-ends (lam k i e) o = absurd (omega arith)
+third-ends (pair k a b) o = absurd (omega arith)
+third-ends (inj d k i e) o = absurd (omega arith)
+third-ends (app w f a) o = absurd (omega arith)
+third-ends (proj d w e) o = absurd (omega arith)
+third-ends (case w i e a b) o = omega arith
+third-ends (protect m e) o = absurd (omega arith)
+third-ends (mu i e) o = absurd (omega arith)
+
+module _ (s : Bytes) (e : Term) (p : s ≡ encode e) where
+  long-as : length s ≡ 6 * size e
+  long-as = ap length p ∙ encode-length term-code e
+
+  pub first-whole : operand-count e ≡ 1 → length s ≡ 6 * (1 + size (first-operand e))
+  first-whole o = omega (arith, long-as, first-ends e o)
+
+  pub second-whole : (j : ℕ) → j ≡ 1 + size (first-operand e) → operand-count e ≡ 2 → length s ≡ 6 * (j + size (second-operand e))
+  second-whole j z o = omega (arith, long-as, second-ends e o)
+
+  pub third-whole : (j : ℕ) → j ≡ 1 + size (first-operand e) + size (second-operand e) → operand-count e ≡ 3 → length s ≡ 6 * (j + size (third-operand e))
+  third-whole j z o = omega (arith, long-as, third-ends e o)
 
 -- one level and one record more than an operand
 pub record Smaller (e d : Term) (before : ℕ) : Type 0 where

@@ -191,7 +191,7 @@ module _ (p r ir m n : ℕ) (s t : Ty) {b : ℕ} {w y x : Bytes} (f : sizeT s + 
       let z₂ : w₂ ≡ splice 4 (encode-type s ++ encode-type t) w =
       e₂ ∙ ap (λ u. splice (4 + 4 * m) u w₁) ey ∙ ap (λ j. splice j (encode-type t) w₁) a
       ∙ ap (splice (4 + length (encode-type s)) (encode-type t)) (e₁ ∙ ap (λ u. splice 4 u w) ex)
-      ∙ join-after 4 (4 + length (encode-type s)) (encode-type s) (encode-type t) w (omega arith) in
+      ∙ join-after 4 (4 + length (encode-type s)) (encode-type s) (encode-type t) w refl (omega arith) in
       meets-of (fits-yes p product (record { r = r; ir = ir }) s t f) (finds (placed product z₂ e₃))
 
 -- another record before the sides of a type

@@ -10,7 +10,7 @@ use Rattle.calculus.specs.Types.{Former, sum, product, function, Ty, one, node,
 use Rattle.calculus.specs.Subtyping.{subtype, below}
 use Rattle.calculus.specs.Terms.{first, second, Term, var, unit, lam, pair, inj, app, proj, case, protect, mu}
 use Rattle.rules.specs.Answer.{Bytes, Answer, accepted, refused, _>>=_, _>>_, ask}
-use Rattle.rules.specs.Limits.{type-width, answer-length}
+use Rattle.rules.specs.Limits.{type-width, script-width, answer-length}
 use Rattle.rules.specs.Types.{no-type}
 use Rattle.rules.specs.Script.{encode, size}
 use Rattle.rules.specs.Groups.{readers}
@@ -237,6 +237,12 @@ pub data Set-aside (S : Security) (place r : ℕ) (t : Ty) (Γ : List Ty) (b : �
   aside : may-read S place sum t r ≡ accepted tt → x ≡ Typed (b + 1) → Beside t b w′ → Entered (left t ∷ Γ) b w (b + 1) w′
       → Set-aside S place r t Γ b w x w′
   fails : {q p : ℕ} → may-read S place sum t r ≡ refused q p → x ≡ Refused q p → Set-aside S place r t Γ b w x w′
+
+-- operand j of the o of a node whose part is s, counted from 1, starts at record i; the last one ends with the part
+pub record Operand-at (s : Bytes) (o j i : ℕ) : Type 0 where
+  pub tree : Term
+  pub at : At s i tree
+  pub whole : j ≡ o → length s ≡ script-width * (i + size tree)
 
 -- the part of s from record i to record `end` is an operand's
 pub record Part-of (s : Bytes) (i end : ℕ) : Type 0 where

@@ -22,7 +22,7 @@ use borrow.Author.Needs.{needs}
 use borrow.Rule.Slice.PartMut.{putMid, same-len-mid}
 use Rattle.script.specs.Place.{At}
 use Rattle.typing.proofs.Apart.{typing-leaf}
-use Rattle.typing.proofs.Below.{first-at, second-at, third-at, at-most-three, branch-binders}
+use Rattle.typing.proofs.Below.{first-at, second-at, third-at, first-whole, second-whole, third-whole, at-most-three, branch-binders}
 use Rattle.typing.proofs.Steps.{went, Went, Done1, Done2, Done3, Done5, Done6, level, enter-refuses, low-within, ready1, first-refuses, done1, room2, one-of, last-meets, front, some-of, middle-refuses, done2, mid-within, second-placed, ready2, second-refuses, done3, two-of as both-of, ends-meets, case-named, branch-held, turn-asks, holds4, turn-refuses, done5, third-placed, ready3, third-refuses, done6, done-room, done-asks, done-meets}
 use Prim.Native.Nat.{ℕ, _<_}
 use borrow.Fn.Kinds.{In}
@@ -41,7 +41,7 @@ use Rattle.typing.proofs.last.Reads as last-reads
 use Rattle.typing.proofs.leaf.Reads as leaf-reads
 use Rattle.typing.proofs.middle.Reads as middle-reads
 use Rattle.typing.proofs.operand.Reads as operand-reads
-use Rattle.script.proofs.end_of.Reads as end-of-reads
+use Rattle.typing.proofs.operand_end.Reads as operand-end-reads
 use Rattle.typing.proofs.operands.Reads as operands-reads
 use Rattle.typing.proofs.turn.Reads as turn-reads
 use Rattle.typing.proofs.+type_node.{statement}
@@ -59,7 +59,7 @@ type-node-below t =
 
 -- what `type-node` is given of the functions that it calls
 abbrev type-node-claims : ℕ → type-node-lts.Claims
-type-node-claims t = (operands-reads.Asked, operands-reads.Learnt, leaf-reads.Asked, leaf-reads.Learnt, enter-reads.Asked, enter-reads.Learnt, end-of-reads.Asked, end-of-reads.Learnt, kept-front-reads.Asked, kept-front-reads.Learnt, operand-reads.Asked, operand-reads.Learnt, type-node-below t, type-node.Post, last-reads.Asked, last-reads.Learnt, indirect-reads.Asked, indirect-reads.Learnt, middle-reads.Asked, middle-reads.Learnt, kept-between-reads.Asked, kept-between-reads.Learnt, ends-reads.Asked, ends-reads.Learnt, index-reads.Asked, index-reads.Learnt, turn-reads.Asked, turn-reads.Learnt, done-reads.Asked, done-reads.Learnt)
+type-node-claims t = (operands-reads.Asked, operands-reads.Learnt, leaf-reads.Asked, leaf-reads.Learnt, enter-reads.Asked, enter-reads.Learnt, operand-end-reads.Asked, operand-end-reads.Learnt, kept-front-reads.Asked, kept-front-reads.Learnt, operand-reads.Asked, operand-reads.Learnt, type-node-below t, type-node.Post, last-reads.Asked, last-reads.Learnt, indirect-reads.Asked, indirect-reads.Learnt, middle-reads.Asked, middle-reads.Learnt, kept-between-reads.Asked, kept-between-reads.Learnt, ends-reads.Asked, ends-reads.Learnt, index-reads.Asked, index-reads.Learnt, turn-reads.Asked, turn-reads.Learnt, done-reads.Asked, done-reads.Learnt)
 
 module _ (t : ℕ) where
   abbrev start : type-node-lts.After-operands (type-node-claims t) (type-node-at t) type-node.Post → type-node-lts.Start (type-node-claims t) (type-node-at t) type-node.Post
@@ -155,14 +155,14 @@ module _ (t : ℕ) where
   at1 : (c : type-node-lts.After-known-told (type-node-claims t) (type-node-at t) type-node.Post) (v : Rd (ops1 c)) → At (sc (ops1 c)) 1 (first-operand (v .tree))
   at1 c v = first-at (sc (ops1 c)) (v .tree) (v .is) (some1 c v)
 
-  type-node-end-of-requires : type-node-lts.Need-end-of-requires (type-node-claims t) (type-node-at t) type-node.Post
-  type-node-end-of-requires c κs = record { tree = first-operand (rd (ops1 c) .tree); at = at1 c (rd (ops1 c)) }
+  type-node-operand-end-requires : type-node-lts.Need-operand-end-requires (type-node-claims t) (type-node-at t) type-node.Post
+  type-node-operand-end-requires c κs = record { tree = first-operand (rd (ops1 c) .tree); at = at1 c (rd (ops1 c)); whole = λ z. first-whole (sc (ops1 c)) (rd (ops1 c) .tree) (rd (ops1 c) .is) (sym (count (ops1 c) (rd (ops1 c))) ∙ sym z) }
 
   type-node-kept-front-requires : type-node-lts.Need-kept-front-requires (type-node-claims t) (type-node-at t) type-node.Post
   type-node-kept-front-requires c κs = long (rd (ops1 (c .before)) .tree) (rd (ops1 (c .before)) .is)
 
-  end1 : (c : type-node-lts.After-kept-front (type-node-claims t) (type-node-at t) type-node.Post) (v : Rd (ops1 (c .before .before))) → (c .before) .end-of .result ≡ 1 + size (first-operand (v .tree))
-  end1 c v = (c .before) .end-of .ensures (first-operand (v .tree)) (at1 (c .before .before) v)
+  end1 : (c : type-node-lts.After-kept-front (type-node-claims t) (type-node-at t) type-node.Post) (v : Rd (ops1 (c .before .before))) → (c .before) .operand-end .result ≡ 1 + size (first-operand (v .tree))
+  end1 c v = (c .before) .operand-end .ensures (first-operand (v .tree)) (at1 (c .before .before) v)
 
   low1 : (c : type-node-lts.After-kept-front (type-node-claims t) (type-node-at t) type-node.Post) (v : Rd (ops1 (c .before .before))) → c .kept-front .result ≡ kept-front (v .tree)
   low1 c v = c .kept-front .ensures (v .tree) (v .is)
@@ -301,17 +301,17 @@ module _ (t : ℕ) where
   by-is : (c : type-node-lts.After-known-told3 (type-node-claims t) (type-node-at t) type-node.Post) (v : Rd (ops3 c)) → (c .before .before .before .before .before .before .before) .indirect .result .0 ≡ top (t1 c v) .ir
   by-is c v = (c .before .before .before .before .before .before .before) .indirect .ensures (t1 c v) (front-1 (c .before .before .before .before .before .before .before .before .before) v .held)
 
-  at2 : (c : type-node-lts.After-known-told3 (type-node-claims t) (type-node-at t) type-node.Post) (v : Rd (ops3 c)) → At (sc (ops3 c)) ((c .before .before .before .before .before .before .before .before .before .before .before .before .before .before .before .before .before .before .before) .end-of .result) (second-operand (v .tree))
-  at2 c v = second-at (sc (ops3 c)) (v .tree) ((c .before .before .before .before .before .before .before .before .before .before .before .before .before .before .before .before .before .before .before) .end-of .result) (v .is) (some2 (c .before .before .before .before .before .before .before .before .before) v) (end1 (c .before .before .before .before .before .before .before .before .before .before .before .before .before .before .before .before .before .before) v)
+  at2 : (c : type-node-lts.After-known-told3 (type-node-claims t) (type-node-at t) type-node.Post) (v : Rd (ops3 c)) → At (sc (ops3 c)) ((c .before .before .before .before .before .before .before .before .before .before .before .before .before .before .before .before .before .before .before) .operand-end .result) (second-operand (v .tree))
+  at2 c v = second-at (sc (ops3 c)) (v .tree) ((c .before .before .before .before .before .before .before .before .before .before .before .before .before .before .before .before .before .before .before) .operand-end .result) (v .is) (some2 (c .before .before .before .before .before .before .before .before .before) v) (end1 (c .before .before .before .before .before .before .before .before .before .before .before .before .before .before .before .before .before .before) v)
 
-  type-node-end-of-requires-2 : type-node-lts.Need-end-of-requires-2 (type-node-claims t) (type-node-at t) type-node.Post
-  type-node-end-of-requires-2 c κs = record { tree = second-operand (rd (ops3 c) .tree); at = at2 c (rd (ops3 c)) }
+  type-node-operand-end-requires-2 : type-node-lts.Need-operand-end-requires-2 (type-node-claims t) (type-node-at t) type-node.Post
+  type-node-operand-end-requires-2 c κs = record { tree = second-operand (rd (ops3 c) .tree); at = at2 c (rd (ops3 c)); whole = λ z. second-whole (sc (ops3 c)) (rd (ops3 c) .tree) (rd (ops3 c) .is) ((c .before .before .before .before .before .before .before .before .before .before .before .before .before .before .before .before .before .before .before) .operand-end .result) (end1 (c .before .before .before .before .before .before .before .before .before .before .before .before .before .before .before .before .before .before) (rd (ops3 c))) (sym (count (ops3 c) (rd (ops3 c))) ∙ sym z) }
 
   type-node-kept-between-requires : type-node-lts.Need-kept-between-requires (type-node-claims t) (type-node-at t) type-node.Post
   type-node-kept-between-requires c κs = search needs
 
-  end2 : (c : type-node-lts.After-kept-between (type-node-claims t) (type-node-at t) type-node.Post) (v : Rd (ops3 (c .before .before))) → (c .before) .end-of2 .result ≡ (c .before .before .before .before .before .before .before .before .before .before .before .before .before .before .before .before .before .before .before .before .before) .end-of .result + size (second-operand (v .tree))
-  end2 c v = (c .before) .end-of2 .ensures (second-operand (v .tree)) (at2 (c .before .before) v)
+  end2 : (c : type-node-lts.After-kept-between (type-node-claims t) (type-node-at t) type-node.Post) (v : Rd (ops3 (c .before .before))) → (c .before) .operand-end2 .result ≡ (c .before .before .before .before .before .before .before .before .before .before .before .before .before .before .before .before .before .before .before .before .before) .operand-end .result + size (second-operand (v .tree))
+  end2 c v = (c .before) .operand-end2 .ensures (second-operand (v .tree)) (at2 (c .before .before) v)
 
   mid2 : (c : type-node-lts.After-kept-between (type-node-claims t) (type-node-at t) type-node.Post) (v : Rd (ops3 (c .before .before))) → c .kept-between .result ≡ kept-between (operand-count (v .tree))
   mid2 c v = c .kept-between .ensures ∙ ap kept-between (count (ops3 (c .before .before)) v)
@@ -328,7 +328,7 @@ module _ (t : ℕ) where
   abbrev u2 : type-node-lts.After-operand2 (type-node-claims t) (type-node-at t) type-node.Post → Bytes
   u2 c = take (length (w3 (c .before .before .before)) - (c .before) .kept-between .result) (drop ((c .before) .kept-between .result) (w3 (c .before .before .before)))
 
-  abbrev ready2-at : (c : type-node-lts.After-operand2 (type-node-claims t) (type-node-at t) type-node.Post) (v : Rd (ops3 (c .before .before .before))) → Ready (ty (ops3 (c .before .before .before))) (c .operand2 .result .now) (pl (ops3 (c .before .before .before)) + (c .before .before .before .before .before .before .before .before .before .before .before .before .before .before .before .before .before .before .before .before .before .before) .end-of .result) (c2 (c .before .before .before)) (u2 c)
+  abbrev ready2-at : (c : type-node-lts.After-operand2 (type-node-claims t) (type-node-at t) type-node.Post) (v : Rd (ops3 (c .before .before .before))) → Ready (ty (ops3 (c .before .before .before))) (c .operand2 .result .now) (pl (ops3 (c .before .before .before)) + (c .before .before .before .before .before .before .before .before .before .before .before .before .before .before .before .before .before .before .before .before .before .before) .operand-end .result) (c2 (c .before .before .before)) (u2 c)
   ready2-at c v = ready2 (gr (ops3 (c .before .before .before))) v (some2 (c .before .before .before .before .before .before .before .before .before .before .before .before) v) (done-2 (c .before .before .before) v) (mid2 (c .before) v) (end1 (c .before .before .before .before .before .before .before .before .before .before .before .before .before .before .before .before .before .before .before .before .before) v) (part2 c v) (to-end ((c .before) .kept-between .result) (w3 (c .before .before .before)))
 
   type-node-add-type-node-2 : type-node-lts.Need-add-type-node-2 (type-node-claims t) (type-node-at t) type-node.Post
@@ -362,7 +362,7 @@ module _ (t : ℕ) where
   len-z2 c = c .type-node2 .kept .1 .1 .1 .1 .1 .0
 
   met2 : (c : type-node-lts.After-type-node2 (type-node-claims t) (type-node-at t) type-node.Post) (v : Rd (ops3 (c .before .before .before .before .before)))
-      → Meets (typing (readers (gr (ops3 (c .before .before .before .before .before)))) (type-at (ty (ops3 (c .before .before .before .before .before)))) (second-context (v .ctx) (v .tree) (t1 (c .before .before .before .before .before) v)) (pl (ops3 (c .before .before .before .before .before)) + (c .before .before .before .before .before .before .before .before .before .before .before .before .before .before .before .before .before .before .before .before .before .before .before .before) .end-of .result) (second-operand (v .tree))) (c2 (c .before .before .before .before .before)) (u2 (c .before .before)) (c .type-node2 .result) (z2 c)
+      → Meets (typing (readers (gr (ops3 (c .before .before .before .before .before)))) (type-at (ty (ops3 (c .before .before .before .before .before)))) (second-context (v .ctx) (v .tree) (t1 (c .before .before .before .before .before) v)) (pl (ops3 (c .before .before .before .before .before)) + (c .before .before .before .before .before .before .before .before .before .before .before .before .before .before .before .before .before .before .before .before .before .before .before .before) .operand-end .result) (second-operand (v .tree))) (c2 (c .before .before .before .before .before)) (u2 (c .before .before)) (c .type-node2 .result) (z2 c)
   met2 c v = c .type-node2 .ensures (ready2-at (c .before .before) v)
 
   abbrev w4 : type-node-lts.After-type-node2 (type-node-claims t) (type-node-at t) type-node.Post → Bytes
@@ -460,17 +460,17 @@ module _ (t : ℕ) where
       done5 (gr (ops5 c)) v (three (c .before .before .before .before .before .before .before) v) (i4 (c .before .before .before .before .before .before)) (done-3 (c .before .before .before .before .before .before .before .before) v) (turned (c .before .before .before .before) v) ((c .before) .match5 .keys1) (len5 (c .before .before .before .before))
       (omega (arith, branch-binders (v .ctx) (t2 (c .before .before .before .before .before .before .before .before) v) (v .tree) (three (c .before .before .before .before .before .before .before) v), done-2 (c .before .before .before .before .before .before .before .before .before .before .before .before .before .before .before .before .before .before) v .binders, v .binders))
 
-  start3 : (c : type-node-lts.After-enum-told5 (type-node-claims t) (type-node-at t) type-node.Post) (v : Rd (ops5 c)) → (c .before .before .before .before .before .before .before .before .before .before .before .before .before .before .before .before .before) .end-of2 .result ≡ 1 + size (first-operand (v .tree)) + size (second-operand (v .tree))
+  start3 : (c : type-node-lts.After-enum-told5 (type-node-claims t) (type-node-at t) type-node.Post) (v : Rd (ops5 c)) → (c .before .before .before .before .before .before .before .before .before .before .before .before .before .before .before .before .before) .operand-end2 .result ≡ 1 + size (first-operand (v .tree)) + size (second-operand (v .tree))
   start3 c v = omega (arith, end2 (c .before .before .before .before .before .before .before .before .before .before .before .before .before .before .before .before) v, end1 (c .before .before .before .before .before .before .before .before .before .before .before .before .before .before .before .before .before .before .before .before .before .before .before .before .before .before .before .before .before .before .before .before .before .before .before .before) v)
 
-  at3 : (c : type-node-lts.After-enum-told5 (type-node-claims t) (type-node-at t) type-node.Post) (v : Rd (ops5 c)) → At (sc (ops5 c)) ((c .before .before .before .before .before .before .before .before .before .before .before .before .before .before .before .before .before) .end-of2 .result) (third-operand (v .tree))
-  at3 c v = third-at (sc (ops5 c)) (v .tree) ((c .before .before .before .before .before .before .before .before .before .before .before .before .before .before .before .before .before) .end-of2 .result) (v .is) (omega (arith, three (c .before .before .before .before .before .before .before) v)) (start3 c v)
+  at3 : (c : type-node-lts.After-enum-told5 (type-node-claims t) (type-node-at t) type-node.Post) (v : Rd (ops5 c)) → At (sc (ops5 c)) ((c .before .before .before .before .before .before .before .before .before .before .before .before .before .before .before .before .before) .operand-end2 .result) (third-operand (v .tree))
+  at3 c v = third-at (sc (ops5 c)) (v .tree) ((c .before .before .before .before .before .before .before .before .before .before .before .before .before .before .before .before .before) .operand-end2 .result) (v .is) (omega (arith, three (c .before .before .before .before .before .before .before) v)) (start3 c v)
 
-  type-node-end-of-requires-3 : type-node-lts.Need-end-of-requires-3 (type-node-claims t) (type-node-at t) type-node.Post
-  type-node-end-of-requires-3 c κs = record { tree = third-operand (rd (ops5 c) .tree); at = at3 c (rd (ops5 c)) }
+  type-node-operand-end-requires-3 : type-node-lts.Need-operand-end-requires-3 (type-node-claims t) (type-node-at t) type-node.Post
+  type-node-operand-end-requires-3 c κs = record { tree = third-operand (rd (ops5 c) .tree); at = at3 c (rd (ops5 c)); whole = λ z. third-whole (sc (ops5 c)) (rd (ops5 c) .tree) (rd (ops5 c) .is) ((c .before .before .before .before .before .before .before .before .before .before .before .before .before .before .before .before .before) .operand-end2 .result) (start3 c (rd (ops5 c))) (sym (count (ops5 c) (rd (ops5 c))) ∙ sym z) }
 
-  end3 : (c : type-node-lts.After-end-of3 (type-node-claims t) (type-node-at t) type-node.Post) (v : Rd (ops5 (c .before))) → c .end-of3 .result ≡ (c .before .before .before .before .before .before .before .before .before .before .before .before .before .before .before .before .before .before) .end-of2 .result + size (third-operand (v .tree))
-  end3 c v = c .end-of3 .ensures (third-operand (v .tree)) (at3 (c .before) v)
+  end3 : (c : type-node-lts.After-operand-end3 (type-node-claims t) (type-node-at t) type-node.Post) (v : Rd (ops5 (c .before))) → c .operand-end3 .result ≡ (c .before .before .before .before .before .before .before .before .before .before .before .before .before .before .before .before .before .before) .operand-end2 .result + size (third-operand (v .tree))
+  end3 c v = c .operand-end3 .ensures (third-operand (v .tree)) (at3 (c .before) v)
 
   type-node-operand-requires-3 : type-node-lts.Need-operand-requires-3 (type-node-claims t) (type-node-at t) type-node.Post
   type-node-operand-requires-3 c κs = let v = rd (ops5 (c .before)) in record { tree = third-operand (v .tree); at = at3 (c .before) v; ends = end3 c v }
@@ -478,7 +478,7 @@ module _ (t : ℕ) where
   part3 : (c : type-node-lts.After-operand3 (type-node-claims t) (type-node-at t) type-node.Post) (v : Rd (ops5 (c .before .before))) → c .operand3 .result .now ≡ encode (third-operand (v .tree))
   part3 c v = c .operand3 .ensures .0 (third-operand (v .tree)) (at3 (c .before .before) v) (end3 (c .before) v)
 
-  abbrev ready3-at : (c : type-node-lts.After-operand3 (type-node-claims t) (type-node-at t) type-node.Post) (v : Rd (ops5 (c .before .before))) → Ready (ty (ops5 (c .before .before))) (c .operand3 .result .now) (pl (ops5 (c .before .before)) + (c .before .before .before .before .before .before .before .before .before .before .before .before .before .before .before .before .before .before .before) .end-of2 .result) (c2 (c .before .before .before .before .before .before .before .before .before .before .before .before .before .before .before .before .before .before .before .before)) (w5 (c .before .before .before .before .before .before))
+  abbrev ready3-at : (c : type-node-lts.After-operand3 (type-node-claims t) (type-node-at t) type-node.Post) (v : Rd (ops5 (c .before .before))) → Ready (ty (ops5 (c .before .before))) (c .operand3 .result .now) (pl (ops5 (c .before .before)) + (c .before .before .before .before .before .before .before .before .before .before .before .before .before .before .before .before .before .before .before) .operand-end2 .result) (c2 (c .before .before .before .before .before .before .before .before .before .before .before .before .before .before .before .before .before .before .before .before)) (w5 (c .before .before .before .before .before .before))
   ready3-at c v = ready3 (gr (ops5 (c .before .before))) v (three (c .before .before .before .before .before .before .before .before .before) v) (i4 (c .before .before .before .before .before .before .before .before)) (done-5 (c .before .before) v) (start3 (c .before .before) v) (part3 c v)
 
   type-node-add-type-node-3 : type-node-lts.Need-add-type-node-3 (type-node-claims t) (type-node-at t) type-node.Post
@@ -503,7 +503,7 @@ module _ (t : ℕ) where
   len6 c = c .type-node3 .kept .1 .1 .1 .1 .1 .0
 
   met3 : (c : type-node-lts.After-type-node3 (type-node-claims t) (type-node-at t) type-node.Post) (v : Rd (ops5 (c .before .before .before .before)))
-      → Meets (typing (readers (gr (ops5 (c .before .before .before .before)))) (type-at (ty (ops5 (c .before .before .before .before)))) (right (t2 (c .before .before .before .before .before .before .before .before .before .before .before .before) v) ∷ v .ctx) (pl (ops5 (c .before .before .before .before)) + (c .before .before .before .before .before .before .before .before .before .before .before .before .before .before .before .before .before .before .before .before .before) .end-of2 .result) (third-operand (v .tree))) (c2 (c .before .before .before .before .before .before .before .before .before .before .before .before .before .before .before .before .before .before .before .before .before .before)) (w5 (c .before .before .before .before .before .before .before .before)) (c .type-node3 .result) (w6 c)
+      → Meets (typing (readers (gr (ops5 (c .before .before .before .before)))) (type-at (ty (ops5 (c .before .before .before .before)))) (right (t2 (c .before .before .before .before .before .before .before .before .before .before .before .before) v) ∷ v .ctx) (pl (ops5 (c .before .before .before .before)) + (c .before .before .before .before .before .before .before .before .before .before .before .before .before .before .before .before .before .before .before .before .before) .operand-end2 .result) (third-operand (v .tree))) (c2 (c .before .before .before .before .before .before .before .before .before .before .before .before .before .before .before .before .before .before .before .before .before .before)) (w5 (c .before .before .before .before .before .before .before .before)) (c .type-node3 .result) (w6 c)
   met3 c v = c .type-node3 .ensures (ready3-at (c .before .before) v)
 
   type-node-same-length-9 : type-node-lts.Need-same-length-9 (type-node-claims t) (type-node-at t) type-node.Post
@@ -548,7 +548,7 @@ pub +type-node-spec : {M : Type 1} → statement M
     (type-node-enum-told t)
     (type-node-same-length-2 t)
     (type-node-returns-2 t)
-    (type-node-end-of-requires t)
+    (type-node-operand-end-requires t)
     (type-node-kept-front-requires t)
     (type-node-operand-requires t)
     (type-node-add-type-node t)
@@ -569,7 +569,7 @@ pub +type-node-spec : {M : Type 1} → statement M
     (type-node-enum-told-3 t)
     (type-node-same-length-5 t)
     (type-node-returns-5 t)
-    (type-node-end-of-requires-2 t)
+    (type-node-operand-end-requires-2 t)
     (type-node-kept-between-requires t)
     (type-node-operand-requires-2 t)
     (type-node-add-type-node-2 t)
@@ -590,7 +590,7 @@ pub +type-node-spec : {M : Type 1} → statement M
     (type-node-enum-told-6 t)
     (type-node-same-length-8 t)
     (type-node-returns-8 t)
-    (type-node-end-of-requires-3 t)
+    (type-node-operand-end-requires-3 t)
     (type-node-operand-requires-3 t)
     (type-node-add-type-node-3 t)
     (type-node-type-node-requires-3 t)
