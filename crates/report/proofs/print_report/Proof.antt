@@ -1,0 +1,77 @@
+-- `print_report` is safe: the buffers have the lengths asked for, and every report fits.
+use mathlib.Core.Path.{sym}
+use Prim.Native.Nat.{_≤_}
+use native.Mathlib.Omega.{arith}
+use lib.ListN.{length}
+use lib.Seq.{length-take-le}
+use Rattle.report.proofs.Texts.{report-length}
+use borrow.Author.Needs.{needs}
+use Rattle.report.proofs.print_report.Statement.{statement}
+use Rattle.report.proofs.print_report.Tie as tie
+
+slice-aggregate-write-report : tie.Need-slice-aggregate-write-report
+slice-aggregate-write-report c = search needs
+
+slice-aggregate-write-report-2 : tie.Need-slice-aggregate-write-report-2
+slice-aggregate-write-report-2 c = search needs
+
+slice-aggregate-write-report-3 : tie.Need-slice-aggregate-write-report-3
+slice-aggregate-write-report-3 c = search needs
+
+slice-aggregate-write-report-4 : tie.Need-slice-aggregate-write-report-4
+slice-aggregate-write-report-4 c = search needs
+
+slice-aggregate-write-report-5 : tie.Need-slice-aggregate-write-report-5
+slice-aggregate-write-report-5 c = search needs
+
+slice-aggregate-write-report-6 : tie.Need-slice-aggregate-write-report-6
+slice-aggregate-write-report-6 c = search needs
+
+write-report-requires : tie.Need-write-report-requires
+write-report-requires c κs = (omega arith, omega arith, omega arith, omega arith, omega arith, omega arith)
+
+fits : (c : tie.After-write-report) → c .write-report .result ≤ length (c .write-report .last .1 .1 .1 .1 .1 .1 .1 .1 .0)
+fits c =
+    let s = c .before .before .before .before .before .before .before .before .before .before in
+    let w = c .write-report .ensures in
+    omega (arith, w .ends, report-length (s .args .groups .now) (s .args .types .now) (s .args .script .now))
+
+array-share-prefix-out : tie.Need-array-share-prefix-out
+array-share-prefix-out c = fits (c .before .before .before .before .before .before)
+
+slice-aggregate-write-all : tie.Need-slice-aggregate-write-all
+slice-aggregate-write-all c = let w = c .before .before .before .before .before .before .before in sym (length-take-le (w .write-report .result) (w .write-report .last .1 .1 .1 .1 .1 .1 .1 .1 .0) (fits w))
+
+write-all-requires : tie.Need-write-all-requires
+write-all-requires c κs = search needs
+
+slice-aggregate-fail : tie.Need-slice-aggregate-fail
+slice-aggregate-fail c = search needs
+
+fail-requires : tie.Need-fail-requires
+fail-requires c κs = search needs
+
+returns : tie.Need-returns
+returns c = search needs
+
+returns-2 : tie.Need-returns-2
+returns-2 c = search needs
+
+pub print-report-spec : {M : Type 1} → statement M
+print-report-spec =
+    tie.close
+    (tie.spec
+    slice-aggregate-write-report
+    slice-aggregate-write-report-2
+    slice-aggregate-write-report-3
+    slice-aggregate-write-report-4
+    slice-aggregate-write-report-5
+    slice-aggregate-write-report-6
+    write-report-requires
+    array-share-prefix-out
+    slice-aggregate-write-all
+    write-all-requires
+    slice-aggregate-fail
+    fail-requires
+    returns
+    returns-2)

@@ -1,0 +1,222 @@
+// The report program: the files `groups`, `types` and `script` of the current folder are checked and run, and the report is
+// written to standard output. What a program reads and writes is in no contract, so `write_report` makes the whole text of the
+// files' bytes in a lent buffer, and `main` only reads, calls it and writes.
+
+ghost use mathlib.Core.Path.{_≡_};
+ghost use Prim.Native.Nat.{ℕ, _+_, _≤_};
+ghost use lib.ListN.{length};
+ghost use Rattle.rules.specs.Limits.{work-length, answer-length, report-budget, report-buffer, report-sheet};
+ghost use Rattle.rules.specs.Script.{encode};
+ghost use Rattle.rules.specs.Run.{Ran};
+ghost use Rattle.rules.specs.Calls.{running};
+ghost use Rattle.rules.specs.Report.{value-text, run-text, report};
+ghost use Rattle.text.specs.Written.{Written};
+ghost use Rattle.report.specs.declared.Loaded.the-variants.{Bytes};
+ghost use Rattle.report.specs.Room.{value-room, run-room, report-room};
+use libc::STDOUT_FILENO;
+use reduction::RunAnswer;
+use sheet::Sheet;
+use typing::Found;
+
+const WIDTH: usize = 6;
+
+const SHEET_WIDTH: usize = 4;
+
+const BUDGET: u64 = 1000;
+
+// The reader group of the sheet.
+const READER: u64 = 0;
+
+const WORK_LENGTH: usize = 64512;
+
+const ANSWER_LENGTH: usize = 252;
+
+const RUN_LENGTH: usize = 49152;
+
+const SHEET_LENGTH: usize = 32768;
+
+// No report is longer.
+const REPORT_LENGTH: usize = 417903;
+
+// The value's text: the sheet of the run's last term for group 0, only when the end is 0.
+fn value_text(
+    groups: &[u8],
+    types: &[u8],
+    value: &[u8],
+    end: u8,
+    sheet: &mut [u8],
+    out: &mut [u8],
+    at: usize,
+) -> usize
+    requires { ⌜ (length (now sheet) ≡ report-sheet) × (at + value-room ≤ length (now out)) ⌝ }
+    ensures { λ after. ⌜ ((x : Ran) → x .end ≡ end → encode (x .last) ≡ now (value .entry)
+        → Written at (value-text (now (groups .entry)) (now (types .entry)) x) (now (out .entry)) after (now (out .exit))) ⌝ }
+{
+    if end != 0 {
+        return at;
+    }
+    let a = sheet::page(groups, types, value, READER, sheet);
+    match a {
+        Sheet::Written(count) => {
+            let bytes = SHEET_WIDTH * count;
+            text::sheet_lines(&sheet[0..bytes], out, at)
+        }
+        Sheet::Refused(question, place) => text::refusal_line(
+            question as u64,
+            place as u64,
+            out,
+            at,
+        ),
+    }
+}
+
+// The run's text: its line, and the value's text. An accepted script's run isn't refused; the definition has a text for every
+// answer, and so has this.
+fn run_text(
+    groups: &[u8],
+    types: &[u8],
+    script: &[u8],
+    first: &mut [u8],
+    scratch: &mut [u8],
+    sheet: &mut [u8],
+    out: &mut [u8],
+    at: usize,
+) -> usize
+    requires { ⌜ (length (now first) ≡ report-buffer) × (length (now scratch) ≡ report-buffer) × (length (now sheet) ≡ report-sheet)
+        × (at + run-room ≤ length (now out)) ⌝ }
+    ensures { λ after. ⌜ Written at (run-text (now (groups .entry)) (now (types .entry))
+        (running (now (groups .entry)) (now (types .entry)) (now (script .entry)) report-budget report-buffer report-buffer))
+        (now (out .entry)) after (now (out .exit)) ⌝ }
+{
+    let a = reduction::run(groups, types, script, BUDGET, first, scratch);
+    match a {
+        RunAnswer::Ended(end, steps, records) => {
+            let after = text::run_line(end as u64, steps, records as u64, out, at);
+            let bytes = WIDTH * records;
+            value_text(groups, types, &first[0..bytes], end, sheet, out, after)
+        }
+        RunAnswer::Refused(question, place) => text::refusal_line(
+            question as u64,
+            place as u64,
+            out,
+            at,
+        ),
+    }
+}
+
+// The whole report, written over the front of `out`; its later bytes are kept. The answer is the report's length.
+fn write_report(
+    groups: &[u8],
+    types: &[u8],
+    script: &[u8],
+    work: &mut [u8],
+    answer: &mut [u8],
+    first: &mut [u8],
+    scratch: &mut [u8],
+    sheet: &mut [u8],
+    out: &mut [u8],
+) -> usize
+    requires { ⌜ (length (now work) ≡ work-length) × (length (now answer) ≡ answer-length) × (length (now first) ≡ report-buffer)
+        × (length (now scratch) ≡ report-buffer) × (length (now sheet) ≡ report-sheet) × (report-room ≤ length (now out)) ⌝ }
+    ensures { λ end. ⌜ Written 0 (report (now (groups .entry)) (now (types .entry)) (now (script .entry)))
+        (now (out .entry)) end (now (out .exit)) ⌝ }
+{
+    let a = typing::checking(groups, types, script, work, answer);
+    match a {
+        Found::Typed(records) => {
+            let at = text::accepted_line(records as u64, out, 0);
+            run_text(groups, types, script, first, scratch, sheet, out, at)
+        }
+        Found::Refused(question, place) => text::refusal_line(
+            question as u64,
+            place as u64,
+            out,
+            0,
+        ),
+    }
+}
+
+// What came of a file: so many of its bytes at the front of a buffer, or an error.
+enum Loaded {
+    Bytes(usize),
+    Failed,
+}
+
+// A file that can't be opened is empty where it is missing. Any other error is told on standard error.
+fn unopened(path: &[u8]) -> Loaded
+    ensures { λ a. ⌜ ((n : ℕ) → a ≡ Bytes n → n ≡ 0) ⌝ }
+{
+    if os::errno() == libc::ENOENT {
+        return Loaded::Bytes(0);
+    }
+    os::fail(path);
+    Loaded::Failed
+}
+
+// Whether nothing is left to read: a short read alone may be an error.
+fn at_end(fd: i32) -> bool {
+    let mut next = [0u8; 1];
+    libc::read(fd, &mut next) == 0
+}
+
+// The bytes of a file, as many as the buffer takes.
+fn load(path: &[u8], buffer: &mut [u8]) -> Loaded
+    ensures { λ a. ⌜ ((n : ℕ) → a ≡ Bytes n → n ≤ length (now (buffer .exit))) ⌝ }
+{
+    let fd = os::open_read(path);
+    if fd < 0 {
+        return unopened(path);
+    }
+    let n = io::read_full(fd, buffer);
+    if n < buffer.len() && !at_end(fd) {
+        os::fail(path);
+        libc::close(fd);
+        return Loaded::Failed;
+    }
+    libc::close(fd);
+    Loaded::Bytes(n)
+}
+
+// The report of three files' bytes, on standard output.
+fn print_report(groups: &[u8], types: &[u8], script: &[u8]) {
+    let mut work = [0u8; WORK_LENGTH];
+    let mut answer = [0u8; ANSWER_LENGTH];
+    let mut first = [0u8; RUN_LENGTH];
+    let mut scratch = [0u8; RUN_LENGTH];
+    let mut sheet = [0u8; SHEET_LENGTH];
+    let mut out = [0u8; REPORT_LENGTH];
+    let end = write_report(
+        groups,
+        types,
+        script,
+        &mut work,
+        &mut answer,
+        &mut first,
+        &mut scratch,
+        &mut sheet,
+        &mut out,
+    );
+    if !io::write_all(STDOUT_FILENO, &out[..end]) {
+        os::fail(b"standard output");
+    }
+}
+
+// A buffer takes one byte more than the longest valid file, so that a longer one is refused for its length.
+fn main() {
+    let mut groups = [0u8; 129];
+    let g = load(b"groups", &mut groups);
+    let Loaded::Bytes(rows) = g else {
+        return;
+    };
+    let mut types = [0u8; 16385];
+    let t = load(b"types", &mut types);
+    let Loaded::Bytes(named) = t else {
+        return;
+    };
+    let mut script = [0u8; 49153];
+    let s = load(b"script", &mut script);
+    let Loaded::Bytes(written) = s else {
+        return;
+    };
+    print_report(&groups[..rows], &types[..named], &script[..written]);
+}
