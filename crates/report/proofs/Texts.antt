@@ -21,7 +21,9 @@ use Rattle.rules.specs.Report.{refusal-line, accepted-line, run-line, sheet-lin
 use Rattle.demands.proofs.Answers.{accepted-inj, and-then, asked}
 use Rattle.substitution.proofs.Reading.{term-length}
 use Rattle.packing.proofs.Exported.{run-ends}
+use Rattle.text.specs.Written.{Written}
 use Rattle.text.specs.Lines.{run-words, sheet-line}
+use Rattle.text.proofs.Placed.{keeps}
 use Rattle.text.proofs.Lines.{refusal-length, accepted-length, run-length, sheet-length, sheet-lines-first, no-lines}
 use Rattle.report.specs.Room.{value-room, run-room, report-room}
 
@@ -151,7 +153,20 @@ report-refused g t s work answer q p w l e = go (verdict g t s) (e ∙ cc)
     go (accepted type) h = absurd (either (sym h))
     go (refused q′ p′) h = cc
 
--- lengths
+-- lengths: room for the longest line is room for each
+pub refusal-fits : (q p at room : ℕ) → at + 53 ≤ room → at + length (refusal-line q p) ≤ room
+refusal-fits q p at room l = omega (arith, refusal-length q p)
+
+pub accepted-fits : (records at room : ℕ) → at + 30 ≤ room → at + length (accepted-line records) ≤ room
+accepted-fits records at room l = omega (arith, accepted-length records)
+
+-- and what is left after the first line
+pub after-accepted : (records room : ℕ) {end : ℕ} {w w1 : Bytes} → Written 0 (accepted-line records) w end w1 → 30 + room ≤ length w → end + room ≤ length w1
+after-accepted records room x l = omega (arith, x .ends, keeps x (accepted-fits records 0 _ (omega arith)), accepted-length records)
+
+pub run-line-fits : (end steps records at room : ℕ) → at + 81 ≤ room → at + length (run-words end steps records) ≤ room
+run-line-fits end steps records at room l = omega (arith, run-length end steps records)
+
 pub sheet-room : (a : Answer Bytes) → ((b : Bytes) → a ≡ accepted b → length b ≤ report-sheet) → length (sheet-text a) ≤ value-room
 sheet-room (accepted b) f = omega (arith, sheet-length b, f b refl)
 sheet-room (refused q p) f = omega (arith, refusal-length q p)

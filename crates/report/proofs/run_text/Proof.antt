@@ -11,9 +11,8 @@ use Rattle.rules.specs.Calls.{running}
 use Rattle.rules.specs.Report.{run-line, run-text}
 use Rattle.reduction.specs.Runs.{run-reported}
 use Rattle.text.specs.Written.{Written}
-use Rattle.text.proofs.Lines.{run-length, refusal-length}
 use Rattle.text.proofs.Placed.{then, keeps}
-use Rattle.report.proofs.Texts.{Ended, ended, last-in-front, few-records, run-accepted, run-refused, run-line-length}
+use Rattle.report.proofs.Texts.{Ended, ended, last-in-front, few-records, run-accepted, run-refused, refusal-fits, run-line-fits, run-line-length}
 use borrow.Author.Needs.{needs}
 use Rattle.report.proofs.run_text.Statement.{statement}
 use Rattle.report.proofs.run_text.Tie as tie
@@ -59,7 +58,7 @@ few c =
     few-records (s .args .groups .now) (s .args .types .now) (s .args .script .now) report-budget (length (s .args .first .now)) (length (s .args .scratch .now)) (end-of c) (steps-of c) (records-of c) o (run-of c)
 
 run-line-requires : tie.Need-run-line-requires
-run-line-requires c κs = omega (arith, run-length (end-of (c .before)) (steps-of (c .before)) (records-of (c .before)), start (c .before) .pre .3)
+run-line-requires c κs = run-line-fits _ _ _ _ _ (omega (arith, start (c .before) .pre .3))
 
 -- its line
 wrote : (c : tie.After-slice-known7)
@@ -94,7 +93,7 @@ cast-refusal-line : tie.Need-cast-refusal-line
 cast-refusal-line c = search needs
 
 refusal-line-requires : tie.Need-refusal-line-requires
-refusal-line-requires c κs = omega (arith, refusal-length (c .before .before .a2 .given .0 .0) (c .before .before .a2 .given .0 .1 .0), c .before .before .before .before .before .before .before .before .before .before .before .before .before .before .before .before .before .before .pre .3)
+refusal-line-requires c κs = refusal-fits _ _ _ _ (omega (arith, c .before .before .before .before .before .before .before .before .before .before .before .before .before .before .before .before .before .before .pre .3))
 
 same-length : tie.Need-same-length
 same-length c = search needs

@@ -10,10 +10,9 @@ use Rattle.rules.specs.Calls.{sheeting, sheet-records}
 use Rattle.rules.specs.Report.{sheet-lines, sheet-text, value-text}
 use Rattle.sheet.specs.Said.{reported}
 use Rattle.text.specs.Written.{Written}
-use Rattle.text.proofs.Lines.{refusal-length}
 use Rattle.text.proofs.Placed.{nothing}
 use Rattle.report.specs.Room.{value-room}
-use Rattle.report.proofs.Texts.{page-fits, count-within, counted-lines, sheet-refusal, no-value, a-value, sheet-room}
+use Rattle.report.proofs.Texts.{page-fits, count-within, counted-lines, sheet-refusal, no-value, a-value, refusal-fits, sheet-room}
 use borrow.Author.Needs.{needs}
 use Rattle.report.proofs.value_text.Statement.{statement}
 use Rattle.report.proofs.value_text.Tie as tie
@@ -92,7 +91,7 @@ cast-refusal-line : tie.Need-cast-refusal-line
 cast-refusal-line c = search needs
 
 refusal-line-requires : tie.Need-refusal-line-requires
-refusal-line-requires c κs = omega (arith, refusal-length (c .before .before .a2 .given .0 .0) (c .before .before .a2 .given .0 .1 .0), c .before .before .before .before .before .before .before .before .before .before .before .before .before .before .pre .1)
+refusal-line-requires c κs = refusal-fits _ _ _ _ (omega (arith, c .before .before .before .before .before .before .before .before .before .before .before .before .before .before .pre .1))
 
 same-length : tie.Need-same-length
 same-length c = search needs

@@ -1,15 +1,13 @@
 -- `write_report` meets its contract: the first line, and then the run's text.
-use mathlib.Core.Path.{_≡_, sym, ap, subst, _∙_}
-use Prim.Native.Nat.{_+_, _≤_}
+use mathlib.Core.Path.{sym, ap, subst, _∙_}
 use native.Mathlib.Omega.{arith}
 use lib.ListN.{length}
 use Rattle.rules.specs.Answer.{Bytes}
-use Rattle.rules.specs.Report.{accepted-line}
 use Rattle.typing.specs.Answered.{answered}
 use Rattle.text.specs.Written.{Written}
-use Rattle.text.proofs.Lines.{accepted-length, refusal-length}
-use Rattle.text.proofs.Placed.{then, keeps}
-use Rattle.report.proofs.Texts.{report-accepted, report-refused}
+use Rattle.text.proofs.Placed.{then}
+use Rattle.report.specs.Room.{run-room}
+use Rattle.report.proofs.Texts.{report-accepted, report-refused, refusal-fits, accepted-fits, after-accepted}
 use borrow.Author.Needs.{needs}
 use Rattle.report.proofs.write_report.Statement.{statement}
 use Rattle.report.proofs.write_report.Tie as tie
@@ -21,15 +19,12 @@ enum-known-a : tie.Need-enum-known-a
 enum-known-a c = search needs
 
 accepted-line-requires : tie.Need-accepted-line-requires
-accepted-line-requires c κs = omega (arith, accepted-length (c .before .before .a .given .0 .0), c .before .before .before .before .before .before .before .before .before .before .before .before .before .before .before .before .before .before .before .before .pre .5)
+accepted-line-requires c κs = accepted-fits _ 0 _ (omega (arith, c .before .before .before .before .before .before .before .before .before .before .before .before .before .before .before .before .before .before .before .before .pre .5))
 
 run-text-requires : tie.Need-run-text-requires
 run-text-requires c κs =
     let s = c .before .before .before .before .before .before .before .before .before .before .before .before .before .before .before .before .before .before .before .before .before .before .before .before .before .before .before in
-    let n = c .before .before .before .before .before .before .before .before .before .a .given .0 .0 in
-    let w = c .before .before .before .before .before .before .accepted-line .ensures in
-    let room : 0 + length (accepted-line n) ≤ length (s .args .out .now) = omega (arith, accepted-length n, s .pre .5) in
-    (s .pre .2, s .pre .3, s .pre .4, omega (arith, w .ends, keeps w room, accepted-length n, s .pre .5))
+    (s .pre .2, s .pre .3, s .pre .4, after-accepted _ run-room (c .before .before .before .before .before .before .accepted-line .ensures) (omega (arith, s .pre .5)))
 
 enum-known-a-2 : tie.Need-enum-known-a-2
 enum-known-a-2 c = search needs
@@ -38,7 +33,7 @@ cast-refusal-line : tie.Need-cast-refusal-line
 cast-refusal-line c = search needs
 
 refusal-line-requires : tie.Need-refusal-line-requires
-refusal-line-requires c κs = omega (arith, refusal-length (c .before .before .a2 .given .0 .0) (c .before .before .a2 .given .0 .1 .0), c .before .before .before .before .before .before .before .before .before .before .before .before .before .before .before .before .before .before .before .before .pre .5)
+refusal-line-requires c κs = refusal-fits _ _ 0 _ (omega (arith, c .before .before .before .before .before .before .before .before .before .before .before .before .before .before .before .before .before .before .before .before .pre .5))
 
 same-length : tie.Need-same-length
 same-length c = search needs
@@ -62,12 +57,10 @@ returns : tie.Need-returns
 returns c =
     let s = c .before .before .before .before .before .before .before .before .before .before .before .before .before .before .before .before .before .before .before .before .before .before .before .before .before .before .before .before .before .before .before .before .before .before .before .before in
     let a = c .before .before .before .before .before .before .before .before .before .before .before .before .before .before .before .before .before .before .a .given in
-    let n = a .0 .0 in
     let r = c .before .before .before .before .before .before .before .before .run-text in
-    let room : 0 + length (accepted-line n) ≤ length (s .args .out .now) = omega (arith, accepted-length n, s .pre .5) in
     subst (λ (b : Bytes). Written 0 b (s .args .out .now) (r .result) (r .last .1 .1 .1 .1 .1 .1 .0))
-    (sym (report-accepted (s .args .groups .now) (s .args .types .now) (s .args .script .now) (length (s .args .work .now)) (length (s .args .answer .now)) n (s .pre .0) (s .pre .1) (sym (ap answered (a .1)) ∙ c .before .before .before .before .before .before .before .before .before .before .before .before .before .before .before .before .before .before .before .before .before .before .before .before .checking .ensures .0)))
-    (then (c .before .before .before .before .before .before .before .before .before .before .before .before .before .before .before .accepted-line .ensures) (r .ensures) room)
+    (sym (report-accepted (s .args .groups .now) (s .args .types .now) (s .args .script .now) (length (s .args .work .now)) (length (s .args .answer .now)) (a .0 .0) (s .pre .0) (s .pre .1) (sym (ap answered (a .1)) ∙ c .before .before .before .before .before .before .before .before .before .before .before .before .before .before .before .before .before .before .before .before .before .before .before .before .checking .ensures .0)))
+    (then (c .before .before .before .before .before .before .before .before .before .before .before .before .before .before .before .accepted-line .ensures) (r .ensures) (accepted-fits _ 0 _ (omega (arith, s .pre .5))))
 
 same-length-7 : tie.Need-same-length-7
 same-length-7 c = search needs
