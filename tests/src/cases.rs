@@ -103,12 +103,45 @@ pub fn j() -> Inputs {
     with_groups(&[15, 10, 12, 8])
 }
 
+/// J's 1 ⊔ 2 in a script: the first of a pair of group 1 that group 2 protects, read as `w`. It is
+/// for 3, and not for the larger of the two.
+pub fn joined_readers(w: u8) -> Inputs {
+    let script = [
+        record(7, w, 0, 0),
+        record(10, 0, 2, 0),
+        record(3, 1, 1, 0),
+        record(1, 0, 0, 0),
+        record(1, 0, 0, 0),
+    ]
+    .concat();
+    Inputs { script, ..j() }
+}
+
 pub fn k() -> Inputs {
     with_groups(&[1, 2])
 }
 
 pub fn l() -> Inputs {
     with_groups(&[5, 6, 4])
+}
+
+/// B's tables with a value that shows every word to group 0: ((first unit, second unit), (function,
+/// closed unit)), the last pair closed too.
+pub fn every_word() -> Inputs {
+    let script = [
+        record(3, 0, 0, 0),
+        record(3, 0, 0, 0),
+        record(4, 0, 0, 0),
+        record(1, 0, 0, 0),
+        record(5, 0, 0, 0),
+        record(1, 0, 0, 0),
+        record(3, 1, 0, 0),
+        record(2, 0, 0, 4),
+        record(0, 0, 0, 0),
+        record(1, 1, 1, 0),
+    ]
+    .concat();
+    with_script(script)
 }
 
 /// Every case's inputs with its letter.

@@ -11,6 +11,7 @@ pub mod calls;
 pub mod cases;
 #[cfg(feature = "engine")]
 pub mod engine;
+pub mod folders;
 pub mod generate;
 pub mod groups;
 pub mod limits;

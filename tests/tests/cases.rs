@@ -170,20 +170,12 @@ fn case_j() {
     check_finds(&inputs, &[0, 3, 3, 0]);
     run_reports(&inputs, 1000, 0, 1, 1, Some(&record(1, 3, 3, 0)));
     // And it decides an end: a pair of group 1 protected by group 2 is for group 3, not for the larger of the two.
-    let read_as = |w| {
-        [
-            record(7, w, 0, 0),
-            record(10, 0, 2, 0),
-            record(3, 1, 1, 0),
-            record(1, 0, 0, 0),
-            record(1, 0, 0, 0),
-        ]
-        .concat()
-    };
-    let inputs = Inputs { script: read_as(2), ..inputs };
+    let inputs = cases::joined_readers(2);
     check_refuses(&inputs, 21, 0);
     run_reports(&inputs, 1000, 2, 1, 4, None);
-    let inputs = Inputs { script: read_as(3), ..inputs };
+    assert_eq!(report_of(&inputs), "refused 21 at 0\n");
+    let inputs = cases::joined_readers(3);
+    assert_eq!(report_of(&inputs), "accepted 1\nend 0 steps 3 records 1\nclosed 0 0\n");
     check_finds(&inputs, &[0, 3, 3, 0]);
     run_reports(&inputs, 1000, 0, 3, 1, Some(&record(1, 3, 3, 0)));
 }
@@ -214,22 +206,8 @@ fn a_missing_file_is_empty() {
 
 #[test]
 fn every_word_is_printed() {
-    // ((first unit, second unit), (function, closed unit)), read by group 0.
-    let script = [
-        record(3, 0, 0, 0),
-        record(3, 0, 0, 0),
-        record(4, 0, 0, 0),
-        record(1, 0, 0, 0),
-        record(5, 0, 0, 0),
-        record(1, 0, 0, 0),
-        record(3, 1, 0, 0),
-        record(2, 0, 0, 4),
-        record(0, 0, 0, 0),
-        record(1, 1, 1, 0),
-    ]
-    .concat();
     assert_eq!(
-        report_of(&Inputs { script, ..cases::b() }),
+        report_of(&cases::every_word()),
         "accepted 13\nend 0 steps 0 records 10\npair 0 0\npair 0 0\nfirst 0 0\nunit 0 0\n\
          second 0 0\nunit 0 0\nclosed 0 0\nfunction 0 0\nclosed 0 0\n"
     );
