@@ -28,7 +28,7 @@ pub data Directed (S : Security) : Direction → Ty → Ty → Type 0 where
 
 -- The test.
 
-same-refl : (f : Former) → So (same f f)
+pub same-refl : (f : Former) → So (same f f)
 same-refl sum = refl
 same-refl product = refl
 same-refl function = refl

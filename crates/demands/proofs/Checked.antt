@@ -5,15 +5,16 @@ use Prim.Native.Nat.{ℕ, _≤_, _<_}
 use native.Mathlib.Omega.{arith}
 use lib.ListN.{length, getD}
 use Rattle.calculus.specs.Terms.{Term}
-use Rattle.rules.specs.Answer.{Bytes, Octets, Answer, accepted}
+use Rattle.rules.specs.Answer.{Bytes, Octets, accepted}
 use Rattle.rules.specs.Limits.{script-limit, depth-limit}
-use Rattle.rules.specs.Script.{encode, term, size, depth, q13, q14, q15, q16, q17, q18, q19}
+use Rattle.rules.specs.Script.{encode, term, size, depth, q13, q14, q15, q16, q17, q18}
 use Rattle.rules.specs.Calls.{types-check, script-check}
-use Rattle.rules.proofs.ScriptLength.{Fitting, q13-fitting, q13-encode}
-use Rattle.rules.proofs.Scripts.{Whole, whole, q17-encode}
+use Rattle.rules.proofs.ScriptLength.{q13-fitting, q13-encode}
+use Rattle.rules.proofs.Scripts.{whole, q17-encode}
 use Rattle.rules.proofs.NodeQuestions.{q14-encode}
 use Rattle.rules.proofs.Depth.{q18-depth, q18-encode}
-use Rattle.demands.proofs.Answers.{and-then, go-on}
+use Rattle.demands.proofs.Answers.{go-on}
+use Rattle.rules.proofs.Asked.{and-then}
 use Rattle.demands.proofs.Groups.{Lattice}
 use Rattle.demands.proofs.Formed.{Formed}
 use Rattle.demands.proofs.Questions.{questions-formed, formed-questions}

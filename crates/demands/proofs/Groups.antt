@@ -1,21 +1,22 @@
 -- A groups table that passes questions 2 to 7 is a lattice with 0 at the bottom, and readers over it obey the calculus's laws.
 use mathlib.Core.Path.{_≡_, refl, sym, ap, _∙_}
-use mathlib.Core.Bool.{Bool, true, false, not, _&&_, So, Bool·beq, false≢true}
+use mathlib.Core.Bool.{Bool, true, false, _&&_, So, Bool·beq, false≢true}
 use mathlib.Core.Option.{Option, none, some}
-use Prim.Native.Nat.{ℕ, zero, suc, _+_, _*_, _/_, _%_, _^_, _≤_, _<_}
+use Prim.Native.Nat.{ℕ, zero, _+_, _*_, _%_, _^_, _≤_, _<_}
 use native.Mathlib.Omega.{arith}
 use native.Mathlib.Decide.{decLt}
 use native.Mathlib.Nat.{zero-div, div-eq-of-lt, pow-le-pow-right}
 use borrow.Author.Tests.{eqb-true, leb-true, ltb-true}
-use lib.Dec.{eqb, leb, ltb, eqb-refl}
-use lib.ListN.{length, getD, List·getD-eq-default}
-use Rattle.calculus.specs.Security.{Property, Security, Laws}
-use Rattle.rules.specs.Answer.{Bytes, byte, Octets, Answer, accepted, refused, each, first-from, first-below, all-below, _⇒_}
+use lib.Dec.{eqb, leb, ltb}
+use lib.ListN.{length, List·getD-eq-default}
+use Rattle.rules.specs.Answer.{Bytes, byte, Octets, accepted, first-below, _⇒_}
 use Rattle.rules.specs.Limits.{row-width, group-limit}
-use Rattle.rules.specs.Groups.{rows, row, bit, leq, common, join, or-zero, within, row-of-lowest, is-number, ok3, ok4, ok5, ok6, ok7, q2, q3, q4, q5, q6, q7, readers}
+use Rattle.rules.specs.Groups.{rows, row, bit, leq, common, join, or-zero, within, row-of-lowest, is-number, ok3, ok4, ok5, ok6, ok7, q2, q3, q4, q5, q6, q7}
 use Rattle.rules.specs.Calls.{groups-check}
 use Rattle.rules.proofs.Search.{each-all, all-below-all, Found, found}
-use Rattle.demands.proofs.Answers.{and-then, asked, both, implied}
+use Rattle.demands.proofs.Answers.{both}
+use Rattle.rules.proofs.Asked.{and-then, ask-true, implied}
+use Rattle.calculus.proofs.Booleans.{same-bits}
 
 -- the order of a lattice of groups, in which a group is what is ⊑ itself
 pub record Lattice (t : Bytes) : Type 0 where
@@ -44,7 +45,7 @@ module _ (t : Bytes) (octets : Octets t) (passed : groups-check t ≡ accepted t
 
   -- question 2
   shape : (eqb (length t % row-width) 0 ≡ true) × (leb 1 (rows t) && leb (rows t) group-limit ≡ true)
-  shape = both (eqb (length t % row-width) 0) _ (asked 2 0 (eqb (length t % row-width) 0 && (leb 1 (rows t) && leb (rows t) group-limit)) (asked-all .0))
+  shape = both (eqb (length t % row-width) 0) _ (ask-true 2 0 (eqb (length t % row-width) 0 && (leb 1 (rows t) && leb (rows t) group-limit)) (asked-all .0))
 
   few : rows t ≤ group-limit
   few = leb-true (rows t) group-limit (both (leb 1 (rows t)) _ (shape .1) .1)
@@ -129,12 +130,6 @@ module _ (t : Bytes) (octets : Octets t) (passed : groups-check t ≡ accepted t
   abbrev Joined : ℕ → ℕ → ℕ → Type 0
   Joined g h j = (Found (common t g h) group-limit 0 j) × ((k : ℕ) → k < group-limit → common t g h k ≡ leq t j k)
 
-  same-bits : (a b : Bool) → Bool·beq a b ≡ true → a ≡ b
-  same-bits true true e = refl
-  same-bits true false e = absurd (false≢true e)
-  same-bits false true e = absurd (false≢true e)
-  same-bits false false e = refl
-
   joined : (g h : ℕ) → g < rows t → h < rows t → Joined g h (join t g h)
   unfolding ok6 join
   joined g h l m =
@@ -160,7 +155,7 @@ module _ (t : Bytes) (octets : Octets t) (passed : groups-check t ≡ accepted t
   -- question 7
   bottom-row : (h : ℕ) → h < rows t → So (leq t 0 h)
   unfolding ok7
-  bottom-row h l = all-below-all (rows t) (λ h. bit (row t 0) h) (asked 7 0 _ (asked-all .5)) h l
+  bottom-row h l = all-below-all (rows t) (λ h. bit (row t 0) h) (ask-true 7 0 _ (asked-all .5)) h l
 
   pub lattice : Lattice t
   lattice = record {

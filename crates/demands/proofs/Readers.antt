@@ -1,18 +1,15 @@
 -- Readers and indirect readers over a lattice of groups obey the calculus's laws.
-use mathlib.Core.Path.{_≡_, refl, sym}
-use mathlib.Core.Bool.{Bool, true, false, So, _&&_}
-use Prim.Native.Nat.{ℕ, zero, _<_}
+use mathlib.Core.Path.{_≡_}
+use mathlib.Core.Bool.{So}
+use Prim.Native.Nat.{ℕ}
 use borrow.Author.Tests.{ltb-true, lt-ltb}
 use lib.Dec.{ltb}
-use Rattle.calculus.specs.Security.{Property, Security, Laws}
+use Rattle.calculus.specs.Security.{Property, Laws}
 use Rattle.rules.specs.Answer.{Bytes}
 use Rattle.rules.specs.Groups.{rows, leq, join, readers}
+use Rattle.calculus.proofs.Booleans.{both as pair-up}
 use Rattle.demands.proofs.Answers.{both}
 use Rattle.demands.proofs.Groups.{Lattice}
-
--- κ ≤ κ′ of readers: both groups
-pair-up : {a b : Bool} → So a → So b → So (a && b)
-pair-up p q = rw (p, q)
 
 module _ {t : Bytes} (X : Lattice t) where
   join-mono : (g h m n : ℕ) → So (leq t g h) → So (leq t m n) → So (leq t (join t g m) (join t h n))

@@ -1,49 +1,44 @@
 -- Demand 2.
 use mathlib.Core.Path.{_≡_, refl, sym, subst, ap, _∙_}
-use mathlib.Core.Bool.{Bool, true, false, cond, So, false≢true}
-use mathlib.Core.List.{List, [], _∷_}
-use mathlib.Core.Option.{Option, none, some}
-use Prim.Native.Nat.{ℕ, suc, zero, _/_, _≤_, _<_, min}
+use mathlib.Core.Bool.{Bool, true, false, cond}
+use mathlib.Core.List.{[], _∷_}
+use mathlib.Core.Option.{some}
+use Prim.Native.Nat.{ℕ, suc, zero, min}
 use native.Mathlib.Omega.{arith}
-use borrow.Author.Tests.{ltb-false}
-use lib.Dec.{ltb}
 use Rattle.calculus.specs.Security.{Security}
 use Rattle.calculus.specs.Types.{Ty}
 use Rattle.calculus.specs.Subtyping.{Subtype}
 use Rattle.calculus.specs.Terms.{Term, is-value}
-use Rattle.calculus.specs.Reduction.{Outcome, value, moved, denied, stuck, step, Reduces}
-use Rattle.calculus.specs.Stuck.{StuckAt, DeniedAt}
-use Rattle.calculus.specs.Typing.{HasType, infer}
+use Rattle.calculus.specs.Reduction.{Outcome, value, moved, denied, stuck, step}
+use Rattle.calculus.specs.Typing.{infer}
 use Rattle.calculus.proofs.Values.{value-step}
 use Rattle.calculus.proofs.Reduction.{step-value, step-reduces, reduces-step, step-denied, denied-step, step-stuck, stuck-step}
 use Rattle.calculus.proofs.SecureTyping.{sc-empty}
 use Rattle.calculus.proofs.Soundness.{infer-sound}
 use Rattle.calculus.proofs.Completeness.{infer-complete}
 use Rattle.rules.specs.Answer.{Bytes, Octets, Answer, accepted, refused, _>>_}
-use Rattle.rules.specs.Limits.{script-width, script-limit, depth-limit, work-length, answer-length}
 use Rattle.rules.specs.Groups.{readers}
 use Rattle.rules.specs.Types.{type-at, encode-type}
-use Rattle.rules.specs.Script.{encode, term, size, depth}
+use Rattle.rules.specs.Script.{encode, term}
 use Rattle.rules.specs.Typing.{typing}
 use Rattle.rules.specs.Step.{End, at-value, moves, may-not, wrong-kind, too-big, exceeds, limited, step-in, end-number}
-use Rattle.rules.specs.Run.{Ran, run, ends, one-step-more}
+use Rattle.rules.specs.Run.{Ran, run, ends}
 use Rattle.rules.specs.Calls.{types-check, script-check, checking, type-bytes, stepping, running}
-use Rattle.rules.specs.Reach.{verdict, Accepted, MovesTo, moved-to}
+use Rattle.rules.specs.Reach.{verdict, Accepted, moved-to}
 use Rattle.rules.proofs.Scripts.{term-encode}
-use Rattle.demands.specs.Demands.{Demand2, Typed, StepsTo, Repeats, spent-on-value, spent, stops, goes-on}
-use Rattle.demands.proofs.Answers.{and-then, accepted-inj}
+use Rattle.demands.specs.Demands.{Demand2, Typed, Repeats, spent-on-value, spent, stops, goes-on}
+use Rattle.demands.proofs.Answers.{accepted-inj}
+use Rattle.rules.proofs.Asked.{and-then}
+use Rattle.rules.proofs.Search.{some-inj}
 use Rattle.demands.proofs.Readers.{readers-laws}
 use Rattle.demands.proofs.Tables.{Tables}
 use Rattle.demands.proofs.TypesTable.{tables}
 use Rattle.demands.proofs.Inference.{forget, agree}
 use Rattle.demands.proofs.Steps.{limited-moves, limited-too-big, limited-value, limited-may-not, limited-wrong-kind, fit-steps, fit-moves}
-use Rattle.demands.proofs.Checked.{Fit, Passed, script-passed, script-passes}
+use Rattle.demands.proofs.Checked.{Fit, Passed, script-passed}
 
 pub found-accepted : {A : Type 0} (m : Answer A) {a : A} → forget m ≡ some a → m ≡ accepted a
 found-accepted (accepted b) e = ap accepted (some-inj e)
-  where
-    some-inj : {A : Type 0} {a b : A} → some a ≡ some b → a ≡ b
-    some-inj e = cc
 found-accepted (refused q p) e = let x : _≡_ {A = ℕ} 0 1 = cc in absurd (omega arith)
 
 -- a question answered yes goes on

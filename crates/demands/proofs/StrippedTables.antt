@@ -1,19 +1,20 @@
 -- A types table that passes, stripped, passes over the one-group table.
-use mathlib.Core.Path.{_≡_, refl, sym, ap, ap₂, _∙_}
-use mathlib.Core.Bool.{Bool, true, false, not, _&&_}
+use mathlib.Core.Path.{_≡_, refl, ap, ap₂, _∙_}
+use mathlib.Core.Bool.{Bool, true, not, _&&_}
 use mathlib.Core.Option.{Option}
-use Prim.Native.Nat.{ℕ, suc, zero, _+_, _-_, _*_, _/_, _%_, _<_}
+use Prim.Native.Nat.{ℕ, suc, zero, _+_, _-_, _/_, _%_}
 use lib.Dec.{eqb, leb, ltb}
-use lib.ListN.{length}
-use Rattle.rules.specs.Answer.{Bytes, Answer, accepted, ask, each, first-from, is-none, _⇒_}
+use Rattle.rules.specs.Answer.{Bytes, accepted, ask, each, is-none, _⇒_}
 use Rattle.rules.specs.Limits.{type-width, table-limit}
 use Rattle.rules.specs.Groups.{rows, leq}
-use Rattle.rules.specs.Types.{type-count, type-kind, type-r, type-ir, type-zero, sides, end-after, type-end, pending, outermost, short, ok9, ok10, ok11, ok12, q8, q9, q10, q11, q12}
+use Rattle.rules.specs.Types.{type-count, type-kind, type-zero, sides, end-after, type-end, pending, short, ok9, ok10, ok11, ok12, q8, q9, q10, q11}
 use Rattle.rules.specs.Strip.{strip-types, one-group}
 use Rattle.rules.specs.Calls.{groups-check, types-check}
 use Rattle.rules.proofs.Search.{each-all, each-accepted}
-use Rattle.demands.proofs.Answers.{and-then, both, go-on, and-true}
-use Rattle.demands.proofs.Stripping.{strip-length, strip-type-count, strip-type-kind, strip-type-r, strip-type-ir, strip-type-zero}
+use Rattle.demands.proofs.Answers.{both, go-on, and-true}
+use Rattle.rules.proofs.Asked.{and-then}
+use Rattle.demands.proofs.Stripping.{strip-type-count, strip-type-kind, strip-type-r, strip-type-ir, strip-type-zero}
+use Rattle.rules.proofs.Strip.{strip-length}
 
 -- what is read of the kinds alone
 end-after-same : (f h : ℕ → ℕ) → ((i : ℕ) → f i ≡ h i) → (left need i : ℕ) → end-after f left need i ≡ end-after h left need i

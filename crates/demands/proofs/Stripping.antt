@@ -2,22 +2,23 @@
 use mathlib.Core.Path.{_≡_, refl, sym, ap, _∙_}
 use mathlib.Core.Bool.{Bool, true, false, cond, _||_}
 use mathlib.Core.List.{List, [], _∷_, _++_, append-assoc, map}
-use Prim.Native.Nat.{ℕ, zero, suc, _+_, _*_, _/_, _%_, _<_}
-use native.Mathlib.Nat.{zero-add, suc-add, add-suc, add-zero}
+use Prim.Native.Nat.{ℕ, zero, suc, _+_, _*_, _/_, _%_}
+use native.Mathlib.Nat.{suc-add, add-suc, add-zero}
 use native.Mathlib.Omega.{arith}
 use lib.Dec.{eqb}
-use lib.ListN.{length, getD, drop}
+use lib.ListN.{getD, drop}
 use Rattle.calculus.specs.Security.{Property}
-use Rattle.calculus.specs.Types.{Ty, one, node, sum, product, function}
-use Rattle.calculus.specs.Terms.{first, second, Term, var, unit, lam, pair, inj, app, proj, case, protect, mu}
+use Rattle.calculus.specs.Types.{Ty}
+use Rattle.calculus.specs.Terms.{Term, var, unit, lam, pair, inj, app, proj, case, protect, mu}
 use Rattle.calculus.specs.Erasure.{public, eraseT, erase}
 use Rattle.rules.specs.Answer.{Bytes, byte}
-use Rattle.rules.specs.Limits.{type-width, script-width}
+use Rattle.rules.specs.Limits.{type-width}
 use Rattle.rules.specs.Types.{type-count, type-kind, type-r, type-ir, type-zero, sides, no-type, make-type, parse-types, type-at}
 use Rattle.rules.specs.Script.{encode, size, depth}
 use Rattle.rules.proofs.Prefix.{All, joined}
 use Rattle.rules.proofs.TermCode.{term-operands, term-head, term-induction, term-encode-is}
 use Rattle.rules.specs.Strip.{strip-from, strip-script, strip-types}
+use Rattle.rules.proofs.Strip.{strip-length}
 
 -- Only the place within a record matters. `next` is what a width has to know of its remainders.
 module _ (w : ℕ) (next : (i j : ℕ) → i % w ≡ j % w → suc i % w ≡ suc j % w) where
@@ -27,11 +28,6 @@ module _ (w : ℕ) (next : (i j : ℕ) → i % w ≡ j % w → suc i % w ≡ suc
   strip-mod i j (b ∷ s) e =
       ap {B = Bytes} (λ (x : ℕ). cond (eqb x 1 || eqb x 2) 0 b ∷ strip-from w (suc i) s) e
       ∙ ap {B = Bytes} (λ (r : Bytes). cond (eqb (j % w) 1 || eqb (j % w) 2) 0 b ∷ r) (strip-mod (suc i) (suc j) s (next i j e))
-
-pub strip-length : (w i : ℕ) (s : Bytes) → length (strip-from w i s) ≡ length s
-unfolding strip-from
-strip-length w i [] = refl
-strip-length w i (b ∷ s) = ap suc (strip-length w (suc i) s)
 
 pub strip-drop : (w i n : ℕ) (s : Bytes) → drop n (strip-from w i s) ≡ strip-from w (i + n) (drop n s)
 unfolding strip-from

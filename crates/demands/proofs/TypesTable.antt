@@ -1,11 +1,11 @@
 -- Two tables that pass questions 2 to 12 are what the theory needs.
-use mathlib.Core.Path.{_≡_, refl, sym, subst, ap, _∙_}
+use mathlib.Core.Path.{_≡_, sym, subst, _∙_}
 use mathlib.Core.Bool.{So}
 use Prim.Native.Nat.{ℕ, suc, _+_, _≤_, _<_}
 use native.Mathlib.Omega.{arith}
-use Rattle.calculus.specs.Types.{Former, sum, product, function, Ty, one, node, same, sizeT}
+use Rattle.calculus.specs.Types.{Former, sum, function, Ty, node, sizeT}
 use Rattle.rules.specs.Answer.{Bytes, Octets, accepted}
-use Rattle.rules.specs.Types.{type-count, type-kind, type-at, former-kind, q8, q9, q10, q11, q12}
+use Rattle.rules.specs.Types.{type-count, type-kind, type-at, former-kind, q8, q9, q10, q11}
 use Rattle.rules.specs.Typing.{has-form}
 use Rattle.rules.specs.Calls.{groups-check, types-check}
 use Rattle.rules.proofs.PrefixLaws.{size-positive}
@@ -13,20 +13,16 @@ use Rattle.rules.proofs.TypeCode.{type-code}
 use Rattle.rules.proofs.TypePlaces.{Standing, kind-at, of-kind}
 use Rattle.rules.proofs.TypeTables.{Passes, passes, standing}
 use Rattle.rules.proofs.SecureTables.{secure-table}
-use Rattle.demands.proofs.Answers.{and-then}
+use Rattle.rules.proofs.Asked.{and-then}
+use Rattle.calculus.proofs.Directed.{same-refl}
 use Rattle.demands.proofs.Groups.{Lattice, lattice, some-rows}
 use Rattle.demands.proofs.Tables.{Tables}
-
-same-former : (f : Former) → So (same f f)
-same-former sum = refl
-same-former product = refl
-same-former function = refl
 
 -- a record of a former's kind starts a type of that form
 formed-so : (f : Former) (t : Bytes) (i : ℕ) → Standing t i → type-kind t i ≡ former-kind f → So (has-form f (type-at t i))
 formed-so f t i st h =
     let p = of-kind f (type-at t i) (sym (kind-at t i st) ∙ h) in
-    subst (λ (e : Ty). So (has-form f e)) (sym (p .1)) (same-former f)
+    subst (λ (e : Ty). So (has-form f e)) (sym (p .1)) (same-refl f)
 
 -- whose left side stands in the table too
 next-in : (f : Former) (t : Bytes) (i : ℕ) → Standing t i → type-kind t i ≡ former-kind f → suc i < type-count t

@@ -16,15 +16,13 @@ use Rattle.rules.specs.Answer.{Bytes, first-below, all-below, _⇒_}
 use Rattle.rules.specs.Groups.{rows, row, bit, common, within, join, or-zero, is-number, row-of-lowest}
 use Rattle.rules.proofs.Search.{from-none, from-some, all-below-true, all-below-all}
 use Rattle.lattice.specs.Pairs.{pair5, pair6}
+use Rattle.calculus.proofs.Booleans.{same-bits}
+use Rattle.rules.proofs.Asked.{implied}
 use Rattle.lattice.proofs.Bits.{same, bit-and, bit-shr, bits-same, trailing-set, trailing-clear, trailing-lt}
 
 implies : (a b : Bool) → (a ≡ true → b ≡ true) → (a ⇒ b) ≡ true
 implies true b f = f refl
 implies false b f = refl
-
-implied : (a b : Bool) → (a ⇒ b) ≡ true → a ≡ true → b ≡ true
-implied true b e h = e
-implied false b e h = absurd (false≢true h)
 
 no-implied : (a : Bool) → (a ⇒ false) ≡ true → a ≡ false
 no-implied true e = sym e
@@ -41,12 +39,6 @@ both-second false b e h = absurd (false≢true h)
 equal-self : (a : Bool) → Bool·beq a a ≡ true
 equal-self true = refl
 equal-self false = refl
-
-equal : (a b : Bool) → Bool·beq a b ≡ true → a ≡ b
-equal true true e = refl
-equal true false e = absurd (false≢true e)
-equal false true e = absurd (false≢true e)
-equal false false e = refl
 
 -- a test that says of all numbers below n what another says of each
 all-same : (n : ℕ) (ok : ℕ → Bool) (b : Bool)
@@ -138,7 +130,7 @@ equal-word : (set : ℕ → Bool) (w z : ℕ) → ((k : ℕ) → set k ≡ bit w
     → eqb z w ≡ all-below (λ k. Bool·beq (set k) (bit z k)) 32
 equal-word set w z is l m =
     all-same 32 (λ k. Bool·beq (set k) (bit z k)) _ (λ e k a. agree k (eqb-true _ _ e))
-    (λ f. eq-eqb _ _ (bits-same 32 z w m l (λ k a. sym (equal _ _ (f k a)) ∙ is k)))
+    (λ f. eq-eqb _ _ (bits-same 32 z w m l (λ k a. sym (same-bits _ _ (f k a)) ∙ is k)))
   where
     agree : (k : ℕ) → z ≡ w → Bool·beq (set k) (bit z k) ≡ true
     agree k e = rw (is k, e) (equal-self (bit w k))

@@ -1,21 +1,20 @@
 -- Every call's refusal has a question from 1 to 27 and a place of at most 8,192, and what it gives has its bound too: all of it
 -- fits the exported number. Assumes nothing.
-use mathlib.Core.Path.{_≡_, refl, sym, ap, _∙_}
+use mathlib.Core.Path.{_≡_, refl}
 use mathlib.Core.Bool.{Bool, true, false, not, _&&_}
 use mathlib.Core.List.{List, [], _∷_}
 use mathlib.Core.Option.{Option, none, some}
-use Prim.Native.Nat.{ℕ, zero, suc, _+_, _-_, _%_, _≤_, _<_}
+use Prim.Native.Nat.{ℕ, zero, suc, _+_, _-_, _%_, _≤_}
 use native.Mathlib.Omega.{arith}
 use borrow.Author.Tests.{leb-true}
 use lib.Dec.{eqb, leb, ltb}
 use lib.ListN.{length, getD}
-use Rattle.calculus.specs.Types.{Ty}
 use Rattle.calculus.specs.Terms.{is-value}
 use Rattle.rules.specs.Answer.{Bytes, Octets, Answer, accepted, refused, _>>=_, _>>_, ask, first-from, refused-at, each, all-below}
 use Rattle.rules.specs.Limits.{row-width, type-width, script-width, group-limit, table-limit, script-limit, work-length, answer-length}
-use Rattle.rules.specs.Groups.{rows, readers, ok3, ok4, ok5, ok6, ok7, q2, q3, q4, q5, q6, q7}
-use Rattle.rules.specs.Types.{type-count, type-at, ok9, ok10, ok11, ok12, q8, q9, q10, q11, q12}
-use Rattle.rules.specs.Script.{records, arity, kind, term, size, depths, binders, term-end, exactly, ok14, ok15, ok16, ok18, ok19, q13, q14, q15, q16, q17, q18, q19}
+use Rattle.rules.specs.Groups.{rows, readers, ok3, ok4, ok5, ok6, ok7, q2, q3, q4, q5, q6}
+use Rattle.rules.specs.Types.{type-count, type-at, ok9, ok10, ok11, ok12, q8, q9, q10, q11}
+use Rattle.rules.specs.Script.{records, arity, kind, term, size, depths, binders, term-end, exactly, ok14, ok15, ok16, ok18, ok19, q13, q14, q15, q16, q17, q18}
 use Rattle.rules.specs.Typing.{typing}
 use Rattle.rules.specs.Sheet.{sheet}
 use Rattle.rules.specs.Calls.{q1, q25, q26, q27, groups-check, types-check, at-or-below, script-check, checking, stepping, running, sheeting}
@@ -24,7 +23,8 @@ use Rattle.rules.proofs.Scripts.{whole}
 use Rattle.rules.proofs.WayBack.{end-bound}
 use Rattle.packing.specs.Packed.{Bounded, bounded-yes, bounded-no}
 use Rattle.demands.proofs.Places.{Placed, placed-yes, placed-no, typing-placed}
-use Rattle.demands.proofs.Answers.{asked, both, and-then}
+use Rattle.demands.proofs.Answers.{both}
+use Rattle.rules.proofs.Asked.{ask-true, and-then}
 
 then : {B : Type 0} (a : Answer (Unit {0})) (b : Answer B) → Bounded a → (a ≡ accepted tt → Bounded b) → Bounded (_>>_ a b)
 then (accepted tt) b x f = f refl
@@ -52,7 +52,7 @@ exactly-bounded n (some e) b f = ask-bounded 17 e (eqb e n) (omega arith) (omega
 
 -- the last of three tests of a length
 last-test : (q : ℕ) (a b c : Bool) → ask q 0 (a && (b && c)) ≡ accepted tt → c ≡ true
-last-test q a b c e = both b c (both a (b && c) (asked q 0 (a && (b && c)) e) .1) .1
+last-test q a b c e = both b c (both a (b && c) (ask-true q 0 (a && (b && c)) e) .1) .1
 
 few-rows : (g : Bytes) → q2 g ≡ accepted tt → rows g ≤ group-limit
 few-rows g e = leb-true (rows g) group-limit (last-test 2 (eqb (length g % row-width) 0) (leb 1 (rows g)) (leb (rows g) group-limit) e)

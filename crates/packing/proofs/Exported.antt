@@ -1,16 +1,14 @@
 -- Every exported answer is bounded, and one number holds it: `unpack` gives it back. Assumes nothing.
-use mathlib.Core.Path.{_≡_, refl, sym, ap, subst, _∙_}
-use mathlib.Core.Bool.{Bool, true, false, cond, So}
+use mathlib.Core.Path.{_≡_, refl, ap, subst}
+use mathlib.Core.Bool.{Bool, true, false}
 use mathlib.Core.List.{[], _∷_}
-use Prim.Native.Nat.{ℕ, _+_, _*_, _/_, _≤_, _<_, min}
+use Prim.Native.Nat.{ℕ, _/_, _≤_, _<_, min}
 use native.Mathlib.Omega.{arith}
 use borrow.Author.Tests.{leb-true}
-use lib.Dec.{leb}
 use lib.ListN.{length}
 use Rattle.calculus.specs.Types.{Ty, sizeT, type-limit}
-use Rattle.calculus.specs.Terms.{Term}
 use Rattle.rules.specs.Answer.{Bytes, Octets, Answer, accepted, refused}
-use Rattle.rules.specs.Limits.{script-limit, sheet-width}
+use Rattle.rules.specs.Limits.{script-limit}
 use Rattle.rules.specs.Groups.{rows, readers}
 use Rattle.rules.specs.Types.{type-at}
 use Rattle.rules.specs.Script.{records, term, size, q13}
@@ -18,13 +16,13 @@ use Rattle.rules.specs.Step.{End, at-value, moves, may-not, wrong-kind, too-big
 use Rattle.rules.proofs.ScriptLength.{q13-fitting}
 use Rattle.rules.specs.Typing.{typing}
 use Rattle.rules.specs.Sheet.{sheet}
-use Rattle.rules.specs.Run.{Ran, run}
-use Rattle.rules.specs.Calls.{q1, q25, q26, q27, groups-check, types-check, at-or-below, script-check, checking, type-records, stepping, running, Report, run-report, sheeting, sheet-records}
-use Rattle.demands.proofs.Answers.{accepted-inj, and-then}
+use Rattle.rules.specs.Run.{Ran}
+use Rattle.rules.specs.Calls.{q1, q25, q26, q27, types-check, script-check, checking, type-records, stepping, running, run-report, sheeting, sheet-records}
+use Rattle.demands.proofs.Answers.{accepted-inj}
+use Rattle.rules.proofs.Asked.{and-then}
 use Rattle.demands.proofs.TypesTable.{tables}
-use Rattle.packing.specs.Packed.{half, packed, unpacked, passed, yes-or-no, ended, run-ended, Bounded, bounded-yes, bounded-no, Holds, holds-yes, holds-no}
-use Rattle.packing.proofs.Unpacked.{unpack}
-use Rattle.packing.proofs.Bounds.{groups-bounded, types-bounded, compare-bounded, check-bounded, run-bounded, page-bounded, script-small}
+use Rattle.packing.specs.Packed.{half, passed, yes-or-no, ended, run-ended, Bounded, bounded-yes, bounded-no, Holds, holds-yes, holds-no}
+use Rattle.packing.proofs.Bounds.{check-bounded, run-bounded, page-bounded, script-small}
 use Rattle.packing.proofs.Sizes.{Small, small-yes, small-no, no-binders, typing-small, Within, within-move, step-within, Ends, run-within, sheet-length}
 
 pub records-bounded : (a : Answer Ty) → Bounded a → Bounded (type-records a)

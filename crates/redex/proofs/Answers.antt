@@ -20,7 +20,8 @@ use Rattle.rules.specs.Script.{kind, r, number}
 use Rattle.script.specs.Place.{At}
 use Rattle.script.proofs.Stands.{kind-of, stands-kind}
 use Rattle.rules.proofs.TypePlaces.{type-at-outside}
-use Rattle.redex.specs.Fates.{goes, misfit, property-of, first-operand, is-function, reading-fate, fate}
+use Rattle.redex.specs.Fates.{goes, misfit, property-of, is-function, reading-fate, fate}
+use Rattle.script.specs.Operands.{first-operand}
 use Rattle.redex.specs.Found.{answer, takes-apart}
 use Rattle.redex.proofs.Places.{reader-at, number-at}
 use Rattle.redex.proofs.Forms.{first-position, recursion-turn, reading-is}

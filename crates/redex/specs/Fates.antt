@@ -6,6 +6,7 @@ use Rattle.calculus.specs.Types.{sum, product, function, Ty, one, node, same, t
 use Rattle.calculus.specs.Terms.{Side, first, choose, Term, var, unit, lam, pair, inj, app, proj, case, protect, mu, is-value, subst, raise-value}
 use Rattle.calculus.specs.Reduction.{unrolled, Outcome, moved, denied, stuck}
 use Rattle.calculus.specs.Stuck.{built-by}
+use Rattle.script.specs.Operands.{first-operand, second-operand}
 
 -- the groups of a term's own record: "unnamed fields are 0"
 abbrev pub property-of : Term → Property
@@ -32,30 +33,6 @@ side-of (proj d w e) = d
 side-of (case w i e a b) = first
 side-of (protect m e) = first
 side-of (mu i e) = first
-
-abbrev pub first-operand : Term → Term
-first-operand (var n) = var n
-first-operand (unit k) = unit k
-first-operand (lam k i e) = e
-first-operand (pair k a b) = a
-first-operand (inj d k i e) = e
-first-operand (app w f a) = f
-first-operand (proj d w e) = e
-first-operand (case w i e a b) = e
-first-operand (protect m e) = e
-first-operand (mu i e) = e
-
-abbrev pub second-operand : Term → Term
-second-operand (var n) = var n
-second-operand (unit k) = unit k
-second-operand (lam k i e) = e
-second-operand (pair k a b) = b
-second-operand (inj d k i e) = e
-second-operand (app w f a) = a
-second-operand (proj d w e) = e
-second-operand (case w i e a b) = a
-second-operand (protect m e) = e
-second-operand (mu i e) = e
 
 abbrev pub is-function : Ty → Bool
 is-function (one k) = false

@@ -7,7 +7,7 @@ use native.Mathlib.Omega.{arith}
 use lib.ListN.{length}
 use Rattle.calculus.specs.Types.{Ty}
 use Rattle.calculus.specs.Terms.{Term}
-use Rattle.rules.specs.Answer.{Bytes, Octets, Answer, accepted, refused, _>>_}
+use Rattle.rules.specs.Answer.{Bytes, Octets, Answer, accepted, _>>_}
 use Rattle.rules.specs.Groups.{readers}
 use Rattle.rules.specs.Types.{type-at}
 use Rattle.rules.specs.Script.{term, encode, size}
@@ -26,6 +26,7 @@ use Rattle.reduction.specs.declared.Halt.{Halt}
 use Rattle.reduction.specs.declared.RunAnswer.{RunAnswer}
 use Rattle.reduction.specs.declared.RunAnswer.the-variants as answer
 use Rattle.reduction.specs.Runs.{Told, Ends, refused-run, run-reported, Demanded}
+use Rattle.rules.proofs.Asked.{regroup}
 
 -- the answer and both buffers are those of o
 abbrev pub Says : Bytes → Bytes → Answer Ran → RunAnswer → Bytes → Bytes → Type 0
@@ -39,11 +40,6 @@ unfolding run-report
 refuses first scratch Passed a o k e = absurd (omega arith)
 refuses first scratch (Refused q p) a o k e =
     transport (λ (c : Answer (Unit {0})). Says first scratch (_>>_ c o) (refused-run (Refused q p)) first scratch) e (refl, refl, refl)
-
--- one question after another
-then-all : {A : Type 0} (a b : Answer (Unit {0})) (o : Answer A) → _>>_ (_>>_ a b) o ≡ _>>_ a (_>>_ b o)
-then-all (accepted u) b o = refl
-then-all (refused q p) b o = refl
 
 module _ (g t s : Bytes) (budget : ℕ) (first scratch : Bytes) where
   abbrev rooms : List ℕ
@@ -59,7 +55,7 @@ module _ (g t s : Bytes) (budget : ℕ) (first scratch : Bytes) where
   unfolding running
   running-is =
       ap (λ (o : Answer (Unit {0})). _>>_ o (accepted ran)) (script-check-is rooms g t s)
-      ∙ then-all (types-check g t) (terms-check rooms g t s) (accepted ran)
+      ∙ regroup (types-check g t) (terms-check rooms g t s) (accepted ran)
 
   pub refused-tables : (x : Checked) → No x → said x ≡ types-check g t → Says first scratch answered (refused-run x) first scratch
   refused-tables x k e =

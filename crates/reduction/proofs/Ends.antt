@@ -27,7 +27,8 @@ use Rattle.lattice.specs.Said.{said}
 use Rattle.lattice.proofs.Passed.{Yes, No, accepts}
 use Rattle.script.specs.Check.{terms-check}
 use Rattle.script.proofs.Asked.{script-check-is}
-use Rattle.demands.proofs.Answers.{and-then, asked, both, go-on}
+use Rattle.demands.proofs.Answers.{both, go-on}
+use Rattle.rules.proofs.Asked.{ask-true, and-then}
 use Rattle.demands.proofs.Checked.{script-passed}
 use Rattle.redex.specs.Found.{Site, Finds, finds-redex}
 use Rattle.redex.specs.declared.Found.{Found}
@@ -130,7 +131,7 @@ few-types g t h =
     (and-then (q8 t) _ (and-then (groups-check g) _ h .1) .0))
   where
     third : (a b c : Bool) → ask 8 0 (a && (b && c)) ≡ accepted tt → c ≡ true
-    third a b c h = both b c (both a (b && c) (asked 8 0 (a && (b && c)) h) .1) .1
+    third a b c h = both b c (both a (b && c) (ask-true 8 0 (a && (b && c)) h) .1) .1
 
 pub startable : (rooms : List ℕ) (g t s : Bytes) → Octets s → script-check rooms g t s ≡ accepted tt → Startable t s
 startable rooms g t s o h =

@@ -6,6 +6,7 @@ pub mod PrefixLaws
 pub mod WayBack
 pub mod Nodes
 pub mod Octets
+pub mod Strip
 pub mod TermCode
 pub mod TypeCode
 pub mod RecordFields

@@ -4,7 +4,7 @@ use mathlib.Core.List.{List, [], _∷_, _++_}
 use Prim.Native.Nat.{ℕ, zero, suc, _+_, _*_, _<_}
 use native.Mathlib.Omega.{arith}
 use lib.ListN.{take, drop}
-use Rattle.rules.specs.Answer.{Bytes, byte, Octets}
+use Rattle.rules.specs.Answer.{Bytes, Octets}
 use Rattle.rules.specs.Script.{script-record}
 use Rattle.rules.proofs.Prefix.{All, joined, Shape, Code, record-at}
 use Rattle.rules.proofs.PrefixLaws.{alone}
@@ -50,16 +50,6 @@ module _ {T : Type 0} {S : Shape T} (C : Code S) where
   pub octets-nodes : (e : T) → Octets (C .encode e) → Every S (λ c. Octets (C .head c)) e
   octets-nodes e p =
       to-nodes C Octets (C .encode e) 0 e [] (alone C e) (λ j l. octets-record (C .width) (C .encode e) (0 + j) p)
-
--- a script record's bytes against its fields
-pub record-octets : (k r ir n : ℕ) → k < 256 → r < 256 → ir < 256 → n < 65536 → Octets (script-record k r ir n)
-record-octets k r ir n a b c d zero = a
-record-octets k r ir n a b c d (suc zero) = b
-record-octets k r ir n a b c d (suc (suc zero)) = c
-record-octets k r ir n a b c d (suc (suc (suc zero))) = omega arith
-record-octets k r ir n a b c d (suc (suc (suc (suc zero)))) = omega arith
-record-octets k r ir n a b c d (suc (suc (suc (suc (suc zero))))) = omega arith
-record-octets k r ir n a b c d (suc (suc (suc (suc (suc (suc i)))))) = omega arith
 
 pub octets-number : (k r ir n : ℕ) → Octets (script-record k r ir n) → n < 65536
 octets-number k r ir n p = omega (arith, p 5)

@@ -57,7 +57,7 @@ module _ {T : Type 0} {S : Shape T} (C : Code S) where
       ∙ take-at (C .head e) (joined (C .encode) (S .operands e) ++ rest) (C .width) (C .head-length e)
 
 -- the walk depends on its numbers alone
-same-walk : (f : ℕ → ℕ) {a a′ b b′ c c′ : ℕ} → a ≡ a′ → b ≡ b′ → c ≡ c′ → end-after f a b c ≡ end-after f a′ b′ c′
+pub same-walk : (f : ℕ → ℕ) {a a′ b b′ c c′ : ℕ} → a ≡ a′ → b ≡ b′ → c ≡ c′ → end-after f a b c ≡ end-after f a′ b′ c′
 same-walk f p q r = cc
 
 pub no-more-needed : (f : ℕ → ℕ) (left i : ℕ) → end-after f left 0 i ≡ some i
@@ -65,7 +65,7 @@ unfolding end-after
 no-more-needed f zero i = refl
 no-more-needed f (suc left) i = refl
 
-one-more-record : (f : ℕ → ℕ) (left need i : ℕ) → end-after f (suc left) (suc need) i ≡ end-after f left (need + f i) (suc i)
+pub one-more-record : (f : ℕ → ℕ) (left need i : ℕ) → end-after f (suc left) (suc need) i ≡ end-after f left (need + f i) (suc i)
 unfolding end-after
 one-more-record f left need i = refl
 

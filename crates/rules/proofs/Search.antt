@@ -5,7 +5,7 @@ use mathlib.Core.Option.{Option, none, some}
 use Prim.Native.Nat.{ℕ, zero, suc, _+_, _≤_, _<_}
 use native.Mathlib.Omega.{arith}
 use native.Mathlib.Decide.{ℕ-discrete}
-use Rattle.rules.specs.Answer.{Answer, accepted, refused, first-from, first-below, all-below, is-none, refused-at, each, _⇒_}
+use Rattle.rules.specs.Answer.{accepted, refused, first-from, all-below, is-none, refused-at, each}
 
 pub from-none : (test : ℕ → Bool) (n i : ℕ) → ((k : ℕ) → i ≤ k → k < i + n → test k ≡ false) → first-from test n i ≡ none
 unfolding first-from
@@ -79,7 +79,7 @@ pub record Found (test : ℕ → Bool) (n i j : ℕ) : Type 0 where
   pub high : j < i + n
   pub least : (k : ℕ) → i ≤ k → k < j → test k ≡ false
 
-some-inj : {a b : ℕ} → some a ≡ some b → a ≡ b
+pub some-inj : {A : Type 0} {a b : A} → some a ≡ some b → a ≡ b
 some-inj e = cc
 
 pub found : (test : ℕ → Bool) (n i j : ℕ) → first-from test n i ≡ some j → Found test n i j

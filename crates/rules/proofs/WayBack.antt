@@ -11,7 +11,7 @@ use Rattle.rules.specs.Answer.{Bytes}
 use Rattle.rules.specs.Types.{end-after}
 use Rattle.rules.proofs.Prefix.{joined, total, Shape, Code, Prefix, record-at}
 use Rattle.rules.proofs.Parts.{joined-append, total-append, record-first}
-use Rattle.rules.proofs.PrefixLaws.{ops, joined-length, round-trips}
+use Rattle.rules.proofs.PrefixLaws.{ops, joined-length}
 
 -- the count ends within the records that are left
 pub end-bound : (f : ℕ → ℕ) (left need i e : ℕ) → end-after f left need i ≡ some e → e ≤ i + left
@@ -83,10 +83,6 @@ module _ {T : Type 0} {S : Shape T} {C : Code S} (X : Prefix C) (s : Bytes) wher
   way-back (suc left) (suc need) i e l h good =
       in-front i e need (omega (arith, mul-le-mul-left {m = suc i} {n = i + suc left} (C .width) (omega arith))) (λ p. good i (omega arith) p)
       (way-back left (need + ops X s i) (suc i) e (omega arith) h (λ j a b. good j (omega arith) b))
-
-  -- The parse starts with these trees, and their encodings are the records from i to e.
-  pub trees-parsed : (need i e : ℕ) (ts : Trees C s need i e) → X .parse (drop (C .width * i) s) ≡ ts .trees ++ X .parse (drop (C .width * e) s)
-  trees-parsed need i e ts = ap (X .parse) (ts .bytes) ∙ round-trips X (ts .trees) (drop (C .width * e) s)
 
   pub trees-slice : (need i e : ℕ) (ts : Trees C s need i e) → take (C .width * (e - i)) (drop (C .width * i) s) ≡ joined (C .encode) (ts .trees)
   trees-slice need i e ts =

@@ -5,7 +5,7 @@ use mathlib.Core.Option.{some}
 use Prim.Native.Nat.{ℕ, _*_, _-_}
 use native.Mathlib.Omega.{arith}
 use lib.ListN.{take, drop}
-use Rattle.rules.specs.Answer.{Bytes, Answer, accepted, refused, _>>_}
+use Rattle.rules.specs.Answer.{Bytes, Answer, accepted, _>>_}
 use Rattle.rules.specs.Script.{part-if, slice, q13, q14, q15, q16, q17, q18, q19}
 use Rattle.rules.specs.Calls.{types-check, script-check}
 use Rattle.lattice.specs.declared.Checked.{Checked}
@@ -13,6 +13,7 @@ use Rattle.lattice.specs.declared.Checked.the-variants.{Passed, Refused}
 use Rattle.lattice.specs.Said.{said}
 use Rattle.lattice.proofs.Passed.{Yes, No, accepts}
 use Rattle.script.specs.Check.{terms-check}
+use Rattle.rules.proofs.Asked.{and-then}
 
 pub no-part : (x : Checked) (o : Answer (Unit {0})) (part : Bytes) → No x → said x ≡ o → part-if o part ≡ []
 no-part Passed o part k e = absurd (omega arith)
@@ -39,17 +40,13 @@ pub record Terms-pass (rooms : List ℕ) (g t s : Bytes) : Type 0 where
   pub q18-yes : q18 s ≡ accepted tt
   pub q19-yes : q19 s ≡ accepted tt
 
-both-yes : (a b : Answer (Unit {0})) → _>>_ a b ≡ accepted tt → (a ≡ accepted tt) × (b ≡ accepted tt)
-both-yes (accepted u) b h = (refl, h)
-both-yes (refused q p) b h = let x : _≡_ {A = ℕ} 0 1 = cc in absurd (omega arith)
-
 pub terms-pass : (rooms : List ℕ) (g t s : Bytes) → terms-check rooms g t s ≡ accepted tt → Terms-pass rooms g t s
 unfolding terms-check
 terms-pass rooms g t s h =
-    let a = both-yes (q13 rooms s) _ h in
-    let b = both-yes (q14 s) _ (a .1) in
-    let c = both-yes (q15 g s) _ (b .1) in
-    let d = both-yes (q16 t s) _ (c .1) in
-    let e = both-yes (q17 s) _ (d .1) in
-    let f = both-yes (q18 s) (q19 s) (e .1) in
+    let a = and-then (q13 rooms s) _ h in
+    let b = and-then (q14 s) _ (a .1) in
+    let c = and-then (q15 g s) _ (b .1) in
+    let d = and-then (q16 t s) _ (c .1) in
+    let e = and-then (q17 s) _ (d .1) in
+    let f = and-then (q18 s) (q19 s) (e .1) in
     record { q13-yes = a .0; q14-yes = b .0; q15-yes = c .0; q16-yes = d .0; q17-yes = e .0; q18-yes = f .0; q19-yes = f .1 }

@@ -11,26 +11,20 @@ use denote.Enum.Declared.{tagOf}
 use Rattle.rules.specs.Answer.{Bytes}
 use Rattle.rules.specs.Types.{end-after}
 use Rattle.rules.specs.Script.{records, kind, arity, term-end}
-use Rattle.rules.proofs.PrefixLaws.{no-more-needed}
+use Rattle.rules.proofs.PrefixLaws.{no-more-needed, same-walk, one-more-record}
 use Rattle.script.specs.declared.Ended.{Ended}
 use Rattle.script.specs.declared.Ended.the-variants.{Before, Short}
 use Rattle.script.specs.Said.{ended}
+use Rattle.rules.proofs.Search.{some-inj}
 use Rattle.script.proofs.Ended.{the-type}
-
-same-walk : (f : ℕ → ℕ) {a a′ b b′ c c′ : ℕ} → a ≡ a′ → b ≡ b′ → c ≡ c′ → end-after f a b c ≡ end-after f a′ b′ c′
-same-walk f p q r = cc
 
 pub same-start : (f : ℕ → ℕ) {a a′ : ℕ} (b c : ℕ) → a ≡ a′ → end-after f a b c ≡ end-after f a′ b c
 same-start f b c p = same-walk f p refl refl
 
-one-more : (f : ℕ → ℕ) (left need i : ℕ) → end-after f (suc left) (suc need) i ≡ end-after f left (need + f i) (suc i)
-unfolding end-after
-one-more f left need i = refl
-
 pub next-record : (f : ℕ → ℕ) (n need i m : ℕ) → i < n → 0 < need → m ≡ f i
     → end-after f (n - (i + 1)) (need - 1 + m) (i + 1) ≡ end-after f (n - i) need i
 next-record f n need i m l p e =
-    same-walk f refl (ap (λ x. need - 1 + x) e) (omega arith) ∙ sym (one-more f (n - (i + 1)) (need - 1) i) ∙ same-walk f (omega arith)
+    same-walk f refl (ap (λ x. need - 1 + x) e) (omega arith) ∙ sym (one-more-record f (n - (i + 1)) (need - 1) i) ∙ same-walk f (omega arith)
     (omega arith) refl
 
 none-left : (f : ℕ → ℕ) (need i : ℕ) → end-after f 0 (suc need) i ≡ none
@@ -42,9 +36,6 @@ runs-out f left need i e p = same-walk f {b′ = suc (need - 1)} e (omega arith)
 
 pub comes-to-end : (f : ℕ → ℕ) (left need i : ℕ) → need ≡ 0 → end-after f left need i ≡ some i
 comes-to-end f left need i e = same-walk f refl e refl ∙ no-more-needed f left i
-
-some-inj : {a b : ℕ} → some a ≡ some b → a ≡ b
-some-inj e = cc
 
 none≢some : {A : Type 0} {a : A} → none ≡ some a → ⊥
 none≢some p = let x : _≡_ {A = ℕ} 0 1 = cc in omega arith

@@ -1,5 +1,5 @@
 -- A loop that strips a list from the front, one store a turn.
-use mathlib.Core.Path.{_≡_, refl, sym, ap, _∙_}
+use mathlib.Core.Path.{_≡_, sym, ap, _∙_}
 use mathlib.Core.Bool.{cond, _||_}
 use mathlib.Core.List.{[], _∷_, _++_, append-assoc, append-nil}
 use Prim.Native.Nat.{ℕ, zero, suc, _+_, _%_, _<_}
@@ -11,11 +11,7 @@ use lib.ListN.{length, take, drop, set, getD}
 use lib.Seq.{take-suc, drop-cons, set-at, getD-at, length-take-le, take-all, drop-length}
 use Rattle.rules.specs.Answer.{Bytes}
 use Rattle.rules.specs.Strip.{strip-from}
-
-pub strip-length : (w j : ℕ) (s : Bytes) → length (strip-from w j s) ≡ length s
-unfolding strip-from
-strip-length w j [] = refl
-strip-length w j (b ∷ s) = ap suc (strip-length w (suc j) s)
+use Rattle.rules.proofs.Strip.{strip-length}
 
 strip-at-from : (w j : ℕ) (s : Bytes) (i : ℕ) → i < length s
     → getD (strip-from w j s) i 0 ≡ cond (eqb ((j + i) % w) 1 || eqb ((j + i) % w) 2) 0 (getD s i 0)

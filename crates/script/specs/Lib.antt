@@ -1,4 +1,5 @@
 pub mod Place
+pub mod Operands
 pub mod Said
 pub mod Walk
 pub mod Check

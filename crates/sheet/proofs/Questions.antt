@@ -1,5 +1,5 @@
 -- The questions in order, and the answer from what was asked.
-use mathlib.Core.Path.{_≡_, refl, sym, ap, _∙_}
+use mathlib.Core.Path.{_≡_, sym, ap, _∙_}
 use mathlib.Core.Bool.{true, false}
 use mathlib.Core.List.{[]}
 use Prim.Native.Nat.{ℕ, _*_, _/_, _≤_, _<_}
@@ -13,7 +13,7 @@ use Rattle.rules.specs.Groups.{rows, q2}
 use Rattle.rules.specs.Script.{encode, term}
 use Rattle.rules.specs.Sheet.{sheet}
 use Rattle.rules.specs.Calls.{groups-check, types-check, script-check, q25, q26, q27, sheeting, sheet-records, sheet-after}
-use Rattle.rules.proofs.Asked.{ask-true}
+use Rattle.rules.proofs.Asked.{ask-true, and-then, regroup}
 use Rattle.rules.proofs.Scripts.{whole}
 use Rattle.lattice.specs.declared.Checked.{Checked}
 use Rattle.lattice.specs.declared.Checked.the-variants.{Passed, Refused}
@@ -29,15 +29,6 @@ use Rattle.sheet.specs.Said.{reported, refusal, before-26}
 use Rattle.sheet.specs.declared.Sheet.{Sheet}
 use Rattle.sheet.specs.declared.Sheet.the-variants as the
 use Rattle.sheet.proofs.Sheets.{sheet-length}
-
-regroup : {A : Type 0} (a b : Answer (Unit {0})) (c : Answer A) → _>>_ (_>>_ a b) c ≡ _>>_ a (_>>_ b c)
-regroup (accepted u) b c = refl
-regroup (refused q p) b c = refl
-
--- a yes to all is a yes to the first and to the others
-both-yes : (a b : Answer (Unit {0})) → _>>_ a b ≡ accepted tt → (a ≡ accepted tt) × (b ≡ accepted tt)
-both-yes (accepted u) b e = (refl, e)
-both-yes (refused q p) b e = let z : _≡_ {A = ℕ} 0 1 = cc in absurd (omega arith)
 
 pub before-26-is : (g t s : Bytes) (group : ℕ) → _>>_ (types-check g t) (_>>_ (terms-check [] g t s) (q25 0 group (rows g))) ≡ before-26 g t s group
 unfolding before-26
@@ -59,12 +50,12 @@ record All (g t s : Bytes) (group : ℕ) : Type 0 where
 
 few-of : (g : Bytes) → groups-check g ≡ accepted tt → rows g ≤ 32
 unfolding groups-check
-few-of g e = few-rows g (both-yes (q2 g) _ e .0)
+few-of g e = few-rows g (and-then (q2 g) _ e .0)
 
 all-of : (g t s : Bytes) (group : ℕ) → before-26 g t s group ≡ accepted tt → All g t s group
 all-of g t s group e =
-    let a = both-yes (types-check g t) (_>>_ (terms-check [] g t s) (q25 0 group (rows g))) (before-26-is g t s group ∙ e) in
-    let b = both-yes (terms-check [] g t s) (q25 0 group (rows g)) (a .1) in
+    let a = and-then (types-check g t) (_>>_ (terms-check [] g t s) (q25 0 group (rows g))) (before-26-is g t s group ∙ e) in
+    let b = and-then (terms-check [] g t s) (q25 0 group (rows g)) (a .1) in
     record {
       few = few-of g (all-yes g t (a .0) .to-7);
       terms = terms-pass [] g t s (b .0);

@@ -10,8 +10,8 @@ use borrow.Author.Tests.{eqb-true, ltb-true, ltb-false, eq-eqb, ne-eqb, le-leb, 
 use lib.Dec.{eqb, ltb}
 use Rattle.calculus.specs.Types.{Ty, sizeT, type-limit}
 use Rattle.rules.specs.Answer.{Bytes, each, refused}
-use Rattle.rules.specs.Types.{type-count, type-kind, sides, end-after, type-end, pending, outermost, ok11, ok12}
-use Rattle.rules.proofs.Search.{each-refused}
+use Rattle.rules.specs.Types.{type-count, type-kind, sides, end-after, type-end, pending, ok11, ok12}
+use Rattle.rules.proofs.Search.{each-refused, some-inj}
 use Rattle.rules.proofs.PrefixLaws.{tree-end}
 use Rattle.rules.proofs.TypeCode.{type-prefix}
 use Rattle.types.specs.Held.{Held, Starts}
@@ -222,9 +222,6 @@ long-false p n e z = ltb-false type-limit n (rw (eq-eqb p 0 z) at e)
 -- The record count of one type.
 none≢some : {n : ℕ} → none ≡ some n → ⊥
 none≢some p = let x : _≡_ {A = ℕ} 0 1 = cc in omega arith
-
-some-inj : {m n : ℕ} → some m ≡ some n → m ≡ n
-some-inj e = cc
 
 module _ {s : Bytes} where
   pub held-end : {t : Ty} → Held s t → type-end s 0 ≡ some (sizeT t)

@@ -16,6 +16,7 @@ use Rattle.lattice.proofs.Passed.{No}
 use Rattle.types.specs.declared.Compared.the-variants.{Related, Unrelated}
 use Rattle.types.specs.Compared.{is-related}
 use Rattle.types.specs.Ordered.{answered, refusal}
+use Rattle.rules.proofs.Asked.{and-then}
 
 -- what is left to ask from a question on
 abbrev pub from-11 : Bytes → Answer (Unit {0})
@@ -46,11 +47,6 @@ pub types-check-is : (g t : Bytes) → _>>_ (groups-check g) (from-8 g t) ≡ ty
 unfolding types-check groups-check first-from ok9 ok10 ok11 ok12
 types-check-is g t = refl
 
--- the other way: all that were asked are answered yes
-both-yes : (a b : Answer (Unit {0})) → _>>_ a b ≡ accepted tt → (a ≡ accepted tt) × (b ≡ accepted tt)
-both-yes (accepted u) b e = (refl, e)
-both-yes (refused q p) b e = let z : _≡_ {A = ℕ} 0 1 = cc in absurd (omega arith)
-
 pub record Yes (g t : Bytes) : Type 0 where
   pub to-7 : groups-check g ≡ accepted tt
   pub to-8 : q8 t ≡ accepted tt
@@ -61,11 +57,11 @@ pub record Yes (g t : Bytes) : Type 0 where
 
 pub all-yes : (g t : Bytes) → types-check g t ≡ accepted tt → Yes g t
 all-yes g t e =
-    let a = both-yes (groups-check g) (from-8 g t) (types-check-is g t ∙ e) in
-    let b = both-yes (q8 t) (from-9 g t) (a .1) in
-    let c = both-yes (q9 g t) (from-10 g t) (b .1) in
-    let d = both-yes (q10 g t) (from-11 t) (c .1) in
-    let f = both-yes (q11 t) (q12 t) (d .1) in
+    let a = and-then (groups-check g) (from-8 g t) (types-check-is g t ∙ e) in
+    let b = and-then (q8 t) (from-9 g t) (a .1) in
+    let c = and-then (q9 g t) (from-10 g t) (b .1) in
+    let d = and-then (q10 g t) (from-11 t) (c .1) in
+    let f = and-then (q11 t) (q12 t) (d .1) in
     record { to-7 = a .0; to-8 = b .0; to-9 = c .0; to-10 = d .0; to-11 = f .0; to-12 = f .1 }
 
 -- 'At or below' after question 12.

@@ -5,7 +5,7 @@ use Prim.Native.Nat.{ℕ, suc, _+_, _*_, _≤_}
 use native.Mathlib.Omega.{arith}
 use lib.ListN.{length, length-drop}
 use Rattle.calculus.specs.Terms.{Term, var, unit, lam, pair, inj, app, proj, case, protect, mu}
-use Rattle.rules.specs.Answer.{Bytes, Octets, Answer, accepted, refused, _>>_ as then}
+use Rattle.rules.specs.Answer.{Bytes, Octets, accepted}
 use Rattle.rules.specs.Script.{encode, term, size, depth, q16, q18, q19}
 use Rattle.rules.specs.Calls.{types-check, script-check}
 use Rattle.rules.proofs.Nodes.{Every, every-here, every-below}
@@ -22,10 +22,7 @@ use Rattle.script.specs.Check.{terms-check}
 use Rattle.script.proofs.Asked.{script-check-is, Terms-pass, terms-pass}
 use Rattle.typing.specs.Operands.{Formed}
 use Rattle.typing.specs.Memory.{high, Holds, Table, Ready}
-
-pub both-yes : (a b : Answer (Unit {0})) → then a b ≡ accepted tt → (a ≡ accepted tt) × (b ≡ accepted tt)
-both-yes (accepted u) b h = (refl, h)
-both-yes (refused q p) b h = let x : _≡_ {A = ℕ} 0 1 = cc in absurd (omega arith)
+use Rattle.rules.proofs.Asked.{and-then}
 
 -- the types table
 pub table-of : (g t : Bytes) → types-check g t ≡ accepted tt → Table t
@@ -60,7 +57,7 @@ no-binders w = record { len = simp length-drop (omega arith); slot = λ n l. abs
 
 module _ (g t s w : Bytes) (o : Octets s) (h : script-check [] g t s ≡ accepted tt) (room : 64512 ≤ length w) where
   parts : (types-check g t ≡ accepted tt) × (terms-check [] g t s ≡ accepted tt)
-  parts = both-yes (types-check g t) (terms-check [] g t s) (sym (script-check-is [] g t s) ∙ h)
+  parts = and-then (types-check g t) (terms-check [] g t s) (sym (script-check-is [] g t s) ∙ h)
 
   pass : Terms-pass [] g t s
   pass = terms-pass [] g t s (parts .1)

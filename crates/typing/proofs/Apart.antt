@@ -9,7 +9,8 @@ use Rattle.calculus.specs.Terms.{first, second, Term, var, unit, lam, pair, inj
 use Rattle.rules.specs.Answer.{Answer, accepted, refused, _>>=_ as bind, _>>_ as then}
 use Rattle.rules.specs.Script.{size}
 use Rattle.rules.specs.Typing.{left, right, q20, q21, q22, typing}
-use Rattle.typing.specs.Operands.{operand-count, first-operand, second-operand}
+use Rattle.typing.specs.Operands.{operand-count}
+use Rattle.script.specs.Operands.{first-operand, second-operand}
 use Rattle.typing.specs.Stages.{leaf-type, before-first, first-context, wanting, reads, after-one, between, second-context, after-two}
 
 then-assoc : {A : Type 0} (a b : Answer (Unit {0})) (c : Answer A) → then a (then b c) ≡ then (then a b) c
@@ -126,17 +127,3 @@ module _ (S : Security) (tab : ℕ → Ty) (Γ : List Ty) (p : ℕ) where
       ≡ then (q22 S p t (tab i)) (bind (typing S tab (right s ∷ Γ) (1 + p + size x + size y) z) (λ u. wanting S p u (tab i) (reads S s w (tab i))))
   unfolding after-second
   branch-typed s t q = ap (λ d. after-second S tab Γ p d s t) q
-
--- the context of the first operand of several
-pub first-plain : (tab : ℕ → Ty) (Γ : List Ty) (e : Term) → 2 ≤ operand-count e → first-context tab Γ e ≡ Γ
-unfolding operand-count first-context
-first-plain tab Γ (var n) o = refl
-first-plain tab Γ (unit k) o = refl
-first-plain tab Γ (lam k i e) o = absurd (omega arith)
-first-plain tab Γ (pair k a b) o = refl
-first-plain tab Γ (inj d k i e) o = refl
-first-plain tab Γ (app w f a) o = refl
-first-plain tab Γ (proj d w e) o = refl
-first-plain tab Γ (case w i e a b) o = refl
-first-plain tab Γ (protect m e) o = refl
-first-plain tab Γ (mu i e) o = absurd (omega arith)

@@ -1,29 +1,18 @@
 -- What a list that starts with a type has at its front.
-use mathlib.Core.Path.{_≡_, refl, sym, ap, _∙_}
-use mathlib.Core.List.{_++_, append-assoc}
+use mathlib.Core.Path.{_≡_, refl, ap, _∙_}
+use mathlib.Core.List.{_++_}
 use Prim.Native.Nat.{ℕ, _+_, _-_, _*_, _≤_}
 use native.Mathlib.Omega.{arith}
-use lib.ListN.{length, take, drop, length-append, length-drop}
-use lib.Seq.{take-all, take-at, drop-at, drop-drop}
+use lib.ListN.{length, take, drop, length-append}
+use lib.Seq.{take-at}
 use Rattle.calculus.specs.Security.{Security}
 use Rattle.calculus.specs.Types.{Ty, one, node, sizeT, raiseT}
-use Rattle.rules.specs.Answer.{Bytes, byte}
+use Rattle.rules.specs.Answer.{Bytes}
 use Rattle.rules.specs.Types.{encode-type}
 use Rattle.rules.specs.Typing.{left, right}
-use Rattle.rules.proofs.PrefixLaws.{encode-length, size-positive}
-use Rattle.rules.proofs.TypeCode.{type-code}
 use Rattle.types.specs.Held.{Held, Starts, kind-of, left-of, right-of}
 use Rattle.typing.specs.Memory.{Slot, Sized}
-
--- the part of a list from `a` to its end, as the code takes it
-pub to-end : (a : ℕ) (s : Bytes) → take (length s - a) (drop a s) ≡ drop a s
-to-end a s = take-all (length s - a) (drop a s) (simp length-drop (omega arith))
-
-pub type-length : (t : Ty) → length (encode-type t) ≡ 4 * sizeT t
-type-length t = encode-length type-code t
-
-pub type-positive : (t : Ty) → 1 ≤ sizeT t
-type-positive t = size-positive type-code t
+use Rattle.types.proofs.Parts.{type-length, right-held, same-type}
 
 pub sides-size : (t : Ty) → (kind-of t ≡ 0 → ⊥) → sizeT t ≡ 1 + (sizeT (left-of t) + sizeT (right-of t))
 unfolding sizeT
@@ -50,28 +39,9 @@ module _ {l : Bytes} {t : Ty} (h : Held l t) where
   pub held-bytes : (n : ℕ) → n ≡ sizeT t → take (4 * n) l ≡ encode-type t
   held-bytes n e = ap (λ j. take (4 * j) l) e ∙ held-take
 
-pub kind-is : (l : Bytes) (t : Ty) → Held l t → byte l 0 ≡ kind-of t
-unfolding encode-type
-kind-is l (one k) h = ap (λ x. byte x 0) (h .is)
-kind-is l (node f k a b) h = ap (λ x. byte x 0) (h .is)
-
-pub held-left : (l : Bytes) (t : Ty) → Held l t → (kind-of t ≡ 0 → ⊥) → Held (drop 4 l) (left-of t)
-unfolding encode-type
-held-left l (one k) h n = absurd (n refl)
-held-left l (node c k a b) h n =
-    record { rest = encode-type b ++ h .rest; is = ap (drop 4) (h .is) ∙ append-assoc (encode-type a) (encode-type b) (h .rest) }
-
+-- the right side, where the code starts it
 pub held-right : (l : Bytes) (t : Ty) (at : ℕ) → at ≡ 4 + 4 * sizeT (left-of t) → Held l t → (kind-of t ≡ 0 → ⊥) → Held (drop at l) (right-of t)
-unfolding encode-type
-held-right l (one k) at e h n = absurd (n refl)
-held-right l (node c k a b) at e h n =
-    record {
-      rest = h .rest;
-      is = rw e
-          (sym (drop-drop (4 * sizeT a) 4 l)
-          ∙ ap (drop (4 * sizeT a)) (ap (drop 4) (h .is) ∙ append-assoc (encode-type a) (encode-type b) (h .rest))
-          ∙ drop-at (encode-type a) (encode-type b ++ h .rest) (4 * sizeT a) (type-length a));
-    }
+held-right l t at e h n = rw e (right-held t (sizeT (left-of t)) n refl h)
 
 -- the sides' bytes
 pub sides-bytes : (w : Bytes) (t : Ty) → Held w t → (kind-of t ≡ 0 → ⊥) → take (4 * (sizeT t - 1)) (drop 4 w) ≡ encode-type (left-of t) ++ encode-type (right-of t)
@@ -95,4 +65,4 @@ sized-slot s = record { held = s .held; small = s .small }
 
 -- two types in front of one list
 pub two-of : {l : Bytes} {u t : Ty} → Held l u → (kind-of u ≡ 0 → ⊥) → Held l t → kind-of t ≡ 0 → ⊥
-two-of {l} {u} {t} hu n ht z = n (sym (kind-is l u hu) ∙ kind-is l t ht ∙ z)
+two-of {l} {u} {t} hu n ht z = n (ap kind-of (same-type hu ht) ∙ z)

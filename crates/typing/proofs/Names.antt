@@ -2,7 +2,6 @@
 use mathlib.Core.Path.{_≡_, sym, ap, _∙_, subst}
 use Prim.Native.Nat.{ℕ, suc, _+_, _*_, _<_}
 use native.Mathlib.Omega.{arith}
-use lib.ListN.{drop}
 use lib.Seq.{getD-drop}
 use Rattle.calculus.specs.Security.{Property}
 use Rattle.calculus.specs.Terms.{Side, Term, lam, inj, case, mu}
@@ -11,7 +10,7 @@ use Rattle.rules.specs.Types.{type-count, type-kind, type-at}
 use Rattle.types.specs.Held.{kind-of}
 use Rattle.typing.specs.Operands.{Formed}
 use Rattle.typing.specs.Memory.{Table, Named, Named-sided}
-use Rattle.typing.proofs.Front.{kind-is}
+use Rattle.types.proofs.Parts.{kind-is}
 
 pub named : {types : Bytes} {i : ℕ} → Table types → i < type-count types → Named types i
 named {types} {i} t l = record { type = type-at types i; slot = t .entry i l; within = omega arith }
@@ -19,7 +18,7 @@ named {types} {i} t l = record { type = type-at types i; slot = t .entry i l; wi
 pub kind-at : {types : Bytes} {i : ℕ} → Table types → i < type-count types → type-kind types i ≡ kind-of (type-at types i)
 kind-at {types} {i} t l =
     let z : 4 * i ≡ 4 * i + 0 = omega arith in
-    ap (byte types) z ∙ sym (getD-drop (4 * i) types 0 0) ∙ kind-is (drop (4 * i) types) (type-at types i) (t .entry i l .held)
+    ap (byte types) z ∙ sym (getD-drop (4 * i) types 0 0) ∙ kind-is (type-at types i) (t .entry i l .held)
 
 pub named-sided : {types : Bytes} {i k : ℕ} → Table types → i < type-count types → type-kind types i ≡ suc k → Named-sided types i
 named-sided {types} {i} t l q =

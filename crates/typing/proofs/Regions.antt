@@ -14,7 +14,8 @@ use Rattle.memory.specs.Splice.{splice}
 use Rattle.memory.proofs.Laws.{length-splice, drop-past, drop-before}
 use Rattle.typing.specs.Memory.{high, Slot, Sized, Holds, Wrote, Meets, finds, refuses, Entered, Beside}
 use Rattle.typing.specs.declared.Found.{Found}
-use Rattle.typing.proofs.Front.{type-length, held-take, sides-size}
+use Rattle.typing.proofs.Front.{held-take, sides-size}
+use Rattle.types.proofs.Parts.{type-length}
 
 -- the slots, seen from a lent part
 pub high-drop : (a b : ℕ) (w : Bytes) → a + 252 * b ≤ length w → high b (drop a w) ≡ high b w

@@ -28,7 +28,8 @@ use Rattle.typing.specs.Stages.{wanting, may-read, function-type, pair-t
 use Rattle.typing.specs.declared.Found.{Found}
 use Rattle.typing.specs.declared.Found.the-variants.{Typed, Refused}
 use Rattle.typing.proofs.Found.{the-type}
-use Rattle.typing.proofs.Front.{type-length, size-raised}
+use Rattle.typing.proofs.Front.{size-raised}
+use Rattle.types.proofs.Parts.{type-length}
 use Rattle.typing.proofs.Regions.{high-past, wrote-first}
 
 -- the walk's answer

@@ -17,43 +17,6 @@ operand-count (case w i e a b) = 3
 operand-count (protect m e) = 1
 operand-count (mu i e) = 1
 
--- the operands; a term stands for those that it lacks
-abbrev pub first-operand : Term → Term
-first-operand (var n) = var n
-first-operand (unit k) = unit k
-first-operand (lam k i e) = e
-first-operand (pair k a b) = a
-first-operand (inj d k i e) = e
-first-operand (app w f a) = f
-first-operand (proj d w e) = e
-first-operand (case w i e a b) = e
-first-operand (protect m e) = e
-first-operand (mu i e) = e
-
-abbrev pub second-operand : Term → Term
-second-operand (var n) = var n
-second-operand (unit k) = unit k
-second-operand (lam k i e) = e
-second-operand (pair k a b) = b
-second-operand (inj d k i e) = e
-second-operand (app w f a) = a
-second-operand (proj d w e) = e
-second-operand (case w i e a b) = a
-second-operand (protect m e) = e
-second-operand (mu i e) = e
-
-abbrev pub third-operand : Term → Term
-third-operand (var n) = var n
-third-operand (unit k) = unit k
-third-operand (lam k i e) = e
-third-operand (pair k a b) = b
-third-operand (inj d k i e) = e
-third-operand (app w f a) = a
-third-operand (proj d w e) = e
-third-operand (case w i e a b) = b
-third-operand (protect m e) = e
-third-operand (mu i e) = e
-
 -- What questions 16 and 19 say of a node and of those below it: the named types are in the table `t`, and variables are below
 -- the count of binders.
 unfoldable pub Formed : Bytes → ℕ → Term → Type 0

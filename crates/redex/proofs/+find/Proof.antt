@@ -14,7 +14,7 @@ use Rattle.rules.specs.Types.{type-at}
 use Rattle.rules.specs.Script.{size}
 use Rattle.script.specs.Place.{At}
 use Rattle.redex.specs.declared.Found.{Found}
-use Rattle.redex.specs.Fates.{first-operand, second-operand}
+use Rattle.script.specs.Operands.{first-operand, second-operand}
 use Rattle.redex.specs.Found.{Finds, finds-value}
 use Rattle.script.proofs.Stands.{kind-of, room-one, stands-kind, here}
 use Rattle.redex.proofs.Places.{kind-bound}

@@ -11,10 +11,11 @@ use Rattle.rules.specs.Types.{type-at}
 use Rattle.rules.specs.Script.{number, encode, size}
 use Rattle.rules.specs.Typing.{right, q22, typing}
 use Rattle.types.specs.Held.{right-of}
-use Rattle.typing.specs.Operands.{operand-count, first-operand, second-operand, third-operand}
+use Rattle.typing.specs.Operands.{operand-count}
+use Rattle.script.specs.Operands.{first-operand, second-operand, third-operand}
 use Rattle.typing.specs.Memory.{Sized, Meets, Ready, Enters}
 use Rattle.typing.specs.Stages.{first-context, kept-front, second-context, Leaf, Some, kept-between}
-use Rattle.typing.proofs.Front.{to-end}
+use Rattle.types.proofs.Parts.{to-end}
 use Rattle.typing.proofs.Regions.{entered}
 use Rattle.typing.proofs.Shapes.{long, counted-of}
 use Rattle.typing.proofs.Rules.{meets-of}

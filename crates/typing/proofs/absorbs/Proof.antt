@@ -3,7 +3,7 @@ use mathlib.Core.Path.{ap, _∙_}
 use Rattle.calculus.specs.Types.{top}
 use Rattle.rules.specs.Groups.{leq}
 use Rattle.types.specs.Held.{left-of, right-of}
-use Rattle.typing.proofs.Front.{to-end}
+use Rattle.types.proofs.Parts.{to-end}
 use borrow.Author.Needs.{needs}
 use Rattle.typing.proofs.absorbs.Statement.{statement}
 use Rattle.typing.proofs.absorbs.Tie as tie

@@ -6,7 +6,8 @@ use lib.ListN.{take}
 use Rattle.calculus.specs.Types.{sizeT}
 use Rattle.rules.specs.Groups.{readers}
 use Rattle.typing.specs.Memory.{finds, refuses}
-use Rattle.typing.proofs.Front.{to-end, held-long, held-bytes}
+use Rattle.typing.proofs.Front.{held-long, held-bytes}
+use Rattle.types.proofs.Parts.{to-end}
 use Rattle.typing.proofs.Regions.{wrote-first}
 use Rattle.typing.proofs.Rules.{wanting-yes, wanting-no, meets-of}
 use borrow.Author.Needs.{needs}

@@ -1,6 +1,6 @@
 -- `typing::argument_fits` meets its contract.
 use Rattle.types.specs.Held.{left-of}
-use Rattle.typing.proofs.Front.{to-end}
+use Rattle.types.proofs.Parts.{to-end}
 use borrow.Author.Needs.{needs}
 use Rattle.typing.proofs.argument_fits.Statement.{statement}
 use Rattle.typing.proofs.argument_fits.Tie as tie

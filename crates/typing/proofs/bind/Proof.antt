@@ -4,7 +4,8 @@ use Prim.Native.Nat.{_*_}
 use native.Mathlib.Omega.{arith}
 use lib.ListN.{take}
 use Rattle.calculus.specs.Types.{sizeT}
-use Rattle.typing.proofs.Front.{to-end, held-long, held-bytes}
+use Rattle.typing.proofs.Front.{held-long, held-bytes}
+use Rattle.types.proofs.Parts.{to-end}
 use Rattle.typing.proofs.Regions.{slot-written}
 use borrow.Author.Needs.{needs}
 use Rattle.typing.proofs.bind.Statement.{statement}

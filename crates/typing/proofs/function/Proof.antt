@@ -6,7 +6,8 @@ use lib.ListN.{take}
 use Rattle.calculus.specs.Types.{function, sizeT}
 use Rattle.rules.specs.Script.{r, ir}
 use Rattle.typing.specs.Memory.{refuses}
-use Rattle.typing.proofs.Front.{to-end, held-long, held-bytes}
+use Rattle.typing.proofs.Front.{held-long, held-bytes}
+use Rattle.types.proofs.Parts.{to-end}
 use Rattle.typing.proofs.Rules.{meets-of, fits-no, function-meets}
 use borrow.Author.Needs.{needs}
 use Rattle.typing.proofs.function.Statement.{statement}

@@ -12,7 +12,8 @@ use Rattle.rules.specs.Typing.{left, right}
 use Rattle.memory.specs.Splice.{splice}
 use Rattle.typing.specs.Memory.{finds, refuses}
 use Rattle.typing.specs.Stages.{side-of}
-use Rattle.typing.proofs.Front.{to-end, held-long, held-bytes, two-of}
+use Rattle.typing.proofs.Front.{held-long, held-bytes, two-of}
+use Rattle.types.proofs.Parts.{to-end}
 use Rattle.typing.proofs.Regions.{wrote-first}
 use Rattle.typing.proofs.Rules.{wanting-yes, wanting-no, meets-of, other-record, other-size}
 use borrow.Author.Needs.{needs}

@@ -6,7 +6,8 @@ use lib.ListN.{length, drop, length-drop}
 use Rattle.calculus.specs.Types.{Ty, top, raiseT}
 use Rattle.rules.specs.Groups.{readers}
 use Rattle.typing.specs.Memory.{Sized, Wrote, finds}
-use Rattle.typing.proofs.Front.{type-positive, held-long, held-bytes}
+use Rattle.typing.proofs.Front.{held-long, held-bytes}
+use Rattle.types.proofs.Parts.{type-positive}
 use Rattle.typing.proofs.Regions.{wrote-first}
 use Rattle.typing.proofs.Rules.{raise-wrote}
 use borrow.Author.Needs.{needs}

@@ -9,7 +9,8 @@ use Rattle.rules.specs.Groups.{readers}
 use Rattle.types.specs.Held.{Held, kind-of, left-of, right-of}
 use Rattle.typing.specs.Memory.{Sized}
 use Rattle.typing.specs.Stages.{reads, side-of}
-use Rattle.typing.proofs.Front.{sides-size, left-is, right-is, held-left, held-right}
+use Rattle.typing.proofs.Front.{sides-size, left-is, right-is, held-right}
+use Rattle.types.proofs.Parts.{left-held}
 use Rattle.typing.proofs.Rules.{read-two, said-yes, meets-of, says-passes}
 use borrow.Author.Needs.{needs}
 use Rattle.typing.proofs.project.Statement.{statement}
@@ -66,7 +67,7 @@ first-sized : (c : tie.After-type-records) (t : Ty) → Sized ((c .before .befor
 first-sized c t h =
     let n = two (c .before .before .before) t (h .held) in
     let s = sides-size t n in
-    record { held = held-left ((c .before .before .before .before .before .before .before .before .before) .args .w .now) t (h .held) n; small = omega (arith, h .small); count = counts c t (h .held) }
+    record { held = left-held t n (h .held); small = omega (arith, h .small); count = counts c t (h .held) }
 
 mul-from : tie.Need-mul-from
 mul-from c = omega (arith, sides (c .before) ((c .before .before .before .before .before .before .before .before .before .before) .pre .0 .type) ((c .before .before .before .before .before .before .before .before .before .before) .pre .0 .sized))

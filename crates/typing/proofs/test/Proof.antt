@@ -7,7 +7,8 @@ use Rattle.calculus.specs.Types.{sum}
 use Rattle.rules.specs.Groups.{readers}
 use Rattle.typing.specs.Memory.{high, Slot}
 use Rattle.typing.specs.Stages.{aside, fails}
-use Rattle.typing.proofs.Front.{type-positive, left-is, sides-bytes}
+use Rattle.typing.proofs.Front.{left-is, sides-bytes}
+use Rattle.types.proofs.Parts.{type-positive}
 use Rattle.typing.proofs.Regions.{entered, beside-written}
 use Rattle.typing.proofs.Rules.{read-two, said-yes, says-refused}
 use borrow.Author.Needs.{needs}

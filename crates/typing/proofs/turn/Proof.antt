@@ -8,7 +8,8 @@ use Rattle.calculus.specs.Types.{Ty, sizeT}
 use Rattle.rules.specs.Answer.{Bytes, ask}
 use Rattle.types.specs.Held.{left-of, right-of}
 use Rattle.typing.specs.Memory.{high, Slot, Beside}
-use Rattle.typing.proofs.Front.{to-end, held-bytes}
+use Rattle.typing.proofs.Front.{held-bytes}
+use Rattle.types.proofs.Parts.{to-end}
 use Rattle.typing.proofs.Regions.{slot-written}
 use Rattle.typing.proofs.Rules.{enters-of, stops-of}
 use borrow.Author.Needs.{needs}

@@ -6,7 +6,8 @@ use lib.ListN.{length, drop, getD, length-drop}
 use Rattle.calculus.specs.Types.{sizeT}
 use Rattle.rules.specs.Types.{no-type}
 use Rattle.typing.specs.Memory.{Slot, finds}
-use Rattle.typing.proofs.Front.{to-end, held-long, held-bytes}
+use Rattle.typing.proofs.Front.{held-long, held-bytes}
+use Rattle.types.proofs.Parts.{to-end}
 use Rattle.typing.proofs.Regions.{slot-at, wrote-first}
 use borrow.Author.Needs.{needs}
 use Rattle.typing.proofs.variable.Statement.{statement}

@@ -1,5 +1,5 @@
 -- `typing::wanted` meets its contract.
-use Rattle.typing.proofs.Front.{to-end}
+use Rattle.types.proofs.Parts.{to-end}
 use borrow.Author.Needs.{needs}
 use Rattle.typing.proofs.wanted.Statement.{statement}
 use Rattle.typing.proofs.wanted.Tie as tie

@@ -4,7 +4,8 @@ use Rattle.calculus.specs.Subtyping.{subtype, below}
 use Rattle.rules.specs.Groups.{readers}
 use Rattle.types.specs.Held.{left-of, right-of}
 use Rattle.typing.specs.Stages.{side-of}
-use Rattle.typing.proofs.Front.{to-end, left-is, right-is, two-of}
+use Rattle.typing.proofs.Front.{left-is, right-is, two-of}
+use Rattle.types.proofs.Parts.{to-end}
 use borrow.Author.Needs.{needs}
 use Rattle.typing.proofs.wanted_side.Statement.{statement}
 use Rattle.typing.proofs.wanted_side.Tie as tie
