@@ -2,6 +2,7 @@
 
 ghost use mathlib.Core.Path.{_≡_};
 ghost use Prim.Native.Nat.{_≤_, _<_};
+ghost use lib.ListN.{length};
 ghost use Rattle.rules.specs.Answer.{byte};
 ghost use Rattle.rules.specs.Limits.{group-limit};
 ghost use Rattle.rules.specs.Groups.{rows, row, bit, leq, join, ok3, ok4, ok5, ok6, q2, q3, q4, q5, q6, q7};
@@ -54,10 +55,33 @@ pub fn row_count(groups: &[u8]) -> usize
     groups.len() / ROW_WIDTH
 }
 
+// A byte of the table.
+fn octet(groups: &[u8], i: usize) -> u32
+    requires { ⌜ i < length (now groups) ⌝ }
+    ensures { λ a. ⌜ (a ≡ byte (now (groups .entry)) i) × (a < 256) ⌝ }
+{
+    groups[i] as u32
+}
+
+// The row of a group of the table: its bytes are all there, so that they are read as one word.
+fn whole_row(groups: &[u8], g: usize) -> u32
+    requires { ⌜ g < rows (now groups) ⌝ }
+    ensures { λ a. ⌜ a ≡ row (now (groups .entry)) g ⌝ }
+{
+    let i = ROW_WIDTH * g;
+    octet(groups, i)
+        + 256 * octet(groups, i + 1)
+        + 65536 * octet(groups, i + 2)
+        + 16777216 * octet(groups, i + 3)
+}
+
 // The row of g, a little-endian word: a row cut short is read as far as it goes, and one past the table is 0.
 pub fn row(groups: &[u8], g: usize) -> u32
     ensures { λ a. ⌜ a ≡ row (now (groups .entry)) g ⌝ }
 {
+    if g < row_count(groups) {
+        return whole_row(groups, g);
+    }
     if row_count(groups) < g {
         return 0;
     }

@@ -8,8 +8,17 @@ use Rattle.lattice.proofs.row.Tie as tie
 row-count-requires : tie.Need-row-count-requires
 row-count-requires c κs = search needs
 
+whole-row-requires : tie.Need-whole-row-requires
+whole-row-requires c κs = search needs
+
 returns : tie.Need-returns
-returns c = row-past (c .before .before .before .args .groups .now) (c .before .before .before .args .g) (omega arith)
+returns c = search needs
+
+row-count-requires-2 : tie.Need-row-count-requires-2
+row-count-requires-2 c κs = search needs
+
+returns-2 : tie.Need-returns-2
+returns-2 c = row-past (c .before .before .before .before .before .args .groups .now) (c .before .before .before .before .before .args .g) (omega arith)
 
 mul-i : tie.Need-mul-i
 mul-i c = search needs
@@ -53,15 +62,18 @@ mul-result-3 c = search needs
 add-result-3 : tie.Need-add-result-3
 add-result-3 c = search needs
 
-returns-2 : tie.Need-returns-2
-returns-2 c = search needs
+returns-3 : tie.Need-returns-3
+returns-3 c = search needs
 
 pub row-spec : {M : Type 1} → statement M
 row-spec =
     tie.close
     (tie.spec
     row-count-requires
+    whole-row-requires
     returns
+    row-count-requires-2
+    returns-2
     mul-i
     byte-requires
     add-byte
@@ -76,4 +88,4 @@ row-spec =
     byte-requires-4
     mul-result-3
     add-result-3
-    returns-2)
+    returns-3)
