@@ -3,23 +3,53 @@
 use std::rc::Rc;
 
 use wigneld_tests::cases::Inputs;
-use wigneld_tests::generate::{chain_groups, unit, wide_type, LOW};
+use wigneld_tests::generate::{chain_groups, unit, wide, wide_type, LOW};
+use wigneld_tests::limits::{MOST_DEPTH, MOST_SCRIPT_RECORDS, MOST_TABLE_RECORDS, TYPE_BYTES};
 use wigneld_tests::script::{Side, Term};
 use wigneld_tests::types::{Form, Type};
 
-/// Records: 0 to 2 a sum of units, 3 to 65 a function of 63 records, all groups 0.
-fn types() -> Vec<u8> {
-    let (left, right) = (Rc::new(wide_type(31)), Rc::new(wide_type(31)));
-    let large = Type { marks: LOW, form: Form::Function(left, right) };
-    [vec![1, 0, 0, 0], vec![0; 8], large.write()].concat()
+use crate::calls::Call;
+
+/// What is measured: a call, the name of a shape and its inputs by size.
+pub struct Shape {
+    pub call: Call,
+    pub name: &'static str,
+    pub inputs: fn(usize) -> Inputs,
 }
 
+pub static SHAPES: [Shape; 11] = [
+    Shape { call: Call::Check, name: "typical", inputs: typical },
+    Shape { call: Call::Check, name: "worst: chain", inputs: chain },
+    Shape { call: Call::Check, name: "worst: first operands", inputs: first_operands },
+    Shape { call: Call::Check, name: "worst: branches", inputs: branches },
+    Shape { call: Call::Check, name: "worst: tables", inputs: large_tables },
+    Shape { call: Call::Run, name: "typical", inputs: typical },
+    Shape { call: Call::Run, name: "worst: far redexes", inputs: far },
+    Shape { call: Call::Step, name: "typical", inputs: typical },
+    Shape { call: Call::Step, name: "worst: substitution", inputs: substitution },
+    Shape { call: Call::Sheet, name: "typical", inputs: values },
+    Shape { call: Call::Sheet, name: "worst: pairs", inputs: pairs },
+];
+
+/// Of the types table: a sum of units, a function and a sum of 63 records, all groups 0.
 const SUM: u16 = 0;
-const LARGE: u16 = 3;
+const FUNCTION_63: u16 = 3;
+const SUM_63: u16 = 66;
+
+/// A side of the types of 63 records.
+const SIDE: usize = 31;
+
+fn types() -> Vec<u8> {
+    let side = || Rc::new(wide_type(SIDE));
+    let function = Type { marks: LOW, form: Form::Function(side(), side()) };
+    let sum = Type { marks: LOW, form: Form::Sum(side(), side()) };
+    [vec![1, 0, 0, 0], vec![0; 8], function.write(), sum.write()].concat()
+}
 
 fn inputs(term: Rc<Term>, size: usize) -> Inputs {
     let script = term.write();
     assert_eq!(script.len(), size * 6, "a shape of exactly this size");
+    assert!(term.depth() <= MOST_DEPTH, "a shape within the depth limit");
     Inputs { groups: chain_groups(32), types: types(), script }
 }
 
@@ -31,8 +61,16 @@ fn pair(left: Rc<Term>, right: Rc<Term>) -> Rc<Term> {
     Rc::new(Term::Pair(LOW, left, right))
 }
 
+fn injection(side: Side, sum: u16, operand: Rc<Term>) -> Rc<Term> {
+    Rc::new(Term::Injection(side, LOW, sum, operand))
+}
+
 fn inject(side: Side) -> Rc<Term> {
-    Rc::new(Term::Injection(side, LOW, SUM, unit()))
+    injection(side, SUM, unit())
+}
+
+fn case(result: u16, tested: Rc<Term>, first: Rc<Term>, second: Rc<Term>) -> Rc<Term> {
+    Rc::new(Term::Case(0, result, tested, first, second))
 }
 
 fn protect(times: usize, term: Rc<Term>) -> Rc<Term> {
@@ -49,19 +87,77 @@ fn decisions(size: usize) -> Rc<Term> {
     if size < 10 {
         return protect(size - 2, inject(Side::First));
     }
-    let turned = Term::Case(0, SUM, variable(0), inject(Side::Second), inject(Side::First));
-    let function = Rc::new(Term::Function(LOW, SUM, Rc::new(turned)));
+    let turned = case(SUM, variable(0), inject(Side::Second), inject(Side::First));
+    let function = Rc::new(Term::Function(LOW, SUM, turned));
     Rc::new(Term::Application(0, function, decisions(size - 8)))
 }
 
-/// Cases in cases, each branch of a type of 63 records, so that each is compared in full.
-fn cases(leaves: usize, binders: usize) -> Rc<Term> {
+/// Check, run and step.
+fn typical(size: usize) -> Inputs {
+    inputs(decisions(size), size)
+}
+
+/// The same over as many types as a table may have.
+fn large_tables(size: usize) -> Inputs {
+    let mut found = typical(size);
+    let own = found.types.clone();
+    while found.types.len() + own.len() <= MOST_TABLE_RECORDS * TYPE_BYTES {
+        found.types.extend(&own);
+    }
+    found
+}
+
+/// One-operand records, as many as the depth allows, over a wide term.
+fn chain(size: usize) -> Inputs {
+    let wide_depth = 2 * size.ilog2() as usize + 1;
+    let times = (size / 2).min(MOST_DEPTH - wide_depth);
+    inputs(protect(times, wide(size - times)), size)
+}
+
+/// A closed value of the sum of 63 records.
+fn large_value() -> Rc<Term> {
+    fn of(found: &Type) -> Rc<Term> {
+        found.sides().map_or_else(unit, |(left, right)| pair(of(left), of(right)))
+    }
+    injection(Side::First, SUM_63, of(&wide_type(SIDE)))
+}
+
+/// A wide term of the sum of 63 records: cases halved down to values.
+fn wide_sum(size: usize) -> Rc<Term> {
+    let leaf = SIDE + 1;
+    if size < 2 * leaf + 3 {
+        return protect(size - leaf, large_value());
+    }
+    let left = (size - 3) / 2;
+    case(SUM_63, inject(Side::First), wide_sum(left), wide_sum(size - 3 - left))
+}
+
+/// Cases in the tested operands of cases, as deep as can be, over a wide term: all of 63 records.
+fn first_operands(size: usize) -> Inputs {
+    const LEVEL: usize = 5;
+    let levels = ((size - SIDE - 1) / LEVEL).min(200);
+    let inner = wide_sum(size - LEVEL * levels);
+    let branch = |side| injection(side, SUM_63, variable(0));
+    let around = |tested, _| case(SUM_63, tested, branch(Side::First), branch(Side::Second));
+    inputs((0..levels).fold(inner, around), size)
+}
+
+/// Cases in the branches of cases, each branch a variable of a type of 63 records.
+fn nested(leaves: usize, binders: usize) -> Rc<Term> {
     if leaves == 1 {
         return variable(binders - 1);
     }
     let half = leaves / 2;
-    let (first, second) = (cases(half, binders + 1), cases(leaves - half, binders + 1));
-    Rc::new(Term::Case(0, LARGE, inject(Side::First), first, second))
+    let (first, second) = (nested(half, binders + 1), nested(leaves - half, binders + 1));
+    case(FUNCTION_63, inject(Side::First), first, second)
+}
+
+fn branches(size: usize) -> Inputs {
+    // The recursion's own record, 4 for each leaf but one, and the rest in protects.
+    let leaves = (size - 2) / 4 + 1;
+    let rest = size - 1 - (4 * leaves - 3);
+    let body = protect(rest, nested(leaves, 1));
+    inputs(Rc::new(Term::Recursion(FUNCTION_63, body)), size)
 }
 
 /// A value: pairs halved down to injections, units and functions.
@@ -75,6 +171,10 @@ fn value(size: usize) -> Rc<Term> {
             pair(value(left), value(size - 1 - left))
         }
     }
+}
+
+fn values(size: usize) -> Inputs {
+    inputs(value(size), size)
 }
 
 /// A value without functions, so that a sheet shows each record.
@@ -98,6 +198,10 @@ fn comb(size: usize, depth: usize) -> Rc<Term> {
     pair(open_value(tooth), comb(size - 1 - tooth, depth - 1))
 }
 
+fn pairs(size: usize) -> Inputs {
+    inputs(comb(size, 240.min(size / 4)), size)
+}
+
 /// Redexes only: pairs halved down to a protected unit.
 fn redexes(size: usize) -> Rc<Term> {
     if size < 5 {
@@ -108,44 +212,34 @@ fn redexes(size: usize) -> Rc<Term> {
 }
 
 /// A comb of values with redexes at its far end: each step passes all the rest.
-fn far(size: usize) -> Rc<Term> {
+fn far(size: usize) -> Inputs {
     let end = size / 2;
     let depth = (size / 8).clamp(1, 200);
     let mut left = size - end;
-    let mut teeth = Vec::new();
+    let mut term = redexes(end);
     for rest in (1..=depth).rev() {
         let tooth = left / rest - 1;
-        teeth.push(tooth);
+        term = pair(value(tooth), term);
         left -= tooth + 1;
     }
-    assert_eq!(left, 0);
-    teeth.into_iter().fold(redexes(end), |inner, tooth| pair(value(tooth), inner))
+    inputs(term, size)
 }
 
-pub fn check_typical(size: usize) -> Inputs {
-    inputs(decisions(size), size)
+/// Pairs halved down to leaves, of which the first `variables` are variable 0 and the others units.
+fn body(leaves: usize, variables: usize) -> Rc<Term> {
+    if leaves == 1 {
+        return if variables > 0 { variable(0) } else { unit() };
+    }
+    let half = leaves / 2;
+    pair(body(half, variables.min(half)), body(leaves - half, variables.saturating_sub(half)))
 }
 
-pub fn check_worst(size: usize) -> Inputs {
-    // The recursion's own record, 4 for each leaf but one, and the rest in protects.
-    let leaves = (size - 2) / 4 + 1;
-    let rest = size - 1 - (4 * leaves - 3);
-    let body = protect(rest, cases(leaves, 1));
-    inputs(Rc::new(Term::Recursion(LARGE, body)), size)
-}
-
-pub fn run_typical(size: usize) -> Inputs {
-    inputs(decisions(size), size)
-}
-
-pub fn run_worst(size: usize) -> Inputs {
-    inputs(far(size), size)
-}
-
-pub fn sheet_typical(size: usize) -> Inputs {
-    inputs(value(size), size)
-}
-
-pub fn sheet_worst(size: usize) -> Inputs {
-    inputs(comb(size, 240.min(size / 4)), size)
+/// A function applied to a value that is put in as often as the new term's limit allows.
+fn substitution(size: usize) -> Inputs {
+    let leaves = size / 4;
+    let own = 2 * leaves - 1;
+    let argument = size - 2 - own;
+    let most = (MOST_SCRIPT_RECORDS - 1 - own) / (argument - 1).max(1);
+    let function = Rc::new(Term::Function(LOW, SUM, body(leaves, most.min(leaves))));
+    inputs(Rc::new(Term::Application(0, function, value(argument))), size)
 }
