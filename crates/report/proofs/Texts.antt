@@ -18,7 +18,8 @@ use Rattle.rules.specs.Run.{Ran}
 use Rattle.rules.specs.Calls.{zeros, q25, q26, q27, script-check, checking, type-records, running, Report, run-report, first-after, sheeting, sheet-records, sheet-after}
 use Rattle.rules.specs.Reach.{verdict}
 use Rattle.rules.specs.Report.{refusal-line, accepted-line, run-line, sheet-lines, sheet-text, value-text, run-text, checked-text, report}
-use Rattle.demands.proofs.Answers.{accepted-inj, and-then, asked}
+use Rattle.demands.proofs.Answers.{accepted-inj}
+use Rattle.rules.proofs.Asked.{ask-true, and-then}
 use Rattle.substitution.proofs.Reading.{term-length}
 use Rattle.packing.proofs.Exported.{run-ends}
 use Rattle.text.specs.Written.{Written}
@@ -40,7 +41,7 @@ page-fits g t s group room b e =
     let e3 = and-then (q26 (term s)) _ e2 .1 in
     let e4 = and-then (q27 (sheet g group (term s)) room) _ e3 in
     omega
-    (arith, leb-true (length (sheet g group (term s))) room (asked 27 0 (leb (length (sheet g group (term s))) room) (e4 .0)), ap length (accepted-inj (e4 .1)))
+    (arith, leb-true (length (sheet g group (term s))) room (ask-true 27 0 (leb (length (sheet g group (term s))) room) (e4 .0)), ap length (accepted-inj (e4 .1)))
 
 -- the counted records lie in the sheet's buffer,
 pub count-within : (a : Answer Bytes) (count room : ℕ) → accepted count ≡ sheet-records a → ((b : Bytes) → a ≡ accepted b → length b ≤ room)
