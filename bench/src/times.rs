@@ -1,4 +1,5 @@
-//! Middle times of calls that take turns, so that whatever else the machine does falls on all alike.
+//! Middle times of calls that take turns. What is measured is the processor's time, so that other load
+//! of the machine isn't.
 
 use std::hint::black_box;
 use std::time::{Duration, Instant};
@@ -16,8 +17,27 @@ const PATIENCE: Duration = Duration::from_millis(200);
 const LEAST_REPETITIONS: usize = 5;
 const MOST_REPETITIONS: usize = 2000;
 
-/// A copy is too short for the clock: this many are timed as one.
-const COPIES: usize = 100;
+/// Short calls are timed several at a time, so that the clock's own time doesn't count.
+const LEAST_TIMED: Duration = Duration::from_micros(100);
+const MOST_AT_A_TIME: u128 = 10_000;
+
+/// How long this thread has had a processor.
+fn processor_time() -> Duration {
+    #[repr(C)]
+    struct Timespec {
+        seconds: i64,
+        nanoseconds: i64,
+    }
+    extern "C" {
+        fn clock_gettime(clock: i32, time: *mut Timespec) -> i32;
+    }
+    const THREAD: i32 = 3;
+    let mut now = Timespec { seconds: 0, nanoseconds: 0 };
+    // The pointer is to a timespec that lives for the call.
+    let failed = unsafe { clock_gettime(THREAD, &mut now) };
+    assert_eq!(failed, 0, "the clock of a thread's processor time");
+    Duration::new(now.seconds as u64, now.nanoseconds as u32)
+}
 
 /// A copy of a step's term: what a step can't be faster than.
 pub struct Copied {
@@ -67,23 +87,35 @@ pub fn compare() {
     println!("{alike} calls answered alike by {} implementations", IMPLEMENTATIONS.len());
 }
 
+/// How many calls are timed at a time.
+fn at_a_time(body: &mut dyn FnMut()) -> u128 {
+    let start = processor_time();
+    body();
+    let one = (processor_time() - start).as_nanos().max(1);
+    (LEAST_TIMED.as_nanos() / one).clamp(1, MOST_AT_A_TIME)
+}
+
 /// The middle time of each turn-taker in microseconds.
 fn middle_times(mut turns: Vec<Box<dyn FnMut() + '_>>) -> Vec<f64> {
-    let mut times: Vec<Vec<Duration>> = vec![Vec::new(); turns.len()];
+    let counts: Vec<u128> = turns.iter_mut().map(|body| at_a_time(body)).collect();
+    let mut times: Vec<Vec<f64>> = vec![Vec::new(); turns.len()];
     let start = Instant::now();
     for turn in 0..MOST_REPETITIONS {
         if turn >= LEAST_REPETITIONS && start.elapsed() > PATIENCE {
             break;
         }
-        for (body, own) in turns.iter_mut().zip(&mut times) {
-            let one = Instant::now();
-            body();
-            own.push(one.elapsed());
+        for (at, body) in turns.iter_mut().enumerate() {
+            let one = processor_time();
+            for _ in 0..counts[at] {
+                body();
+            }
+            let spent = (processor_time() - one).as_secs_f64();
+            times[at].push(spent * 1e6 / counts[at] as f64);
         }
     }
-    let middle = |mut own: Vec<Duration>| {
-        own.sort();
-        own[own.len() / 2].as_secs_f64() * 1e6
+    let middle = |mut own: Vec<f64>| {
+        own.sort_by(f64::total_cmp);
+        own[own.len() / 2]
     };
     times.into_iter().map(middle).collect()
 }
@@ -105,13 +137,9 @@ pub fn measure(call: Call, inputs: &Inputs) -> Measured {
             black_box(measured_call(who, call, black_box(inputs), &mut own));
         }));
     }
-    turns.push(Box::new(|| {
-        for _ in 0..COPIES {
-            black_box(&mut copied[..]).copy_from_slice(black_box(term));
-        }
-    }));
+    turns.push(Box::new(|| black_box(&mut copied[..]).copy_from_slice(black_box(term))));
     let mut times = middle_times(turns);
-    let time = times.pop().expect("the copy's own") / COPIES as f64;
+    let time = times.pop().expect("the copy's own");
     let records = term.len() / SCRIPT_BYTES;
     let copy = (steps > 0).then_some(Copied { time, records, steps });
     Measured { answer, times, copy }
