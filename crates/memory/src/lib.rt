@@ -51,7 +51,8 @@ pub fn up(w: &mut [u8], from: usize, to: usize, n: usize)
 // Zeros from byte `start` to the end of the buffer.
 pub fn clear_from(buffer: &mut [u8], start: usize)
     requires { ⌜ start ≤ length (now buffer) ⌝ }
-    ensures { λ _. ⌜ now (buffer .exit) ≡ take start (now (buffer .entry)) ++ replicate (length (now (buffer .entry)) - start) 0 ⌝ }
+    ensures { λ _. ⌜ now (buffer .exit) ≡ take start (now (buffer .entry))
+        ++ replicate (length (now (buffer .entry)) - start) 0 ⌝ }
 {
     let mut i = start;
     while i < buffer.len() {

@@ -78,8 +78,12 @@ fn stepped(a: StepAnswer) -> u64
 
 #[no_mangle]
 pub extern "C" fn probe_step(groups: &[u8], types: &[u8], script: &[u8], written: &mut [u8]) -> u64
-    ensures { λ n. ⌜ (n ≡ packed (step-ended (step-report (now (script .entry)) (stepping (now (groups .entry)) (now (types .entry)) (now (script .entry)) (length (now (written .entry)))))))
-        × (now (written .exit) ≡ written-after (stepping (now (groups .entry)) (now (types .entry)) (now (script .entry)) (length (now (written .entry)))) (now (written .entry))) ⌝ }
+    ensures { λ n. ⌜ (n ≡ packed
+        (step-ended (step-report (now (script .entry))
+        (stepping (now (groups .entry)) (now (types .entry)) (now (script .entry)) (length (now (written .entry)))))))
+        × (now (written .exit)
+        ≡ written-after (stepping (now (groups .entry)) (now (types .entry)) (now (script .entry))
+        (length (now (written .entry)))) (now (written .entry))) ⌝ }
 {
     stepped(reduction::step(groups, types, script, written))
 }
@@ -94,7 +98,8 @@ fn shorter(a: usize, b: usize) -> usize
 #[no_mangle]
 pub extern "C" fn probe_subterm(script: &[u8], index: u64, copy: &mut [u8]) -> u64
     ensures { λ n. ⌜ (n ≡ length (subterm (now (script .entry)) index))
-        × (now (copy .exit) ≡ fill-front (take (length (now (copy .entry))) (subterm (now (script .entry)) index)) (now (copy .entry))) ⌝ }
+        × (now (copy .exit) ≡ fill-front (take (length (now (copy .entry))) (subterm (now (script .entry)) index))
+        (now (copy .entry))) ⌝ }
 {
     let part = script::subterm(script, index as usize);
     let n = shorter(part.len(), copy.len());

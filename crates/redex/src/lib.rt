@@ -11,8 +11,7 @@ ghost use Rattle.rules.specs.Script.{kind, r};
 ghost use Rattle.script.specs.Place.{At};
 ghost use Rattle.redex.specs.Fates.{is-function, fate};
 ghost use Rattle.redex.specs.Found.{Shallow, Finds, answer, takes-apart};
-
-const TYPE_WIDTH: usize = 4;
+use script::TYPE_WIDTH;
 
 // What the search for the redex reports: a value and the record after it; the redex and the number of records around it; or why no
 // step moves the term, a reader that may not (end 2) or a wrong kind (end 3).
@@ -21,12 +20,6 @@ pub enum Found {
     Redex(usize, usize),
     Denied,
     Stuck,
-}
-
-fn index(n: u16) -> usize
-    ensures { λ a. ⌜ (a ≡ n) × (a < 65536) ⌝ }
-{
-    n as usize
 }
 
 // Is type i a function? Asked again here, and of any index, so that no step has to keep question 16.
@@ -65,7 +58,8 @@ fn may_read(groups: &[u8], script: &[u8], at: usize) -> bool
 // The answer of the destructor at record `at`, whose evaluated operands are values: the kind is asked before the reader.
 fn reading(groups: &[u8], script: &[u8], at: usize, depth: usize) -> Found
     requires { ⌜ script-width * at + 12 ≤ length (now script) ⌝ }
-    ensures { λ a. ⌜ ((tab : ℕ → Ty) (e : Term) → At (now (script .entry)) at e → 6 ≤ kind (now (script .entry)) at → kind (now (script .entry)) at ≤ 9 → a ≡ answer (fate (readers (now (groups .entry))) tab e) at depth) ⌝ }
+    ensures { λ a. ⌜ ((tab : ℕ → Ty) (e : Term) → At (now (script .entry)) at e → 6 ≤ kind (now (script .entry)) at
+        → kind (now (script .entry)) at ≤ 9 → a ≡ answer (fate (readers (now (groups .entry))) tab e) at depth) ⌝ }
 {
     let destructor = script::kind(script, at);
     let value = script::kind(script, at + 1);
@@ -81,9 +75,10 @@ fn reading(groups: &[u8], script: &[u8], at: usize, depth: usize) -> Found
 // The answer of the recursion at record `at`.
 fn unrolling(types: &[u8], script: &[u8], at: usize, depth: usize) -> Found
     requires { ⌜ script-width * at + 6 ≤ length (now script) ⌝ }
-    ensures { λ a. ⌜ ((S : Security) (e : Term) → At (now (script .entry)) at e → kind (now (script .entry)) at ≡ 11 → a ≡ answer (fate S (type-at (now (types .entry))) e) at depth) ⌝ }
+    ensures { λ a. ⌜ ((S : Security) (e : Term) → At (now (script .entry)) at e → kind (now (script .entry)) at ≡ 11
+        → a ≡ answer (fate S (type-at (now (types .entry))) e) at depth) ⌝ }
 {
-    let named = index(script::number(script, at));
+    let named = script::index(script::number(script, at));
     if !unrolls(types, named) {
         return Found::Stuck;
     }
@@ -94,7 +89,8 @@ fn unrolling(types: &[u8], script: &[u8], at: usize, depth: usize) -> Found
 // passed over twice, and no call is deeper than the term.
 pub fn find(groups: &[u8], types: &[u8], script: &[u8], at: usize, depth: usize) -> Found
     requires { ⌜ Shallow (now script) at depth ⌝ }
-    ensures { λ a. ⌜ ((e : Term) → At (now (script .entry)) at e → Finds (readers (now (groups .entry))) (type-at (now (types .entry))) at depth e a) ⌝ }
+    ensures { λ a. ⌜ ((e : Term) → At (now (script .entry)) at e
+        → Finds (readers (now (groups .entry))) (type-at (now (types .entry))) at depth e a) ⌝ }
 {
     let kind = script::kind(script, at);
     if kind == 0 {

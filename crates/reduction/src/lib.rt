@@ -17,19 +17,21 @@ ghost use Rattle.rules.specs.Script.{ir, script-record, encode, term, size, dep
 ghost use Rattle.rules.specs.Step.{step-in};
 ghost use Rattle.rules.specs.Run.{run};
 ghost use Rattle.rules.specs.Reach.{Accepted};
-ghost use Rattle.rules.specs.Calls.{step-report, stepping, front-after, written-after, running, run-report, first-after, scratch-after};
+ghost use Rattle.rules.specs.Calls.{step-report, stepping, front-after, written-after, running, run-report, first-after};
+ghost use Rattle.rules.specs.Calls.{scratch-after};
 ghost use Rattle.redex.specs.Fates.{contractum};
 ghost use Rattle.memory.specs.Splice.{splice};
 ghost use Rattle.substitution.specs.Substituted.{Within};
-ghost use Rattle.reduction.specs.Plans.{Fires, Planned, Ready, Measures, Both, Recursive, PartRoom, BodyRoom, RaisedRoom, UnrolledRoom, Fit};
+ghost use Rattle.reduction.specs.Plans.{Fires, Planned, Ready, Measures, Both, Recursive, PartRoom, BodyRoom, RaisedRoom};
+ghost use Rattle.reduction.specs.Plans.{UnrolledRoom, Fit};
 ghost use Rattle.reduction.specs.Steps.{told, Startable, Sited, Placing, as-step, refused-step, reported};
-ghost use Rattle.reduction.specs.Runs.{front, Loaded, Halted, Ends, number-of, spent-on, refused-run, run-reported, Demanded};
+ghost use Rattle.reduction.specs.Runs.{front, Loaded, Halted, Ends, number-of, spent-on, refused-run, run-reported};
+ghost use Rattle.reduction.specs.Runs.{Demanded};
 use lattice::Checked;
 use lattice::Indirect;
 use lattice::Reader;
 use redex::Found;
-
-const WIDTH: usize = 6;
+use script::SCRIPT_WIDTH;
 
 // How a redex's contractum is made: a protected part of the script; a protected body with a value put in for its variable; the
 // operand raised; a recursion's body with the recursion put in. Places are records.
@@ -56,12 +58,6 @@ pub enum Stepped {
 pub enum StepAnswer {
     Ended(u8, usize),
     Refused(u8, usize),
-}
-
-fn index(n: u16) -> usize
-    ensures { λ a. ⌜ (a ≡ n) × (a < 65536) ⌝ }
-{
-    n as usize
 }
 
 fn low(n: u16) -> u8
@@ -146,7 +142,8 @@ fn measure_raised(script: &[u8], x: usize) -> Size
 // An unrolled recursion, counted: what stands for its variable is the recursion, applied to a variable in a function.
 fn measure_unrolled(script: &[u8], at: usize) -> Size
     requires { ⌜ Recursive (now script) at ⌝ }
-    ensures { λ a. ⌜ ((q : Recursive (now (script .entry)) at) (S : Security) (tab : ℕ → Ty) → Measures (contractum S tab (mu (q .type) (q .body))) a) ⌝ }
+    ensures { λ a. ⌜ ((q : Recursive (now (script .entry)) at) (S : Security) (tab : ℕ → Ty)
+        → Measures (contractum S tab (mu (q .type) (q .body))) a) ⌝ }
 {
     let v = substitution::extent_at(script, at);
     let e = substitution::measure(script, at + 1, 0, v.records + 3, v.depth + 2);
@@ -159,7 +156,8 @@ fn measure_unrolled(script: &[u8], at: usize) -> Size
 // The records and the depth of the contractum, with nothing written: a substitution can name millions of records.
 pub fn measure(script: &[u8], at: usize, plan: Plan) -> Size
     requires { ⌜ Ready (now script) at plan ⌝ }
-    ensures { λ a. ⌜ ((q : Ready (now (script .entry)) at plan) (S : Security) (tab : ℕ → Ty) → Measures (contractum S tab (q .tree)) a) ⌝ }
+    ensures { λ a. ⌜ ((q : Ready (now (script .entry)) at plan) (S : Security) (tab : ℕ → Ty)
+        → Measures (contractum S tab (q .tree)) a) ⌝ }
 {
     match plan {
         Plan::Part(x) => measure_part(script, x),
@@ -175,30 +173,41 @@ fn write_record(kind: u8, r: Reader, ir: Indirect, number: u16, written: &mut [u
     ensures { λ _. ⌜ now (written .exit) ≡ splice start (script-record kind (r .0) (ir .0) number) (now (written .entry)) ⌝ }
 {
     let record = [kind, r.0, ir.0, 0, low(number), high(number)];
-    memory::copy_part(&record, 0, WIDTH, written, start);
+    memory::copy_part(&record, 0, SCRIPT_WIDTH, written, start);
 }
 
 // A protected part. The protection is the indirect readers of what the destructor at record `at` takes apart.
 fn write_part(script: &[u8], at: usize, x: usize, written: &mut [u8], start: usize)
     requires { ⌜ PartRoom (now script) at x (now written) start ⌝ }
-    ensures { λ _. ⌜ ((q : PartRoom (now (script .entry)) at x (now (written .entry)) start) → now (written .exit) ≡ splice start (encode (protect (ir (now (script .entry)) (at + 1)) (q .part))) (now (written .entry))) ⌝ }
+    ensures { λ _. ⌜ ((q : PartRoom (now (script .entry)) at x (now (written .entry)) start)
+        → now (written .exit) ≡ splice start (encode (protect (ir (now (script .entry)) (at + 1)) (q .part)))
+        (now (written .entry))) ⌝ }
 {
     let end = script::end_of(script, x);
     let influence = script::indirect(script, at + 1);
     write_record(10, Reader(0), influence, 0, written, start);
-    memory::copy_part(script, WIDTH * x, WIDTH * (end - x), written, start + WIDTH);
+    memory::copy_part(
+        script,
+        SCRIPT_WIDTH * x,
+        SCRIPT_WIDTH * (end - x),
+        written,
+        start + SCRIPT_WIDTH,
+    );
 }
 
 // A protected body with a value put in. The value is put in as it stands: it isn't raised.
 fn write_body(script: &[u8], at: usize, x: usize, y: usize, written: &mut [u8], start: usize)
     requires { ⌜ BodyRoom (now script) at x y (now written) start ⌝ }
-    ensures { λ _. ⌜ ((q : BodyRoom (now (script .entry)) at x y (now (written .entry)) start) → now (written .exit) ≡ splice start (encode (protect (ir (now (script .entry)) (at + 1)) (subst 0 (q .value) (q .body)))) (now (written .entry))) ⌝ }
+    ensures { λ _. ⌜ ((q : BodyRoom (now (script .entry)) at x y (now (written .entry)) start)
+        → now (written .exit)
+        ≡ splice start (encode (protect (ir (now (script .entry)) (at + 1)) (subst 0 (q .value) (q .body))))
+        (now (written .entry))) ⌝ }
 {
     let end = script::end_of(script, y);
     let influence = script::indirect(script, at + 1);
     write_record(10, Reader(0), influence, 0, written, start);
-    let from = WIDTH * y;
-    let to = WIDTH * end;
+    let from = SCRIPT_WIDTH * y;
+    let to = SCRIPT_WIDTH * end;
     substitution::write(
         script,
         x,
@@ -207,14 +216,17 @@ fn write_body(script: &[u8], at: usize, x: usize, y: usize, written: &mut [u8], 
         &script[0..0],
         0,
         written,
-        start + WIDTH,
+        start + SCRIPT_WIDTH,
     );
 }
 
 // The value at record `at` + 1, raised by the protect at record `at`: joined into the groups of its own record, nowhere deeper.
 fn write_raised(groups: &[u8], script: &[u8], at: usize, written: &mut [u8], start: usize)
     requires { ⌜ RaisedRoom (now script) at (now written) start ⌝ }
-    ensures { λ _. ⌜ ((q : RaisedRoom (now (script .entry)) at (now (written .entry)) start) → now (written .exit) ≡ splice start (encode (raise-value (readers (now (groups .entry))) (q .value) (ir (now (script .entry)) at))) (now (written .entry))) ⌝ }
+    ensures { λ _. ⌜ ((q : RaisedRoom (now (script .entry)) at (now (written .entry)) start)
+        → now (written .exit)
+        ≡ splice start (encode (raise-value (readers (now (groups .entry))) (q .value) (ir (now (script .entry)) at)))
+        (now (written .entry))) ⌝ }
 {
     let x = at + 1;
     let end = script::end_of(script, x);
@@ -229,21 +241,25 @@ fn write_raised(groups: &[u8], script: &[u8], at: usize, written: &mut [u8], sta
         written,
         start,
     );
-    let from = WIDTH * x + WIDTH;
-    let to = WIDTH * end;
-    memory::copy_part(script, from, to - from, written, start + WIDTH);
+    let from = SCRIPT_WIDTH * x + SCRIPT_WIDTH;
+    let to = SCRIPT_WIDTH * end;
+    memory::copy_part(script, from, to - from, written, start + SCRIPT_WIDTH);
 }
 
 // The body of a recursion, with the recursion put in for its variable: (λx. (μf. e) x), with the groups of the recursion's type,
 // its parameter type the next record of the table, and the application made as r of that type.
 fn write_unrolled(types: &[u8], script: &[u8], at: usize, written: &mut [u8], start: usize)
     requires { ⌜ UnrolledRoom (now types) (now script) at (now written) start ⌝ }
-    ensures { λ _. ⌜ ((q : UnrolledRoom (now (types .entry)) (now (script .entry)) at (now (written .entry)) start) (g : Bytes) → now (written .exit) ≡ splice start (encode (subst 0 (unrolled (readers g) (q .type) (top (type-at (now (types .entry)) (q .type))) (q .body)) (q .body))) (now (written .entry))) ⌝ }
+    ensures { λ _. ⌜ ((q : UnrolledRoom (now (types .entry)) (now (script .entry)) at (now (written .entry)) start)
+        (g : Bytes) → now (written .exit)
+        ≡ splice start (encode
+        (subst 0 (unrolled (readers g) (q .type) (top (type-at (now (types .entry)) (q .type))) (q .body)) (q .body)))
+        (now (written .entry))) ⌝ }
 {
     let end = script::end_of(script, at);
     let named = script::number(script, at);
-    let r = types::reader_at(types, index(named));
-    let ir = types::indirect_at(types, index(named));
+    let r = types::reader_at(types, script::index(named));
+    let ir = types::indirect_at(types, script::index(named));
     let parameter = named + 1;
     let caller = r.0;
     let front = [
@@ -261,8 +277,8 @@ fn write_unrolled(types: &[u8], script: &[u8], at: usize, written: &mut [u8], st
         0,
     ];
     let back = [0u8, 0, 0, 0, 0, 0];
-    let from = WIDTH * at;
-    let to = WIDTH * end;
+    let from = SCRIPT_WIDTH * at;
+    let to = SCRIPT_WIDTH * end;
     substitution::write(
         script,
         at + 1,
@@ -286,7 +302,10 @@ pub fn write_contractum(
     start: usize,
 )
     requires { ⌜ Fit (now groups) (now types) (now script) at plan (now written) start ⌝ }
-    ensures { λ _. ⌜ ((q : Fit (now (groups .entry)) (now (types .entry)) (now (script .entry)) at plan (now (written .entry)) start) → now (written .exit) ≡ splice start (encode (contractum (readers (now (groups .entry))) (type-at (now (types .entry))) (q .ready .tree))) (now (written .entry))) ⌝ }
+    ensures { λ _. ⌜ ((q : Fit (now (groups .entry)) (now (types .entry)) (now (script .entry)) at plan (now (written .entry))
+        start) → now (written .exit)
+        ≡ splice start (encode (contractum (readers (now (groups .entry))) (type-at (now (types .entry))) (q .ready .tree)))
+        (now (written .entry))) ⌝ }
 {
     match plan {
         Plan::Part(x) => write_part(script, at, x, written, start),
@@ -309,13 +328,14 @@ fn write_new(
     written: &mut [u8],
 )
     requires { ⌜ Placing (now groups) (now types) (now script) at plan end records (now written) ⌝ }
-    ensures { λ _. ⌜ ((q : Placing (now (groups .entry)) (now (types .entry)) (now (script .entry)) at plan end records (now (written .entry))) → now (written .exit) ≡ splice 0 (encode (q .whole)) (now (written .entry))) ⌝ }
+    ensures { λ _. ⌜ ((q : Placing (now (groups .entry)) (now (types .entry)) (now (script .entry)) at plan end records
+        (now (written .entry))) → now (written .exit) ≡ splice 0 (encode (q .whole)) (now (written .entry))) ⌝ }
 {
-    let start = WIDTH * at;
+    let start = SCRIPT_WIDTH * at;
     memory::copy_part(script, 0, start, written, 0);
     write_contractum(groups, types, script, at, plan, written, start);
-    let from = WIDTH * end;
-    let to = start + WIDTH * records;
+    let from = SCRIPT_WIDTH * end;
+    let to = start + SCRIPT_WIDTH * records;
     memory::copy_part(script, from, script.len() - from, written, to);
 }
 
@@ -323,7 +343,8 @@ fn write_new(
 fn exceeds(room: usize, records: usize, depth: usize) -> bool
     ensures { λ a. ⌜ a ≡ (ltb script-limit records || (ltb (room / script-width) records || ltb depth-limit depth)) ⌝ }
 {
-    (script::SCRIPT_LIMIT < records) | ((room / WIDTH < records) | (script::DEPTH_LIMIT < depth))
+    (script::SCRIPT_LIMIT < records)
+        | ((room / SCRIPT_WIDTH < records) | (script::DEPTH_LIMIT < depth))
 }
 
 // The redex at record `at`, with `around` records around it, contracted. The new term is counted first. What stands beside the
@@ -338,8 +359,11 @@ fn contract(
     room: usize,
 ) -> Stepped
     requires { ⌜ Sited (now groups) (now types) (now script) at around (now written) room ⌝ }
-    ensures { λ a. ⌜ (a ≡ told (step-in (readers (now (groups .entry))) (type-at (now (types .entry))) room (term (now (script .entry)))))
-        × (now (written .exit) ≡ front-after (step-in (readers (now (groups .entry))) (type-at (now (types .entry))) room (term (now (script .entry)))) (now (written .entry))) ⌝ }
+    ensures { λ a. ⌜ (a ≡ told
+        (step-in (readers (now (groups .entry))) (type-at (now (types .entry))) room (term (now (script .entry)))))
+        × (now (written .exit)
+        ≡ front-after (step-in (readers (now (groups .entry))) (type-at (now (types .entry))) room
+        (term (now (script .entry)))) (now (written .entry))) ⌝ }
 {
     let plan = plan_of(script, at);
     let size = measure(script, at, plan);
@@ -361,8 +385,11 @@ pub fn step_term(
     room: usize,
 ) -> Stepped
     requires { ⌜ Startable (now types) (now script) × (room ≤ length (now written)) ⌝ }
-    ensures { λ a. ⌜ (a ≡ told (step-in (readers (now (groups .entry))) (type-at (now (types .entry))) room (term (now (script .entry)))))
-        × (now (written .exit) ≡ front-after (step-in (readers (now (groups .entry))) (type-at (now (types .entry))) room (term (now (script .entry)))) (now (written .entry))) ⌝ }
+    ensures { λ a. ⌜ (a ≡ told
+        (step-in (readers (now (groups .entry))) (type-at (now (types .entry))) room (term (now (script .entry)))))
+        × (now (written .exit)
+        ≡ front-after (step-in (readers (now (groups .entry))) (type-at (now (types .entry))) room
+        (term (now (script .entry)))) (now (written .entry))) ⌝ }
 {
     let found = redex::find(groups, types, script, 0, 0);
     match found {
@@ -395,8 +422,12 @@ fn ended(x: Stepped, own: usize) -> StepAnswer
 
 // A step: questions 2 to 19, in order, and then one step of the script's term. The written buffer may be shorter than the script.
 pub fn step(groups: &[u8], types: &[u8], script: &[u8], written: &mut [u8]) -> StepAnswer
-    ensures { λ a. ⌜ (reported a ≡ step-report (now (script .entry)) (stepping (now (groups .entry)) (now (types .entry)) (now (script .entry)) (length (now (written .entry)))))
-        × (now (written .exit) ≡ written-after (stepping (now (groups .entry)) (now (types .entry)) (now (script .entry)) (length (now (written .entry)))) (now (written .entry))) ⌝ }
+    ensures { λ a. ⌜ (reported a
+        ≡ step-report (now (script .entry))
+        (stepping (now (groups .entry)) (now (types .entry)) (now (script .entry)) (length (now (written .entry)))))
+        × (now (written .exit)
+        ≡ written-after (stepping (now (groups .entry)) (now (types .entry)) (now (script .entry))
+        (length (now (written .entry)))) (now (written .entry))) ⌝ }
 {
     let tables = types::types_check(groups, types);
     let Checked::Passed = tables else {
@@ -467,12 +498,14 @@ fn walk(
     room: usize,
 ) -> Halt
     requires { ⌜ Loaded (now types) (now first) records room × (room ≤ length (now first)) × (room ≤ length (now scratch)) ⌝ }
-    ensures { λ a. ⌜ Halted (run (readers (now (groups .entry))) (type-at (now (types .entry))) room budget (front (now (first .entry)) records)) room a (now (first .exit)) ⌝ }
+    ensures { λ a. ⌜ Halted
+        (run (readers (now (groups .entry))) (type-at (now (types .entry))) room budget (front (now (first .entry)) records))
+        room a (now (first .exit)) ⌝ }
 {
     let mut n = records;
     let mut steps: u64 = 0;
     while steps < budget {
-        let bytes = WIDTH * n;
+        let bytes = SCRIPT_WIDTH * n;
         let x = step_term(groups, types, &first[0..bytes], scratch, room);
         let Stepped::Moved(m) = x else {
             return Halt {
@@ -481,11 +514,11 @@ fn walk(
                 records: n,
             };
         };
-        memory::copy_part(scratch, 0, WIDTH * m, first, 0);
+        memory::copy_part(scratch, 0, SCRIPT_WIDTH * m, first, 0);
         n = m;
         steps += 1;
     }
-    let bytes = WIDTH * n;
+    let bytes = SCRIPT_WIDTH * n;
     let found = redex::find(groups, types, &first[0..bytes], 0, 0);
     Halt {
         end: spent_on(found),
@@ -505,11 +538,14 @@ pub fn run_term(
     scratch: &mut [u8],
 ) -> Halt
     requires { ⌜ Loaded (now types) (now first) records (min (length (now first)) (length (now scratch))) ⌝ }
-    ensures { λ a. ⌜ Ends (run (readers (now (groups .entry))) (type-at (now (types .entry))) (min (length (now (first .entry))) (length (now (scratch .entry)))) budget (front (now (first .entry)) records)) (now (first .entry)) (now (scratch .entry)) a (now (first .exit)) (now (scratch .exit)) ⌝ }
+    ensures { λ a. ⌜ Ends
+        (run (readers (now (groups .entry))) (type-at (now (types .entry)))
+        (min (length (now (first .entry))) (length (now (scratch .entry)))) budget (front (now (first .entry)) records))
+        (now (first .entry)) (now (scratch .entry)) a (now (first .exit)) (now (scratch .exit)) ⌝ }
 {
     let room = smaller(first.len(), scratch.len());
     let x = walk(groups, types, records, budget, first, scratch, room);
-    let end = WIDTH * x.records;
+    let end = SCRIPT_WIDTH * x.records;
     memory::clear_from(first, end);
     memory::clear_from(scratch, 0);
     x
@@ -534,11 +570,20 @@ pub fn run(
     first: &mut [u8],
     scratch: &mut [u8],
 ) -> RunAnswer
-    ensures { λ a. ⌜ (run-reported a ≡ run-report (running (now (groups .entry)) (now (types .entry)) (now (script .entry)) budget (length (now (first .entry))) (length (now (scratch .entry)))))
-        × (now (first .exit) ≡ first-after (running (now (groups .entry)) (now (types .entry)) (now (script .entry)) budget (length (now (first .entry))) (length (now (scratch .entry)))) (now (first .entry)))
-        × (now (scratch .exit) ≡ scratch-after (running (now (groups .entry)) (now (types .entry)) (now (script .entry)) budget (length (now (first .entry))) (length (now (scratch .entry)))) (now (scratch .entry)))
-        × ((type : Ty) → Accepted (now (groups .entry)) (now (types .entry)) (now (script .entry)) type → length (now (script .entry)) ≤ length (now (first .entry)) → length (now (script .entry)) ≤ length (now (scratch .entry))
-        → Demanded (now (groups .entry)) (now (types .entry)) (now (script .entry)) type budget (now (first .entry)) (now (scratch .entry)) a (now (first .exit)) (now (scratch .exit))) ⌝ }
+    ensures { λ a. ⌜ (run-reported a
+        ≡ run-report (running (now (groups .entry)) (now (types .entry)) (now (script .entry)) budget
+        (length (now (first .entry))) (length (now (scratch .entry)))))
+        × (now (first .exit) ≡ first-after
+        (running (now (groups .entry)) (now (types .entry)) (now (script .entry)) budget (length (now (first .entry)))
+        (length (now (scratch .entry)))) (now (first .entry)))
+        × (now (scratch .exit)
+        ≡ scratch-after (running (now (groups .entry)) (now (types .entry)) (now (script .entry)) budget
+        (length (now (first .entry))) (length (now (scratch .entry)))) (now (scratch .entry)))
+        × ((type : Ty) → Accepted (now (groups .entry)) (now (types .entry)) (now (script .entry)) type
+        → length (now (script .entry)) ≤ length (now (first .entry))
+        → length (now (script .entry)) ≤ length (now (scratch .entry))
+        → Demanded (now (groups .entry)) (now (types .entry)) (now (script .entry)) type budget (now (first .entry))
+        (now (scratch .entry)) a (now (first .exit)) (now (scratch .exit))) ⌝ }
 {
     let tables = types::types_check(groups, types);
     let Checked::Passed = tables else {

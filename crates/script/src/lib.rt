@@ -8,7 +8,8 @@ ghost use Rattle.calculus.specs.Terms.{Term};
 ghost use Rattle.rules.specs.Answer.{_⇒_, accepted, ask};
 ghost use Rattle.rules.specs.Limits.{script-width};
 ghost use Rattle.rules.specs.Types.{type-kind};
-ghost use Rattle.rules.specs.Script.{records, kind, r, ir, zero-byte, number, signature-of, arity, encode, term, size, counts, term-end, ok14, ok15, ok16, q13, q14, q15, q16, q17, q18, q19, subterm};
+ghost use Rattle.rules.specs.Script.{records, kind, r, ir, zero-byte, number, signature-of, arity, encode, term, size, counts};
+ghost use Rattle.rules.specs.Script.{term-end, ok14, ok15, ok16, q13, q14, q15, q16, q17, q18, q19, subterm};
 ghost use Rattle.rules.specs.Strip.{strip-from, strip-script, strip-types};
 ghost use Rattle.lattice.specs.Said.{said};
 ghost use Rattle.script.specs.Place.{At, Here};
@@ -21,7 +22,7 @@ use lattice::Reader;
 
 pub const SCRIPT_WIDTH: usize = 6;
 
-const TYPE_WIDTH: usize = 4;
+pub const TYPE_WIDTH: usize = 4;
 
 pub const SCRIPT_LIMIT: usize = 8192;
 
@@ -39,7 +40,8 @@ fn word(x: u8) -> u16
     x as u16
 }
 
-fn index(n: u16) -> usize
+// A number of a record, as an index.
+pub fn index(n: u16) -> usize
     ensures { λ a. ⌜ (a ≡ n) × (a < 65536) ⌝ }
 {
     n as usize
@@ -412,7 +414,8 @@ fn bound_below(script: &[u8], i: usize, binders: usize) -> bool
 // Question 19 of the term at record i, under this count of binders. Question 18 bounds the depth of its calls.
 fn scope_walk(script: &[u8], i: usize, binders: usize) -> Walked
     requires { ⌜ Here (now script) i × (binders ≤ i) ⌝ }
-    ensures { λ a. ⌜ ((e : Term) → At (now (script .entry)) i e → walked a ≡ scan 19 (in-scope (now (script .entry))) i (counts same more binders e)) ⌝ }
+    ensures { λ a. ⌜ ((e : Term) → At (now (script .entry)) i e
+        → walked a ≡ scan 19 (in-scope (now (script .entry))) i (counts same more binders e)) ⌝ }
 {
     if !bound_below(script, i, binders) {
         return Walked::Stopped(19, i);
@@ -509,7 +512,8 @@ pub fn terms_check_in_run(
     first: usize,
     scratch: usize,
 ) -> Checked
-    ensures { λ a. ⌜ said a ≡ terms-check (first ∷ scratch ∷ []) (now (groups .entry)) (now (types .entry)) (now (script .entry)) ⌝ }
+    ensures { λ a. ⌜ said a ≡ terms-check (first ∷ scratch ∷ []) (now (groups .entry)) (now (types .entry))
+        (now (script .entry)) ⌝ }
 {
     let fits = question_13_in_run(script, first, scratch);
     let Checked::Passed = fits else {

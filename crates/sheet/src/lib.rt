@@ -201,8 +201,12 @@ fn refused(a: Checked) -> Sheet
 // The sheet of a value for a reader group, written to the front of `sheet`: questions 2 to 19, 25, 26 and 27. The count of records
 // is known before the first is written, so that a refusal writes nothing.
 pub fn page(groups: &[u8], types: &[u8], value: &[u8], group: u64, sheet: &mut [u8]) -> Sheet
-    ensures { λ a. ⌜ (reported a ≡ sheet-records (sheeting (now (groups .entry)) (now (types .entry)) (now (value .entry)) group (length (now (sheet .entry)))))
-        × (now (sheet .exit) ≡ sheet-after (sheeting (now (groups .entry)) (now (types .entry)) (now (value .entry)) group (length (now (sheet .entry)))) (now (sheet .entry))) ⌝ }
+    ensures { λ a. ⌜ (reported a
+        ≡ sheet-records (sheeting (now (groups .entry)) (now (types .entry)) (now (value .entry)) group
+        (length (now (sheet .entry)))))
+        × (now (sheet .exit) ≡ sheet-after
+        (sheeting (now (groups .entry)) (now (types .entry)) (now (value .entry)) group (length (now (sheet .entry))))
+        (now (sheet .entry))) ⌝ }
 {
     let a25 = asked(groups, types, value, group);
     let Checked::Passed = a25 else {

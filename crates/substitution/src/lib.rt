@@ -11,8 +11,7 @@ ghost use Rattle.script.specs.Place.{At};
 ghost use Rattle.memory.specs.Splice.{splice};
 ghost use Rattle.substitution.specs.Binders.{binds};
 ghost use Rattle.substitution.specs.Substituted.{Sizes, Measured, Within, Extends, Room, Written};
-
-const WIDTH: usize = 6;
+use script::SCRIPT_WIDTH;
 
 // The record after a term, and the records and the depth of what it becomes.
 pub struct Extent {
@@ -66,7 +65,8 @@ fn is_variable(script: &[u8], i: usize, n: u16) -> bool
 // A variable with the value for variable n, counted.
 fn measure_variable(script: &[u8], i: usize, n: u16, records: usize, deep: usize) -> Extent
     requires { ⌜ script-width * i + 6 ≤ length (now script) ⌝ }
-    ensures { λ x. ⌜ (x .next ≡ i + 1) × (x .records ≡ cond (eqb (number (now (script .entry)) i) n) records 1) × (x .depth ≡ cond (eqb (number (now (script .entry)) i) n) deep 1) ⌝ }
+    ensures { λ x. ⌜ (x .next ≡ i + 1) × (x .records ≡ cond (eqb (number (now (script .entry)) i) n) records 1)
+        × (x .depth ≡ cond (eqb (number (now (script .entry)) i) n) deep 1) ⌝ }
 {
     let next = i + 1;
     if is_variable(script, i, n) {
@@ -125,7 +125,8 @@ pub fn extent_at(script: &[u8], i: usize) -> Extent
 // Three pieces one after the other, over `to` from `at` on.
 fn write_three(front: &[u8], mid: &[u8], back: &[u8], to: &mut [u8], at: usize) -> usize
     requires { ⌜ at + length (now front ++ (now mid ++ now back)) ≤ length (now to) ⌝ }
-    ensures { λ r. ⌜ (r ≡ at + length (now (front .entry) ++ (now (mid .entry) ++ now (back .entry)))) × (now (to .exit) ≡ splice at (now (front .entry) ++ (now (mid .entry) ++ now (back .entry))) (now (to .entry))) ⌝ }
+    ensures { λ r. ⌜ (r ≡ at + length (now (front .entry) ++ (now (mid .entry) ++ now (back .entry))))
+        × (now (to .exit) ≡ splice at (now (front .entry) ++ (now (mid .entry) ++ now (back .entry))) (now (to .entry))) ⌝ }
 {
     memory::copy_part(front, 0, front.len(), to, at);
     let a = at + front.len();
@@ -147,15 +148,17 @@ fn write_variable(
     at: usize,
 ) -> Wrote
     requires { ⌜ Room (now script) i (now front) (now mid) (now back) n (now to) at × (kind (now script) i ≡ 0) ⌝ }
-    ensures { λ x. ⌜ ((e v : Term) → At (now (script .entry)) i e → now (front .entry) ++ (now (mid .entry) ++ now (back .entry)) ≡ encode v → Written i n e v at (now (to .entry)) x (now (to .exit))) ⌝ }
+    ensures { λ x. ⌜ ((e v : Term) → At (now (script .entry)) i e
+        → now (front .entry) ++ (now (mid .entry) ++ now (back .entry)) ≡ encode v
+        → Written i n e v at (now (to .entry)) x (now (to .exit))) ⌝ }
 {
     let next = i + 1;
     if is_variable(script, i, n) {
         let end = write_three(front, mid, back, to, at);
         return Wrote { next, end };
     }
-    memory::copy_part(script, WIDTH * i, WIDTH, to, at);
-    let end = at + WIDTH;
+    memory::copy_part(script, SCRIPT_WIDTH * i, SCRIPT_WIDTH, to, at);
+    let end = at + SCRIPT_WIDTH;
     Wrote { next, end }
 }
 
@@ -172,16 +175,18 @@ pub fn write(
     at: usize,
 ) -> Wrote
     requires { ⌜ Room (now script) i (now front) (now mid) (now back) n (now to) at ⌝ }
-    ensures { λ x. ⌜ ((e v : Term) → At (now (script .entry)) i e → now (front .entry) ++ (now (mid .entry) ++ now (back .entry)) ≡ encode v → Written i n e v at (now (to .entry)) x (now (to .exit))) ⌝ }
+    ensures { λ x. ⌜ ((e v : Term) → At (now (script .entry)) i e
+        → now (front .entry) ++ (now (mid .entry) ++ now (back .entry)) ≡ encode v
+        → Written i n e v at (now (to .entry)) x (now (to .exit))) ⌝ }
 {
     let k = script::kind(script, i);
     if k == 0 {
         return write_variable(script, i, front, mid, back, n, to, at);
     }
-    memory::copy_part(script, WIDTH * i, WIDTH, to, at);
+    memory::copy_part(script, SCRIPT_WIDTH * i, SCRIPT_WIDTH, to, at);
     let count = script::arity(k);
     let mut next = i + 1;
-    let mut end = at + WIDTH;
+    let mut end = at + SCRIPT_WIDTH;
     let mut j: usize = 0;
     while j < count {
         let level = n + binders(k, j);

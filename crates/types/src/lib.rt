@@ -5,12 +5,13 @@ ghost use mathlib.Core.Path.{_≡_};
 ghost use mathlib.Core.Bool.{cond, _&&_};
 ghost use mathlib.Core.List.{_++_};
 ghost use Prim.Native.Nat.{_+_, _*_, _-_, _≤_, _<_};
-ghost use lib.Dec.{eqb, leb, ltb};
+ghost use lib.Dec.{eqb, ltb};
 ghost use lib.ListN.{length};
 ghost use Rattle.calculus.specs.Types.{Ty, top, raiseT, sizeT, type-limit};
 ghost use Rattle.calculus.specs.Subtyping.{below, above};
 ghost use Rattle.rules.specs.Groups.{readers};
-ghost use Rattle.rules.specs.Types.{type-count, type-kind, type-r, type-ir, type-zero, sides, encode-type, ok9, ok10, q8, q9, q10, q11, q12};
+ghost use Rattle.rules.specs.Types.{type-count, type-kind, type-r, type-ir, sides, encode-type, ok9, ok10, q8, q9};
+ghost use Rattle.rules.specs.Types.{q10, q11, q12};
 ghost use Rattle.rules.specs.Calls.{types-check, at-or-below};
 ghost use Rattle.lattice.specs.Said.{said};
 ghost use Rattle.types.specs.Held.{Held, Starts, Sided, Counted, kind-of, left-of, right-of};
@@ -21,7 +22,7 @@ const TYPE_WIDTH: usize = 4;
 
 const TABLE_LIMIT: usize = 4096;
 
-const TYPE_LIMIT: usize = 63;
+pub const TYPE_LIMIT: usize = 63;
 
 pub const UNIT: u8 = 0;
 
@@ -282,7 +283,8 @@ pub fn type_records(s: &[u8]) -> usize
 // The part that starts with the left side.
 pub fn left_side(s: &[u8]) -> &[u8]
     requires { ⌜ Sided (now s) ⌝ }
-    ensures { λ a. ⌜ ((t : Ty) → Held (now (s .entry)) t → Held (now a) (left-of t)) × (length (now a) < length (now (s .entry))) ⌝ }
+    ensures { λ a. ⌜ ((t : Ty) → Held (now (s .entry)) t → Held (now a) (left-of t))
+        × (length (now a) < length (now (s .entry))) ⌝ }
 {
     &s[TYPE_WIDTH..]
 }
@@ -290,7 +292,8 @@ pub fn left_side(s: &[u8]) -> &[u8]
 // The part that starts with the right side, where the left one has n records.
 pub fn right_side(s: &[u8], n: usize) -> &[u8]
     requires { ⌜ Counted (now s) n ⌝ }
-    ensures { λ a. ⌜ ((t : Ty) → Held (now (s .entry)) t → Held (now a) (right-of t)) × (length (now a) < length (now (s .entry))) ⌝ }
+    ensures { λ a. ⌜ ((t : Ty) → Held (now (s .entry)) t → Held (now a) (right-of t))
+        × (length (now a) < length (now (s .entry))) ⌝ }
 {
     let at = TYPE_WIDTH + TYPE_WIDTH * n;
     &s[at..]

@@ -3,7 +3,9 @@ use lattice::Indirect;
 use lattice::Reader;
 use script::DEPTH_LIMIT;
 use script::SCRIPT_WIDTH;
+use script::TYPE_WIDTH;
 use types::Compared;
+use types::TYPE_LIMIT;
 ghost use mathlib.Core.Path.{_≡_};
 ghost use mathlib.Core.List.{List, [], _∷_};
 ghost use Prim.Native.Nat.{ℕ, _+_, _*_, _≤_, _<_};
@@ -21,8 +23,12 @@ ghost use Rattle.rules.specs.Calls.{script-check, checking, type-records, answe
 ghost use Rattle.memory.specs.Splice.{splice};
 ghost use Rattle.types.specs.Held.{Held, Starts, Sided, left-of, right-of, kind-of};
 ghost use Rattle.script.specs.Place.{At};
-ghost use Rattle.typing.specs.Memory.{high, Slot, Sized, Holds, Meets, Ready, Enters, Says, Named, Named-sided, Beside, Some-sides, In-scope, Typed-front, Sided-front, Part, Entered, Answers};
-ghost use Rattle.typing.specs.Stages.{leaf-type, before-first, first-context, kept-front, function-type, pair-type, injection-type, may-read, after-one, between, second-context, after-two, Leaf, One, Some, Passes, Two, Set-aside, Operand-at, Part-of, side-of, wanting, projection-type, kept-between};
+ghost use Rattle.typing.specs.Memory.{high, Slot, Sized, Holds, Meets, Ready, Enters, Says, Named, Named-sided, Beside};
+ghost use Rattle.typing.specs.Memory.{Some-sides, In-scope, Typed-front, Sided-front, Part, Entered, Answers};
+ghost use Rattle.typing.specs.Stages.{leaf-type, before-first, first-context, kept-front, function-type, pair-type};
+ghost use Rattle.typing.specs.Stages.{injection-type, may-read, after-one, between, second-context, after-two, Leaf, One};
+ghost use Rattle.typing.specs.Stages.{Some, Passes, Two, Set-aside, Operand-at, Part-of, side-of, wanting};
+ghost use Rattle.typing.specs.Stages.{projection-type, kept-between};
 ghost use Rattle.typing.specs.Answered.{answered, refusal};
 
 // What typing finds: the record count of the type that it has written in front, or the number of the first question answered
@@ -31,10 +37,6 @@ pub enum Found {
     Typed(usize),
     Refused(u8, usize),
 }
-
-const TYPE_WIDTH: usize = 4;
-
-const TYPE_LIMIT: usize = 63;
 
 // A slot holds any type. Question 1 asks for one for each level of a script.
 const SLOT: usize = TYPE_LIMIT * TYPE_WIDTH;
@@ -64,18 +66,12 @@ const RECURSION: u8 = 11;
 
 // ---- a node's record and its operands' parts
 
-fn wide(n: u16) -> usize
-    ensures { λ a. ⌜ a ≡ n ⌝ }
-{
-    n as usize
-}
-
 // The number of the first record.
 fn index(s: &[u8]) -> usize
     requires { ⌜ script-width ≤ length (now s) ⌝ }
     ensures { λ a. ⌜ a ≡ number (now (s .entry)) 0 ⌝ }
 {
-    wide(script::number(s, 0))
+    script::index(script::number(s, 0))
 }
 
 // The number of operands of the first record.
@@ -125,7 +121,8 @@ fn put(w: &mut [u8], kind: u8, r: Reader, ir: Indirect)
 // Question 22: is the type in front of a at or below that in front of b?
 fn fits(groups: &[u8], a: &[u8], b: &[u8]) -> bool
     requires { ⌜ Starts (now a) × Starts (now b) ⌝ }
-    ensures { λ x. ⌜ ((s t : Ty) → Held (now (a .entry)) s → Held (now (b .entry)) t → x ≡ subtype (readers (now (groups .entry))) below s t) ⌝ }
+    ensures { λ x. ⌜ ((s t : Ty) → Held (now (a .entry)) s → Held (now (b .entry)) t
+        → x ≡ subtype (readers (now (groups .entry))) below s t) ⌝ }
 {
     let x = types::at_or_below(groups, a, b);
     match x {
@@ -316,7 +313,8 @@ fn inject(
     w: &mut [u8],
 ) -> Found
     requires { ⌜ Named-sided (now types) i × (Starts (drop type-width (now w)) × (answer-length ≤ length (now w))) ⌝ }
-    ensures { λ x. ⌜ ((u t : Ty) (b : ℕ) → Slot (drop (type-width * i) (now (types .entry))) u → Held (drop type-width (now (w .entry))) t
+    ensures { λ x. ⌜ ((u t : Ty) (b : ℕ) → Slot (drop (type-width * i) (now (types .entry))) u
+        → Held (drop type-width (now (w .entry))) t
         → answer-length * (b + 1) ≤ length (now (w .entry))
         → Meets (injection-type (readers (now (groups .entry))) place (record { r = r .0; ir = ir .0 }) u (side-of second u) t) b
         (now (w .entry)) x (now (w .exit))) ⌝ }
@@ -603,7 +601,8 @@ fn type_node(groups: &[u8], types: &[u8], s: &[u8], place: usize, b: usize, w: &
 // Questions 20 to 24 of a script that has passed 2 to 19: the type is left in front of the work buffer.
 pub fn type_script(groups: &[u8], types: &[u8], script: &[u8], work: &mut [u8]) -> Found
     requires { ⌜ (script-check [] (now groups) (now types) (now script) ≡ accepted tt) × (work-length ≤ length (now work)) ⌝ }
-    ensures { λ x. ⌜ Meets (typing (readers (now (groups .entry))) (type-at (now (types .entry))) [] 0 (term (now (script .entry)))) 0
+    ensures { λ x. ⌜ Meets
+        (typing (readers (now (groups .entry))) (type-at (now (types .entry))) [] 0 (term (now (script .entry)))) 0
         (now (work .entry)) x (now (work .exit)) ⌝ }
 {
     type_node(groups, types, script, 0, 0, work)
@@ -612,7 +611,8 @@ pub fn type_script(groups: &[u8], types: &[u8], script: &[u8], work: &mut [u8]) 
 // The found type to the front of the answer buffer, if there is one.
 fn hand_over(x: Found, work: &[u8], answer: &mut [u8])
     requires { ⌜ Answers x (now work) × (answer-length ≤ length (now answer)) ⌝ }
-    ensures { λ _. ⌜ ((v : Answers x (now (work .entry))) → now (answer .exit) ≡ answer-after (v .answer) (now (answer .entry))) ⌝ }
+    ensures { λ _. ⌜ ((v : Answers x (now (work .entry)))
+        → now (answer .exit) ≡ answer-after (v .answer) (now (answer .entry))) ⌝ }
 {
     let Found::Typed(n) = x else {
         return;
