@@ -1,17 +1,10 @@
 -- An answer taken apart by let-else: a refusal is passed on, and after a yes the next question is asked.
-use mathlib.Core.Path.{_≡_, refl, sym, ap, _∙_}
-use mathlib.Core.Bool.{Bool, true, false, _&&_}
+use mathlib.Core.Path.{_≡_, sym, ap, _∙_}
 use mathlib.Core.List.{[], _∷_}
-use Prim.Native.Nat.{ℕ, _%_, _≤_}
 use native.Mathlib.Omega.{arith}
-use borrow.Author.Tests.{leb-true}
 use types.Run.{OneOf}
 use denote.Enum.Declared.{tagOf}
-use lib.Dec.{eqb, leb}
-use lib.ListN.{length}
-use Rattle.rules.specs.Answer.{Bytes, Answer, accepted, _>>_, ask}
-use Rattle.rules.specs.Limits.{group-limit}
-use Rattle.rules.specs.Groups.{rows, q2}
+use Rattle.rules.specs.Answer.{Answer, accepted, _>>_}
 use Rattle.lattice.specs.declared.Checked.{Checked}
 use Rattle.lattice.specs.declared.Checked.the-variants.{Passed, Refused}
 use Rattle.lattice.specs.Said.{said}
@@ -34,13 +27,3 @@ stops (Refused q p) a b k e = ap (λ (o : Answer (Unit {0})). _>>_ o b) e
 
 pub goes : {B : Type 0} (x : Checked) (a : Answer (Unit {0})) (b c : Answer B) → Yes x → said x ≡ a → c ≡ b → c ≡ _>>_ a b
 goes x a b c k e f = f ∙ ap (λ (o : Answer (Unit {0})). _>>_ o b) (sym (accepts x a k e))
-
--- what question 2 gives the later ones
-pub few-rows : (t : Bytes) → q2 t ≡ accepted tt → rows t ≤ group-limit
-few-rows t e = leb-true (rows t) group-limit (third (eqb (length t % 4) 0) (leb 1 (rows t)) (leb (rows t) group-limit) e)
-  where
-    third : (a b c : Bool) → ask 2 0 (a && (b && c)) ≡ accepted tt → c ≡ true
-    third true true true e = refl
-    third true true false e = let z : _≡_ {A = ℕ} 0 1 = cc in absurd (omega arith)
-    third true false c e = let z : _≡_ {A = ℕ} 0 1 = cc in absurd (omega arith)
-    third false b c e = let z : _≡_ {A = ℕ} 0 1 = cc in absurd (omega arith)

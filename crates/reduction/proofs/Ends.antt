@@ -1,20 +1,17 @@
 -- How a step ends, from what the search and the count say; and a step's answer to the questions.
 use mathlib.Core.Path.{_≡_, refl, sym, ap, _∙_}
 use mathlib.Core.Path.{subst as transport}
-use mathlib.Core.Bool.{Bool, true, false, _&&_}
+use mathlib.Core.Bool.{true, false}
 use mathlib.Core.List.{List, [], _∷_}
-use Prim.Native.Nat.{ℕ, _%_, _≤_}
+use Prim.Native.Nat.{ℕ, _≤_}
 use native.Mathlib.Omega.{arith}
-use borrow.Author.Tests.{leb-true}
-use lib.Dec.{eqb, leb}
-use lib.ListN.{length}
 use types.Run.{OneOf}
 use denote.Enum.Declared.{tagOf}
 use Rattle.calculus.specs.Security.{Security}
 use Rattle.calculus.specs.Types.{Ty}
 use Rattle.calculus.specs.Terms.{Term}
 use Rattle.calculus.specs.Reduction.{moved, step}
-use Rattle.rules.specs.Answer.{Bytes, Octets, Answer, accepted, _>>_, ask}
+use Rattle.rules.specs.Answer.{Bytes, Octets, Answer, accepted, _>>_}
 use Rattle.rules.specs.Limits.{table-limit}
 use Rattle.rules.specs.Groups.{readers}
 use Rattle.rules.specs.Types.{type-count, type-at, q8}
@@ -27,8 +24,8 @@ use Rattle.lattice.specs.Said.{said}
 use Rattle.lattice.proofs.Passed.{Yes, No, accepts}
 use Rattle.script.specs.Check.{terms-check}
 use Rattle.script.proofs.Asked.{script-check-is}
-use Rattle.demands.proofs.Answers.{both, go-on}
-use Rattle.rules.proofs.Asked.{ask-true, and-then}
+use Rattle.demands.proofs.Answers.{go-on}
+use Rattle.rules.proofs.Asked.{and-then, few-types}
 use Rattle.demands.proofs.Checked.{script-passed}
 use Rattle.redex.specs.Found.{Site, Finds, finds-redex}
 use Rattle.redex.specs.declared.Found.{Found}
@@ -123,17 +120,11 @@ pub passed-step : (g t s : Bytes) (room : ℕ) → script-check [] g t s ≡ acc
 unfolding stepping
 passed-step g t s room h = ap (λ (o : Answer (Unit {0})). _>>_ o (accepted (step-in (readers g) (type-at t) room (term s)))) h
 
-few-types : (g t : Bytes) → types-check g t ≡ accepted tt → type-count t ≤ table-limit
+table-small : (g t : Bytes) → types-check g t ≡ accepted tt → type-count t ≤ table-limit
 unfolding types-check
-few-types g t h =
-    leb-true (type-count t) table-limit
-    (third (eqb (length t % 4) 0) (leb 1 (type-count t)) (leb (type-count t) table-limit)
-    (and-then (q8 t) _ (and-then (groups-check g) _ h .1) .0))
-  where
-    third : (a b c : Bool) → ask 8 0 (a && (b && c)) ≡ accepted tt → c ≡ true
-    third a b c h = both b c (both a (b && c) (ask-true 8 0 (a && (b && c)) h) .1) .1
+table-small g t h = few-types t (and-then (q8 t) _ (and-then (groups-check g) _ h .1) .0)
 
 pub startable : (rooms : List ℕ) (g t s : Bytes) → Octets s → script-check rooms g t s ≡ accepted tt → Startable t s
 startable rooms g t s o h =
     let p = script-passed rooms g t s o h in
-    record { encoded = p .encoded; small = p .fit .small; shallow = p .fit .shallow; table = few-types g t (p .types) }
+    record { encoded = p .encoded; small = p .fit .small; shallow = p .fit .shallow; table = table-small g t (p .types) }

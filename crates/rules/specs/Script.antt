@@ -2,7 +2,7 @@
 use mathlib.Core.Bool.{Bool, true, false, not, _&&_, _||_}
 use mathlib.Core.List.{List, [], _∷_, _++_}
 use mathlib.Core.Option.{Option, none, some}
-use Prim.Native.Nat.{ℕ, zero, suc, _+_, _*_, _-_, _/_, _%_, max}
+use Prim.Native.Nat.{ℕ, suc, _+_, _*_, _-_, _/_, _%_, max}
 use lib.Dec.{eqb, leb, ltb}
 use lib.ListN.{length, getD, take, drop}
 use Rattle.calculus.specs.Security.{Property}
@@ -41,7 +41,7 @@ pub record Signature : Type 0 where
   -- whether the number names a type
   pub typed : Bool
 
-abbrev signature : ℕ → Bool → Bool → Bool → Bool → Signature
+abbrev pub signature : ℕ → Bool → Bool → Bool → Bool → Signature
 signature o r ir n t = record { operands = o; r = r; ir = ir; number = n; typed = t }
 
 -- The table of kinds. A field that it doesn't name is unnamed.

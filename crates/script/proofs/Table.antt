@@ -4,13 +4,12 @@ use Prim.Native.Nat.{ℕ, zero, suc, _≤_}
 use native.Mathlib.Omega.{arith}
 use mathlib.Core.Bool.{false}
 use lib.ListN.{List·getD-eq-default}
-use Rattle.rules.specs.Script.{signatures, signature-of, arity}
-use Rattle.script.specs.Said.{listed}
+use Rattle.rules.specs.Script.{signatures, signature-of, arity, signature}
 
 -- past the table nothing is named
-pub past-table : (k : ℕ) → 12 ≤ k → signature-of k ≡ listed 0 false false false false
+pub past-table : (k : ℕ) → 12 ≤ k → signature-of k ≡ signature 0 false false false false
 unfolding signature-of
-past-table k h = List·getD-eq-default signatures (listed 0 false false false false) h
+past-table k h = List·getD-eq-default signatures (signature 0 false false false false) h
 
 pub arity-small : (k : ℕ) → arity k ≤ 3
 unfolding arity

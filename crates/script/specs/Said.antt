@@ -1,21 +1,17 @@
 -- What the crate's own types say in the words of the rules.
-use mathlib.Core.Bool.{Bool}
 use mathlib.Core.Option.{Option, none, some}
 use Prim.Native.Nat.{ℕ}
 use Rattle.rules.specs.Answer.{Answer, accepted, refused}
-use Rattle.rules.specs.Script.{Signature}
+use Rattle.rules.specs.Script.{Signature, signature}
 use Rattle.script.specs.declared.Signature.{Signature as Line}
 use Rattle.script.specs.declared.Ended.{Ended}
 use Rattle.script.specs.declared.Ended.the-variants.{Before, Short}
 use Rattle.script.specs.declared.Walked.{Walked}
 use Rattle.script.specs.declared.Walked.the-variants.{Past, Stopped}
 
--- a line of the table of kinds, from its columns and from the code's struct
-abbrev pub listed : ℕ → Bool → Bool → Bool → Bool → Signature
-listed operands r ir number typed = record { operands = operands; r = r; ir = ir; number = number; typed = typed }
-
+-- a line of the table of kinds, from the code's struct
 abbrev pub line : Line → Signature
-line a = listed (a .operands) (a .reader) (a .indirect) (a .number) (a .typed)
+line a = signature (a .operands) (a .reader) (a .indirect) (a .number) (a .typed)
 
 -- the record after a term, if it ends
 abbrev pub ended : Ended → Option ℕ

@@ -8,12 +8,12 @@ ghost use Rattle.calculus.specs.Terms.{Term};
 ghost use Rattle.rules.specs.Answer.{_⇒_, accepted, ask};
 ghost use Rattle.rules.specs.Limits.{script-width};
 ghost use Rattle.rules.specs.Types.{type-kind};
-ghost use Rattle.rules.specs.Script.{records, kind, r, ir, zero-byte, number, signature-of, arity, encode, term, size, counts};
+ghost use Rattle.rules.specs.Script.{records, kind, r, ir, zero-byte, number, signature, signature-of, arity, encode, term, size, counts};
 ghost use Rattle.rules.specs.Script.{term-end, ok14, ok15, ok16, q13, q14, q15, q16, q17, q18, q19, subterm};
 ghost use Rattle.rules.specs.Strip.{strip-from, strip-script, strip-types};
 ghost use Rattle.lattice.specs.Said.{said};
 ghost use Rattle.script.specs.Place.{At, Here};
-ghost use Rattle.script.specs.Said.{line, listed, ended, walked, finished};
+ghost use Rattle.script.specs.Said.{line, ended, walked, finished};
 ghost use Rattle.script.specs.Walk.{scan, shallow, in-scope, same, more, binds-first, binds-later};
 ghost use Rattle.script.specs.Check.{whole-records, shape-check, later-check, terms-check};
 use lattice::Checked;
@@ -100,7 +100,7 @@ pub struct Signature {
 }
 
 fn entry(operands: u8, reader: bool, indirect: bool, number: bool, typed: bool) -> Signature
-    ensures { λ a. ⌜ line a ≡ listed operands reader indirect number typed ⌝ }
+    ensures { λ a. ⌜ line a ≡ signature operands reader indirect number typed ⌝ }
 {
     Signature {
         operands,

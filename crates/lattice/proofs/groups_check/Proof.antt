@@ -6,7 +6,8 @@ use Rattle.rules.specs.Answer.{Bytes, Answer, _>>_, first-from}
 use Rattle.rules.specs.Limits.{group-limit}
 use Rattle.rules.specs.Groups.{rows, q2, q3, q4, q5, q6, q7, ok3, ok4, ok5, ok6, ok7}
 use Rattle.rules.specs.Calls.{groups-check}
-use Rattle.lattice.proofs.Passed.{accepts, stops, goes, few-rows}
+use Rattle.lattice.proofs.Passed.{accepts, stops, goes}
+use Rattle.rules.proofs.Asked.{few-rows}
 use Rattle.lattice.proofs.groups_check.Statement.{statement}
 use Rattle.lattice.proofs.groups_check.Tie as tie
 
