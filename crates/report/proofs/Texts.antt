@@ -82,12 +82,12 @@ pub no-value : (g t : Bytes) (x : Ran) (end : ℕ) → x .end ≡ end → (end �
 unfolding value-text
 no-value g t x end e n = rw (ne-eqb (x .end) 0 (λ z. n (sym e ∙ z)), value-text)
 
-pub a-value : (g t v : Bytes) (x : Ran) (end room : ℕ) → x .end ≡ end → end ≡ 0 → encode (x .last) ≡ v → room ≡ report-sheet
-    → value-text g t x ≡ sheet-text (sheeting g t v 0 room)
+pub a-value : (g t v : Bytes) (x : Ran) (end : ℕ) → x .end ≡ end → end ≡ 0 → encode (x .last) ≡ v
+    → value-text g t x ≡ sheet-text (sheeting g t v 0 report-sheet)
 unfolding value-text
-a-value g t v x end room e z h r =
+a-value g t v x end e z h =
     let k : x .end ≡ 0 = e ∙ z in
-    rw k (ap (λ (b : Bytes). sheet-text (sheeting g t b 0 report-sheet)) h ∙ ap (λ (n : ℕ). sheet-text (sheeting g t v 0 n)) (sym r))
+    rw k (ap (λ (b : Bytes). sheet-text (sheeting g t b 0 report-sheet)) h)
 
 -- a run that ended with these numbers
 pub record Ended (a : Answer Ran) (end steps records : ℕ) : Type 0 where
@@ -134,21 +134,19 @@ unfolding run-text run-report
 run-refused g t (accepted x) q p e = absurd (either (sym e))
 run-refused g t (refused q′ p′) q p e = cc
 
-pub report-accepted : (g t s : Bytes) (work answer records : ℕ) → work ≡ work-length → answer ≡ answer-length
-    → accepted records ≡ type-records (checking work answer g t s)
+pub report-accepted : (g t s : Bytes) (records : ℕ) → accepted records ≡ type-records (verdict g t s)
     → report g t s ≡ accepted-line records ++ run-text g t (running g t s report-budget report-buffer report-buffer)
 unfolding report checked-text type-records
-report-accepted g t s work answer records w l e = go (verdict g t s) (e ∙ cc)
+report-accepted g t s records = go (verdict g t s)
   where
     go : (a : Answer Ty) → accepted records ≡ type-records a
         → checked-text g t s a ≡ accepted-line records ++ run-text g t (running g t s report-budget report-buffer report-buffer)
     go (accepted type) h = cc
     go (refused q p) h = absurd (either h)
 
-pub report-refused : (g t s : Bytes) (work answer q p : ℕ) → work ≡ work-length → answer ≡ answer-length
-    → refused q p ≡ type-records (checking work answer g t s) → report g t s ≡ refusal-line q p
+pub report-refused : (g t s : Bytes) (q p : ℕ) → refused q p ≡ type-records (verdict g t s) → report g t s ≡ refusal-line q p
 unfolding report checked-text type-records
-report-refused g t s work answer q p w l e = go (verdict g t s) (e ∙ cc)
+report-refused g t s q p = go (verdict g t s)
   where
     go : (a : Answer Ty) → refused q p ≡ type-records a → checked-text g t s a ≡ refusal-line q p
     go (accepted type) h = absurd (either (sym h))

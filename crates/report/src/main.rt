@@ -1,11 +1,12 @@
 // The report program: the files `groups`, `types` and `script` of the current folder are checked and run, and the report is
 // written to standard output. What a program reads and writes is in no contract, so `write_report` makes the whole text of the
-// files' bytes in a lent buffer, and `main` only reads, calls it and writes.
+// files' bytes in a lent buffer, and `main` only reads, calls it and writes. Each function has the buffers of the call that it makes,
+// so that the text's is all that is lent for writing.
 
 ghost use mathlib.Core.Path.{_≡_};
 ghost use Prim.Native.Nat.{ℕ, _+_, _≤_};
 ghost use lib.ListN.{length};
-ghost use Rattle.rules.specs.Limits.{work-length, answer-length, report-budget, report-buffer, report-sheet};
+ghost use Rattle.rules.specs.Limits.{report-budget, report-buffer};
 ghost use Rattle.rules.specs.Script.{encode};
 ghost use Rattle.rules.specs.Run.{Ran};
 ghost use Rattle.rules.specs.Calls.{running};
@@ -35,7 +36,7 @@ const RUN_LENGTH: usize = 49152;
 
 const SHEET_LENGTH: usize = 32768;
 
-// No report is longer.
+// No report is longer (`report-room`).
 const REPORT_LENGTH: usize = 417903;
 
 // The value's text: the sheet of the run's last term for group 0, only when the end is 0.
@@ -44,22 +45,22 @@ fn value_text(
     types: &[u8],
     value: &[u8],
     end: u8,
-    sheet: &mut [u8],
     out: &mut [u8],
     at: usize,
 ) -> usize
-    requires { ⌜ (length (now sheet) ≡ report-sheet) × (at + value-room ≤ length (now out)) ⌝ }
+    requires { ⌜ at + value-room ≤ length (now out) ⌝ }
     ensures { λ after. ⌜ ((x : Ran) → x .end ≡ end → encode (x .last) ≡ now (value .entry)
         → Written at (value-text (now (groups .entry)) (now (types .entry)) x) (now (out .entry)) after (now (out .exit))) ⌝ }
 {
     if end != 0 {
         return at;
     }
-    let a = sheet::page(groups, types, value, READER, sheet);
+    let mut sheet = [0u8; SHEET_LENGTH];
+    let a = sheet::page(groups, types, value, READER, &mut sheet);
     match a {
         Sheet::Written(count) => {
             let bytes = SHEET_WIDTH * count;
-            text::sheet_lines(&sheet[0..bytes], out, at)
+            text::sheet_lines(&sheet[..bytes], out, at)
         }
         Sheet::Refused(question, place) => text::refusal_line(
             question as u64,
@@ -72,28 +73,20 @@ fn value_text(
 
 // The run's text: its line, and the value's text. An accepted script's run isn't refused; the definition has a text for every
 // answer, and so has this.
-fn run_text(
-    groups: &[u8],
-    types: &[u8],
-    script: &[u8],
-    first: &mut [u8],
-    scratch: &mut [u8],
-    sheet: &mut [u8],
-    out: &mut [u8],
-    at: usize,
-) -> usize
-    requires { ⌜ (length (now first) ≡ report-buffer) × (length (now scratch) ≡ report-buffer) × (length (now sheet) ≡ report-sheet)
-        × (at + run-room ≤ length (now out)) ⌝ }
+fn run_text(groups: &[u8], types: &[u8], script: &[u8], out: &mut [u8], at: usize) -> usize
+    requires { ⌜ at + run-room ≤ length (now out) ⌝ }
     ensures { λ after. ⌜ Written at (run-text (now (groups .entry)) (now (types .entry))
         (running (now (groups .entry)) (now (types .entry)) (now (script .entry)) report-budget report-buffer report-buffer))
         (now (out .entry)) after (now (out .exit)) ⌝ }
 {
-    let a = reduction::run(groups, types, script, BUDGET, first, scratch);
+    let mut first = [0u8; RUN_LENGTH];
+    let mut scratch = [0u8; RUN_LENGTH];
+    let a = reduction::run(groups, types, script, BUDGET, &mut first, &mut scratch);
     match a {
         RunAnswer::Ended(end, steps, records) => {
             let after = text::run_line(end as u64, steps, records as u64, out, at);
             let bytes = WIDTH * records;
-            value_text(groups, types, &first[0..bytes], end, sheet, out, after)
+            value_text(groups, types, &first[..bytes], end, out, after)
         }
         RunAnswer::Refused(question, place) => text::refusal_line(
             question as u64,
@@ -105,27 +98,18 @@ fn run_text(
 }
 
 // The whole report, written over the front of `out`; its later bytes are kept. The answer is the report's length.
-fn write_report(
-    groups: &[u8],
-    types: &[u8],
-    script: &[u8],
-    work: &mut [u8],
-    answer: &mut [u8],
-    first: &mut [u8],
-    scratch: &mut [u8],
-    sheet: &mut [u8],
-    out: &mut [u8],
-) -> usize
-    requires { ⌜ (length (now work) ≡ work-length) × (length (now answer) ≡ answer-length) × (length (now first) ≡ report-buffer)
-        × (length (now scratch) ≡ report-buffer) × (length (now sheet) ≡ report-sheet) × (report-room ≤ length (now out)) ⌝ }
+fn write_report(groups: &[u8], types: &[u8], script: &[u8], out: &mut [u8]) -> usize
+    requires { ⌜ report-room ≤ length (now out) ⌝ }
     ensures { λ end. ⌜ Written 0 (report (now (groups .entry)) (now (types .entry)) (now (script .entry)))
         (now (out .entry)) end (now (out .exit)) ⌝ }
 {
-    let a = typing::checking(groups, types, script, work, answer);
+    let mut work = [0u8; WORK_LENGTH];
+    let mut answer = [0u8; ANSWER_LENGTH];
+    let a = typing::checking(groups, types, script, &mut work, &mut answer);
     match a {
         Found::Typed(records) => {
             let at = text::accepted_line(records as u64, out, 0);
-            run_text(groups, types, script, first, scratch, sheet, out, at)
+            run_text(groups, types, script, out, at)
         }
         Found::Refused(question, place) => text::refusal_line(
             question as u64,
@@ -179,23 +163,8 @@ fn load(path: &[u8], buffer: &mut [u8]) -> Loaded
 
 // The report of three files' bytes, on standard output.
 fn print_report(groups: &[u8], types: &[u8], script: &[u8]) {
-    let mut work = [0u8; WORK_LENGTH];
-    let mut answer = [0u8; ANSWER_LENGTH];
-    let mut first = [0u8; RUN_LENGTH];
-    let mut scratch = [0u8; RUN_LENGTH];
-    let mut sheet = [0u8; SHEET_LENGTH];
     let mut out = [0u8; REPORT_LENGTH];
-    let end = write_report(
-        groups,
-        types,
-        script,
-        &mut work,
-        &mut answer,
-        &mut first,
-        &mut scratch,
-        &mut sheet,
-        &mut out,
-    );
+    let end = write_report(groups, types, script, &mut out);
     if !io::write_all(STDOUT_FILENO, &out[..end]) {
         os::fail(b"standard output");
     }

@@ -1,4 +1,4 @@
--- `print_report` is safe: the buffers have the lengths asked for, and every report fits.
+-- `print_report` is safe: every report fits its buffer.
 use mathlib.Core.Path.{sym}
 use Prim.Native.Nat.{_≤_}
 use native.Mathlib.Omega.{arith}
@@ -12,35 +12,19 @@ use Rattle.report.proofs.print_report.Tie as tie
 slice-aggregate-write-report : tie.Need-slice-aggregate-write-report
 slice-aggregate-write-report c = search needs
 
-slice-aggregate-write-report-2 : tie.Need-slice-aggregate-write-report-2
-slice-aggregate-write-report-2 c = search needs
-
-slice-aggregate-write-report-3 : tie.Need-slice-aggregate-write-report-3
-slice-aggregate-write-report-3 c = search needs
-
-slice-aggregate-write-report-4 : tie.Need-slice-aggregate-write-report-4
-slice-aggregate-write-report-4 c = search needs
-
-slice-aggregate-write-report-5 : tie.Need-slice-aggregate-write-report-5
-slice-aggregate-write-report-5 c = search needs
-
-slice-aggregate-write-report-6 : tie.Need-slice-aggregate-write-report-6
-slice-aggregate-write-report-6 c = search needs
-
 write-report-requires : tie.Need-write-report-requires
-write-report-requires c κs = (omega arith, omega arith, omega arith, omega arith, omega arith, omega arith)
+write-report-requires c κs = omega arith
 
-fits : (c : tie.After-write-report) → c .write-report .result ≤ length (c .write-report .last .1 .1 .1 .1 .1 .1 .1 .1 .0)
+fits : (c : tie.After-write-report) → c .write-report .result ≤ length (c .write-report .last .1 .1 .1 .0)
 fits c =
-    let s = c .before .before .before .before .before .before .before .before .before .before in
-    let w = c .write-report .ensures in
-    omega (arith, w .ends, report-length (s .args .groups .now) (s .args .types .now) (s .args .script .now))
+    let s = c .before .before .before .before .before in
+    omega (arith, c .write-report .ensures .ends, report-length (s .args .groups .now) (s .args .types .now) (s .args .script .now))
 
 array-share-prefix-out : tie.Need-array-share-prefix-out
-array-share-prefix-out c = fits (c .before .before .before .before .before .before)
+array-share-prefix-out c = fits (c .before)
 
 slice-aggregate-write-all : tie.Need-slice-aggregate-write-all
-slice-aggregate-write-all c = let w = c .before .before .before .before .before .before .before in sym (length-take-le (w .write-report .result) (w .write-report .last .1 .1 .1 .1 .1 .1 .1 .1 .0) (fits w))
+slice-aggregate-write-all c = let w = c .before .before in sym (length-take-le (w .write-report .result) (w .write-report .last .1 .1 .1 .0) (fits w))
 
 write-all-requires : tie.Need-write-all-requires
 write-all-requires c κs = search needs
@@ -62,11 +46,6 @@ print-report-spec =
     tie.close
     (tie.spec
     slice-aggregate-write-report
-    slice-aggregate-write-report-2
-    slice-aggregate-write-report-3
-    slice-aggregate-write-report-4
-    slice-aggregate-write-report-5
-    slice-aggregate-write-report-6
     write-report-requires
     array-share-prefix-out
     slice-aggregate-write-all

@@ -1,7 +1,6 @@
 -- `write_report` meets its contract: the first line, and then the run's text.
 use mathlib.Core.Path.{sym, ap, subst, _∙_}
 use native.Mathlib.Omega.{arith}
-use lib.ListN.{length}
 use Rattle.rules.specs.Answer.{Bytes}
 use Rattle.typing.specs.Answered.{answered}
 use Rattle.text.specs.Written.{Written}
@@ -12,6 +11,12 @@ use borrow.Author.Needs.{needs}
 use Rattle.report.proofs.write_report.Statement.{statement}
 use Rattle.report.proofs.write_report.Tie as tie
 
+slice-aggregate-checking : tie.Need-slice-aggregate-checking
+slice-aggregate-checking c = search needs
+
+slice-aggregate-checking-2 : tie.Need-slice-aggregate-checking-2
+slice-aggregate-checking-2 c = search needs
+
 checking-requires : tie.Need-checking-requires
 checking-requires c κs = search needs
 
@@ -19,12 +24,10 @@ enum-known-a : tie.Need-enum-known-a
 enum-known-a c = search needs
 
 accepted-line-requires : tie.Need-accepted-line-requires
-accepted-line-requires c κs = accepted-fits _ 0 _ (omega (arith, c .before .before .before .before .before .before .before .before .before .before .before .before .before .before .before .before .before .before .before .before .pre .5))
+accepted-line-requires c κs = accepted-fits _ 0 _ (omega (arith, c .before .before .before .before .before .before .before .before .before .before .before .before .before .pre))
 
 run-text-requires : tie.Need-run-text-requires
-run-text-requires c κs =
-    let s = c .before .before .before .before .before .before .before .before .before .before .before .before .before .before .before .before .before .before .before .before .before .before .before .before .before .before .before in
-    (s .pre .2, s .pre .3, s .pre .4, after-accepted _ run-room (c .before .before .before .before .before .before .accepted-line .ensures) (omega (arith, s .pre .5)))
+run-text-requires c κs = after-accepted _ run-room (c .before .before .before .accepted-line .ensures) (omega (arith, c .before .before .before .before .before .before .before .before .before .before .before .before .before .before .before .before .before .pre))
 
 enum-known-a-2 : tie.Need-enum-known-a-2
 enum-known-a-2 c = search needs
@@ -33,57 +36,38 @@ cast-refusal-line : tie.Need-cast-refusal-line
 cast-refusal-line c = search needs
 
 refusal-line-requires : tie.Need-refusal-line-requires
-refusal-line-requires c κs = refusal-fits _ _ 0 _ (omega (arith, c .before .before .before .before .before .before .before .before .before .before .before .before .before .before .before .before .before .before .before .before .pre .5))
+refusal-line-requires c κs = refusal-fits _ _ 0 _ (omega (arith, c .before .before .before .before .before .before .before .before .before .before .before .before .before .pre))
 
 same-length : tie.Need-same-length
 same-length c = search needs
 
+returns : tie.Need-returns
+returns c =
+    let s = c .before .before .before .before .before .before .before .before .before .before .before .before .before .before .before .before .before .before .before .before in
+    let a = c .before .before .before .before .before .before .before .before .before .a .given in
+    let r = c .before .before .run-text in
+    subst (λ (b : Bytes). Written 0 b (s .args .out .now) (r .result) (r .last .1 .1 .1 .0))
+    (sym (report-accepted (s .args .groups .now) (s .args .types .now) (s .args .script .now) (a .0 .0) (sym (ap answered (a .1)) ∙ c .before .before .before .before .before .before .before .before .before .before .before .before .before .checking .ensures .0)))
+    (then (c .before .before .before .before .before .before .accepted-line .ensures) (r .ensures) (accepted-fits _ 0 _ (omega (arith, s .pre))))
+
 same-length-2 : tie.Need-same-length-2
 same-length-2 c = search needs
 
-same-length-3 : tie.Need-same-length-3
-same-length-3 c = search needs
-
-same-length-4 : tie.Need-same-length-4
-same-length-4 c = search needs
-
-same-length-5 : tie.Need-same-length-5
-same-length-5 c = search needs
-
-same-length-6 : tie.Need-same-length-6
-same-length-6 c = search needs
-
-returns : tie.Need-returns
-returns c =
-    let s = c .before .before .before .before .before .before .before .before .before .before .before .before .before .before .before .before .before .before .before .before .before .before .before .before .before .before .before .before .before .before .before .before .before .before .before .before in
-    let a = c .before .before .before .before .before .before .before .before .before .before .before .before .before .before .before .before .before .before .a .given in
-    let r = c .before .before .before .before .before .before .before .before .run-text in
-    subst (λ (b : Bytes). Written 0 b (s .args .out .now) (r .result) (r .last .1 .1 .1 .1 .1 .1 .0))
-    (sym (report-accepted (s .args .groups .now) (s .args .types .now) (s .args .script .now) (length (s .args .work .now)) (length (s .args .answer .now)) (a .0 .0) (s .pre .0) (s .pre .1) (sym (ap answered (a .1)) ∙ c .before .before .before .before .before .before .before .before .before .before .before .before .before .before .before .before .before .before .before .before .before .before .before .before .checking .ensures .0)))
-    (then (c .before .before .before .before .before .before .before .before .before .before .before .before .before .before .before .accepted-line .ensures) (r .ensures) (accepted-fits _ 0 _ (omega (arith, s .pre .5))))
-
-same-length-7 : tie.Need-same-length-7
-same-length-7 c = search needs
-
-same-length-8 : tie.Need-same-length-8
-same-length-8 c = search needs
-
-same-length-9 : tie.Need-same-length-9
-same-length-9 c = search needs
-
 returns-2 : tie.Need-returns-2
 returns-2 c =
-    let s = c .before .before .before .before .before .before .before .before .before .before .before .before .before .before .before .before .before .before .before .before .before .before .before in
+    let s = c .before .before .before .before .before .before .before .before .before .before .before .before .before .before .before .before in
     let a = c .before .before .before .before .before .a2 .given in
     let r = c .before .before .refusal-line in
     subst (λ (b : Bytes). Written 0 b (s .args .out .now) (r .result) (r .last .1 .1 .0))
-    (sym (report-refused (s .args .groups .now) (s .args .types .now) (s .args .script .now) (length (s .args .work .now)) (length (s .args .answer .now)) (a .0 .0) (a .0 .1 .0) (s .pre .0) (s .pre .1) (sym (ap answered (a .1)) ∙ c .before .before .before .before .before .before .before .before .before .before .before .checking .ensures .0)))
+    (sym (report-refused (s .args .groups .now) (s .args .types .now) (s .args .script .now) (a .0 .0) (a .0 .1 .0) (sym (ap answered (a .1)) ∙ c .before .before .before .before .before .before .before .before .before .checking .ensures .0)))
     (r .ensures)
 
 pub write-report-spec : {M : Type 1} → statement M
 write-report-spec =
     tie.close
     (tie.spec
+    slice-aggregate-checking
+    slice-aggregate-checking-2
     checking-requires
     enum-known-a
     accepted-line-requires
@@ -92,13 +76,6 @@ write-report-spec =
     cast-refusal-line
     refusal-line-requires
     same-length
-    same-length-2
-    same-length-3
-    same-length-4
-    same-length-5
-    same-length-6
     returns
-    same-length-7
-    same-length-8
-    same-length-9
+    same-length-2
     returns-2)
