@@ -1,6 +1,6 @@
 -- Erasure: "stripping sets bytes 1 and 2 (r and ir) of each record to 0 and keeps every other byte", on types and terms.
-use Prim.Native.Nat.{ℕ, zero}
-use Rattle.calculus.specs.Security.{Property, Reader, Indirect}
+use Prim.Native.Nat.{zero}
+use Rattle.calculus.specs.Security.{Property}
 use Rattle.calculus.specs.Types.{Ty, one, node}
 use Rattle.calculus.specs.Terms.{Term, var, unit, lam, pair, inj, app, proj, case, protect, mu}
 

@@ -3,7 +3,7 @@ use mathlib.Core.Path.{_≡_}
 use mathlib.Core.Bool.{Bool, true, false, So}
 use Prim.Native.Nat.{ℕ, suc, zero}
 use Rattle.calculus.specs.Security.{Property, Reader, Indirect, Security}
-use Rattle.calculus.specs.Types.{Former, sum, product, function, Ty, one, node}
+use Rattle.calculus.specs.Types.{sum, product, function, Ty, one, node}
 use Rattle.calculus.specs.Terms.{Side, choose, Term, var, unit, lam, pair, inj, app, proj, case, protect, mu, is-value, subst, raise-value}
 
 -- (λx : s₁. (μf : s. e) x)_(r, ir), which stands for f when μf : s. e unrolls. The left side of type i is type i + 1, and

@@ -1,5 +1,5 @@
 -- Table 2: subtyping, as a relation and as a test.
-use mathlib.Core.Bool.{Bool, true, false, _&&_, So}
+use mathlib.Core.Bool.{Bool, false, _&&_, So}
 use Rattle.calculus.specs.Security.{Property, Security}
 use Rattle.calculus.specs.Types.{Former, sum, product, function, Ty, one, node, same}
 

@@ -1,11 +1,11 @@
 -- Table 3 with document 01's departures and limits: as a relation with subsumption, and as a function.
 use mathlib.Core.Path.{_≡_}
-use mathlib.Core.Bool.{Bool, true, false, _&&_, So}
+use mathlib.Core.Bool.{_&&_, So}
 use mathlib.Core.List.{List, [], _∷_}
 use mathlib.Core.Option.{Option, none, some}
 use Prim.Native.Nat.{ℕ, suc, zero}
 use Rattle.calculus.specs.Security.{Property, Reader, Indirect, Security}
-use Rattle.calculus.specs.Types.{Former, sum, product, function, Ty, one, node, top, raiseT, secureT, fits, when, Parts, parts}
+use Rattle.calculus.specs.Types.{Former, sum, product, function, Ty, one, node, top, raiseT, secureT, fits, when, parts}
 use Rattle.calculus.specs.Subtyping.{Subtype, subtype, below}
 use Rattle.calculus.specs.Terms.{Side, choose, Term, var, unit, lam, pair, inj, app, proj, case, protect, mu}
 

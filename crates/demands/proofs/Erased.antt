@@ -1,16 +1,13 @@
 -- A formed term, stripped, is formed over the one-group table and the stripped types.
-use mathlib.Core.Path.{_≡_, refl, sym, subst, ap, _∙_}
-use mathlib.Core.Bool.{Bool, true, false, So}
-use Prim.Native.Nat.{ℕ, suc, zero, _<_}
+use mathlib.Core.Path.{refl, _∙_}
+use Prim.Native.Nat.{ℕ, suc, _<_}
 use native.Mathlib.Omega.{arith}
-use Rattle.calculus.specs.Security.{Property, Security}
-use Rattle.calculus.specs.Types.{Ty}
 use Rattle.calculus.specs.Terms.{Term, var, unit, lam, pair, inj, app, proj, case, protect, mu}
-use Rattle.calculus.specs.Erasure.{public, eraseT, erase}
+use Rattle.calculus.specs.Erasure.{public, erase}
 use Rattle.calculus.proofs.Erasure.{OneGroup}
-use Rattle.rules.specs.Answer.{Bytes, first-from}
-use Rattle.rules.specs.Groups.{rows, leq, join, readers}
-use Rattle.rules.specs.Types.{type-count, type-kind}
+use Rattle.rules.specs.Answer.{Bytes}
+use Rattle.rules.specs.Groups.{rows, join, readers}
+use Rattle.rules.specs.Types.{type-count}
 use Rattle.rules.specs.Strip.{strip-types, one-group}
 use Rattle.demands.proofs.Formed.{Secure, Formed}
 use Rattle.demands.proofs.Stripping.{strip-type-count, strip-type-kind}

@@ -1,5 +1,5 @@
 -- Demand 1.
-use mathlib.Core.Path.{_≡_, refl, sym, ap, _∙_}
+use mathlib.Core.Path.{_≡_, ap, _∙_}
 use mathlib.Core.Bool.{cond, _&&_}
 use mathlib.Core.List.{List, [], _∷_, _++_}
 use Prim.Native.Nat.{ℕ, _%_, _≤_, _<_}
@@ -9,7 +9,7 @@ use lib.Dec.{eqb, leb, ltb}
 use lib.ListN.{length, getD}
 use Rattle.calculus.specs.Types.{Ty}
 use Rattle.calculus.specs.Terms.{is-value}
-use Rattle.rules.specs.Answer.{Bytes, Answer, accepted, refused, all-below}
+use Rattle.rules.specs.Answer.{Bytes, Answer, all-below}
 use Rattle.rules.specs.Limits.{row-width, type-width, script-width, group-limit, table-limit, script-limit, work-length, answer-length}
 use Rattle.rules.specs.Groups.{rows, readers, ok3, ok4, ok5, ok6, ok7, q2, q3, q4, q5, q6, q7}
 use Rattle.rules.specs.Types.{type-count, type-at, ok9, ok10, ok11, ok12, q8, q9, q10, q11, q12}

@@ -3,7 +3,6 @@ use mathlib.Core.Path.{_≡_}
 use mathlib.Core.Bool.{So}
 use Prim.Native.Nat.{ℕ, suc, _<_}
 use Rattle.calculus.specs.Security.{Property}
-use Rattle.calculus.specs.Types.{sum, function}
 use Rattle.calculus.specs.Terms.{Term, var, unit, lam, pair, inj, app, proj, case, protect, mu}
 use Rattle.rules.specs.Answer.{Bytes}
 use Rattle.rules.specs.Groups.{rows, leq}

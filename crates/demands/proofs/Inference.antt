@@ -1,5 +1,5 @@
 -- The document's typing, with questions and places, finds exactly the type that the calculus's inference finds.
-use mathlib.Core.Path.{_≡_, refl, sym, ap, _∙_}
+use mathlib.Core.Path.{_≡_, refl}
 use mathlib.Core.Bool.{Bool, true, false, So, _&&_}
 use mathlib.Core.List.{List, [], _∷_}
 use mathlib.Core.Option.{Option, none, some}
@@ -8,7 +8,7 @@ use native.Mathlib.Omega.{arith}
 use borrow.Author.Tests.{lt-ltb}
 use lib.ListN.{length, getD}
 use Rattle.calculus.specs.Security.{Property, Reader, Security}
-use Rattle.calculus.specs.Types.{Former, sum, product, function, Ty, one, node, same, top, raiseT, fits, when, Parts, parts}
+use Rattle.calculus.specs.Types.{Former, sum, product, function, Ty, one, node, top, raiseT, fits, when, Parts, parts}
 use Rattle.calculus.specs.Subtyping.{subtype, below}
 use Rattle.calculus.specs.Terms.{Side, choose, Term, var, unit, lam, pair, inj, app, proj, case, protect, mu}
 use Rattle.calculus.specs.Typing.{lookup, infer}

@@ -1,11 +1,11 @@
 -- Typing refuses with a question from 20 to 24, at a record of the script.
-use mathlib.Core.Path.{_≡_, refl, ap}
+use mathlib.Core.Path.{_≡_}
 use mathlib.Core.Bool.{Bool, true, false}
 use mathlib.Core.List.{List, [], _∷_}
-use Prim.Native.Nat.{ℕ, suc, zero, _+_, _≤_, _<_}
+use Prim.Native.Nat.{ℕ, _+_, _≤_, _<_}
 use native.Mathlib.Omega.{arith}
 use Rattle.calculus.specs.Security.{Property, Reader, Security}
-use Rattle.calculus.specs.Types.{Former, sum, product, function, Ty, one, node, top, raiseT, fits}
+use Rattle.calculus.specs.Types.{Former, sum, product, function, Ty, node, top, raiseT, fits}
 use Rattle.calculus.specs.Subtyping.{subtype, below}
 use Rattle.calculus.specs.Terms.{Side, choose, Term, var, unit, lam, pair, inj, app, proj, case, protect, mu}
 use Rattle.rules.specs.Answer.{Answer, accepted, refused, _>>=_, _>>_, ask}

@@ -1,15 +1,13 @@
 -- Whole runs on trees: a typed term's run never ends 2 or 3, and the erased run does the same.
-use mathlib.Core.Path.{_≡_, refl, sym, subst, ap, ap₂, _∙_}
-use mathlib.Core.Bool.{Bool, true, false, cond, So, _||_, not, false≢true}
-use mathlib.Core.List.{List, []}
-use mathlib.Core.Option.{Option, none, some}
-use Prim.Native.Nat.{ℕ, suc, zero, _/_}
+use mathlib.Core.Path.{_≡_, refl, ap, _∙_}
+use mathlib.Core.Bool.{Bool, true, false, cond}
+use mathlib.Core.List.{[]}
+use Prim.Native.Nat.{ℕ, suc, zero}
 use native.Mathlib.Omega.{arith}
-use lib.Dec.{eqb, ltb}
 use Rattle.calculus.specs.Security.{Security, Laws}
 use Rattle.calculus.specs.Types.{Ty}
 use Rattle.calculus.specs.Terms.{Term, is-value}
-use Rattle.calculus.specs.Reduction.{Outcome, value, moved, denied, stuck, step, Reduces}
+use Rattle.calculus.specs.Reduction.{Outcome, value, moved, denied, stuck, step}
 use Rattle.calculus.specs.Typing.{HasType, Table}
 use Rattle.calculus.specs.Erasure.{eraseT, erase}
 use Rattle.calculus.proofs.Reduction.{step-reduces}
@@ -17,10 +15,8 @@ use Rattle.calculus.proofs.Preservation.{preservation}
 use Rattle.calculus.proofs.Progress.{never-denied, never-stuck}
 use Rattle.calculus.proofs.ErasedTerms.{erase-value}
 use Rattle.calculus.proofs.Erasure.{OneGroup, eraseO, typed-erase-step}
-use Rattle.rules.specs.Limits.{script-width, script-limit, depth-limit}
-use Rattle.rules.specs.Script.{size, depth}
-use Rattle.rules.specs.Step.{End, at-value, moves, may-not, wrong-kind, too-big, exceeds, limited, step-in}
-use Rattle.rules.specs.Run.{Ran, ends, one-step-more, run}
+use Rattle.rules.specs.Step.{exceeds, step-in}
+use Rattle.rules.specs.Run.{Ran, one-step-more, run}
 use Rattle.demands.proofs.Stripping.{erase-size, erase-depth}
 
 -- the two ends that demand 3 rules out

@@ -1,22 +1,19 @@
 -- A step keeps what questions 15, 16 and 19 ask: every term that a run reaches is formed as the script is.
-use mathlib.Core.Path.{_≡_, refl, sym, subst, ap, _∙_}
-use mathlib.Core.Bool.{Bool, true, false, cond, So}
-use Prim.Native.Nat.{ℕ, suc, zero, _<_, _≤_}
+use mathlib.Core.Path.{_≡_, refl, sym, subst}
+use mathlib.Core.Bool.{Bool, true, false, cond}
+use Prim.Native.Nat.{ℕ, suc, _<_, _≤_}
 use native.Mathlib.Omega.{arith}
-use borrow.Author.Tests.{eqb-true, eqb-false, lt-ltb}
+use borrow.Author.Tests.{eqb-false, lt-ltb}
 use lib.Dec.{eqb}
-use Rattle.calculus.specs.Security.{Property, Reader, Indirect, Security, Laws}
-use Rattle.calculus.specs.Types.{Former, function, Ty, node}
-use Rattle.calculus.specs.Terms.{Side, first, second, choose, Term, var, unit, lam, pair, inj, app, proj, case, protect, mu, is-value, raise-value}
+use Rattle.calculus.specs.Security.{Property, Indirect}
+use Rattle.calculus.specs.Terms.{Side, first, second, choose, Term, var, unit, lam, pair, inj, app, proj, case, protect, mu, raise-value}
 use Rattle.calculus.specs.Terms as terms
-use Rattle.calculus.specs.Reduction.{unrolled, Contracts, c-app, c-proj, c-case, c-mu, c-protect, Context, hole, app-left, app-right, in-proj, in-inj, pair-left, pair-right, in-protect, in-case, plug, Reduces, moved, step}
-use Rattle.calculus.specs.Typing.{Table}
+use Rattle.calculus.specs.Reduction.{unrolled, Contracts, c-app, c-proj, c-case, c-mu, c-protect, Context, hole, app-left, app-right, in-proj, in-inj, pair-left, pair-right, in-protect, in-case, plug, moved, step}
 use Rattle.calculus.proofs.Reduction.{step-reduces}
 use Rattle.calculus.proofs.SecureTyping.{table-parts}
 use Rattle.rules.specs.Answer.{Bytes}
-use Rattle.rules.specs.Groups.{rows, leq, readers}
-use Rattle.rules.specs.Types.{type-count, type-kind, type-at}
-use Rattle.demands.proofs.Groups.{Lattice}
+use Rattle.rules.specs.Groups.{rows, readers}
+use Rattle.rules.specs.Types.{type-at}
 use Rattle.demands.proofs.Readers.{readers-laws}
 use Rattle.demands.proofs.Formed.{Secure, Formed}
 use Rattle.demands.proofs.Tables.{Tables}

@@ -1,19 +1,18 @@
 -- One step of bytes is the step of their term, and keeps it within the limits.
-use mathlib.Core.Path.{_≡_, refl, sym, subst, ap, _∙_}
-use mathlib.Core.Bool.{Bool, true, false, cond, _||_, true≢false, false≢true}
-use mathlib.Core.List.{List, [], _∷_}
-use Prim.Native.Nat.{ℕ, suc, zero, _*_, _/_, _≤_, _<_}
+use mathlib.Core.Path.{_≡_, refl, sym, ap, _∙_}
+use mathlib.Core.Bool.{Bool, true, false, cond, _||_, true≢false}
+use mathlib.Core.List.{[]}
+use Prim.Native.Nat.{ℕ, _/_, _≤_}
 use native.Mathlib.Omega.{arith}
 use borrow.Author.Tests.{ltb-false}
 use lib.Dec.{ltb}
-use Rattle.calculus.specs.Types.{Ty}
 use Rattle.calculus.specs.Terms.{Term}
 use Rattle.calculus.specs.Reduction.{Outcome, value, moved, denied, stuck, step}
-use Rattle.rules.specs.Answer.{Bytes, Answer, accepted}
+use Rattle.rules.specs.Answer.{Bytes, accepted}
 use Rattle.rules.specs.Limits.{script-width, script-limit, depth-limit}
 use Rattle.rules.specs.Groups.{readers}
 use Rattle.rules.specs.Types.{type-at}
-use Rattle.rules.specs.Script.{encode, term, size, depth}
+use Rattle.rules.specs.Script.{encode, size, depth}
 use Rattle.rules.specs.Step.{End, at-value, moves, may-not, wrong-kind, too-big, exceeds, limited, step-in}
 use Rattle.rules.specs.Calls.{types-check, script-check, stepping}
 use Rattle.rules.proofs.Scripts.{term-encode}

@@ -1,8 +1,7 @@
 -- Demand 3.
 use mathlib.Core.Path.{_≡_, refl, sym, subst, ap, ap₂, _∙_}
-use mathlib.Core.Bool.{Bool, true, false}
-use mathlib.Core.List.{List, [], _∷_, _++_, append-nil}
-use Prim.Native.Nat.{ℕ, suc, zero, _-_, _*_, _≤_, _<_, min}
+use mathlib.Core.List.{[], _∷_, _++_, append-nil}
+use Prim.Native.Nat.{ℕ, suc, zero, _-_, _*_, _≤_, min}
 use native.Mathlib.Omega.{arith}
 use lib.ListN.{length}
 use Rattle.calculus.specs.Security.{Security}
@@ -14,17 +13,17 @@ use Rattle.calculus.specs.Typing.{HasType}
 use Rattle.calculus.specs.Erasure.{erase}
 use Rattle.calculus.proofs.SecureTyping.{sc-empty}
 use Rattle.calculus.proofs.Completeness.{infer-complete}
-use Rattle.rules.specs.Answer.{Bytes, Octets, Answer, accepted}
+use Rattle.rules.specs.Answer.{Bytes, Octets, accepted}
 use Rattle.rules.specs.Limits.{script-width}
 use Rattle.rules.specs.Groups.{readers}
 use Rattle.rules.specs.Types.{type-at}
-use Rattle.rules.specs.Script.{encode, term, size}
+use Rattle.rules.specs.Script.{encode, term}
 use Rattle.rules.specs.Typing.{typing}
 use Rattle.rules.specs.Step.{moves, step-in}
 use Rattle.rules.specs.Run.{Ran, run}
 use Rattle.rules.specs.Strip.{strip-from, strip-script, strip-types, one-group}
-use Rattle.rules.specs.Calls.{zeros, types-check, script-check, checking, stepping, running, Report, run-report, first-after, scratch-after}
-use Rattle.rules.specs.Reach.{verdict, Accepted, MovesTo, moved-to, Reaches, the-script, after-step}
+use Rattle.rules.specs.Calls.{zeros, types-check, script-check, checking, stepping, running, run-report, first-after}
+use Rattle.rules.specs.Reach.{verdict, Accepted, moved-to, Reaches, the-script, after-step}
 use Rattle.rules.proofs.PrefixLaws.{encode-length}
 use Rattle.rules.proofs.TermCode.{term-code}
 use Rattle.rules.proofs.Scripts.{term-encode}
@@ -38,7 +37,7 @@ use Rattle.demands.proofs.Stripping.{strip-encode, strip-type, erase-si
 use Rattle.demands.proofs.StrippedTables.{stripped-passes}
 use Rattle.demands.proofs.Erased.{one-group-is, erase-formed}
 use Rattle.demands.proofs.Runs.{erase-ran, moved-typed, run-safe, run-erased}
-use Rattle.demands.proofs.Checked.{Fit, Passed, Roomy, script-passed, script-passes}
+use Rattle.demands.proofs.Checked.{Fit, Roomy, script-passed, script-passes}
 use Rattle.demands.proofs.Steps.{limited-moves, fit-passes, fit-steps, fit-moves}
 use Rattle.demands.proofs.SecondDemand.{found-accepted, goes, only}
 

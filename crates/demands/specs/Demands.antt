@@ -2,8 +2,8 @@
 use mathlib.Core.Path.{_≡_}
 use mathlib.Core.Bool.{true, false}
 use mathlib.Core.Logic.{_↔_}
-use mathlib.Core.List.{List, [], _∷_, _++_}
-use Prim.Native.Nat.{ℕ, suc, zero, _-_, _≤_, _<_, min}
+use mathlib.Core.List.{[], _∷_, _++_}
+use Prim.Native.Nat.{ℕ, suc, _-_, _≤_, _<_, min}
 use lib.ListN.{length}
 use Rattle.calculus.specs.Types.{Ty}
 use Rattle.calculus.specs.Subtyping.{Subtype}
@@ -11,11 +11,10 @@ use Rattle.calculus.specs.Terms.{Term, is-value}
 use Rattle.calculus.specs.Reduction.{Reduces}
 use Rattle.calculus.specs.Stuck.{StuckAt, DeniedAt}
 use Rattle.calculus.specs.Typing.{HasType}
-use Rattle.rules.specs.Answer.{Bytes, Octets, Answer, accepted, refused}
-use Rattle.rules.specs.Limits.{work-length, answer-length}
+use Rattle.rules.specs.Answer.{Bytes, Octets, accepted, refused}
 use Rattle.rules.specs.Groups.{rows, readers}
 use Rattle.rules.specs.Types.{type-count, type-at, encode-type}
-use Rattle.rules.specs.Script.{records, encode, term, size}
+use Rattle.rules.specs.Script.{encode, term, size}
 use Rattle.rules.specs.Typing.{typing}
 use Rattle.rules.specs.Step.{End, at-value, moves, may-not, wrong-kind, too-big, exceeds, end-number}
 use Rattle.rules.specs.Run.{Ran}
@@ -23,7 +22,7 @@ use Rattle.rules.specs.Strip.{strip-script, strip-types, one-group}
 use Rattle.rules.specs.Sheet.{sheet}
 use Rattle.rules.specs.Calls.{zeros, q1, q25, q26, q27, groups-check, types-check, at-or-below, script-check, checking, type-bytes, answer-after, work-after, stepping, written-after, running, run-report, first-after, scratch-after, sheeting, sheet-after}
 use Rattle.rules.specs.Reach.{verdict, Accepted, MovesTo, Reaches}
-use Rattle.demands.specs.Questions.{question, of-groups, of-types, of-script, AllYes, Decides, Checks}
+use Rattle.demands.specs.Questions.{question, of-groups, of-types, of-script, Decides, Checks}
 
 -- Demand 1. "Any groups table, types table or script, of any bytes and any length, gets an answer; a refusal has the number and
 -- place that document 01 fixes": a call's answer is its yes, or the first no among its questions in the document's order. "A

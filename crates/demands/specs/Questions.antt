@@ -1,6 +1,6 @@
 -- "The first no gives its number and the place": a call's questions as a list, and what its answer says of them.
 use mathlib.Core.Path.{_≡_}
-use mathlib.Core.List.{List, [], _∷_, _++_}
+use mathlib.Core.List.{List, [], _∷_}
 use Prim.Native.Nat.{ℕ}
 use Rattle.rules.specs.Answer.{Bytes, Answer, accepted, refused}
 use Rattle.rules.specs.Groups.{q2, q3, q4, q5, q6, q7}

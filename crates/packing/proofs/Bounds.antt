@@ -6,7 +6,6 @@ use mathlib.Core.List.{List, [], _∷_}
 use mathlib.Core.Option.{Option, none, some}
 use Prim.Native.Nat.{ℕ, zero, suc, _+_, _-_, _%_, _≤_}
 use native.Mathlib.Omega.{arith}
-use borrow.Author.Tests.{leb-true}
 use lib.Dec.{eqb, leb, ltb}
 use lib.ListN.{length, getD}
 use Rattle.calculus.specs.Terms.{is-value}
@@ -23,8 +22,7 @@ use Rattle.rules.proofs.Scripts.{whole}
 use Rattle.rules.proofs.WayBack.{end-bound}
 use Rattle.packing.specs.Packed.{Bounded, bounded-yes, bounded-no}
 use Rattle.demands.proofs.Places.{Placed, placed-yes, placed-no, typing-placed}
-use Rattle.demands.proofs.Answers.{both}
-use Rattle.rules.proofs.Asked.{ask-true, and-then}
+use Rattle.rules.proofs.Asked.{and-then, few-rows, few-types}
 
 then : {B : Type 0} (a : Answer (Unit {0})) (b : Answer B) → Bounded a → (a ≡ accepted tt → Bounded b) → Bounded (_>>_ a b)
 then (accepted tt) b x f = f refl
@@ -49,16 +47,6 @@ each-bounded q n ok l m b = from-bounded q (λ i. not (ok i)) n 0 l m (omega ari
 exactly-bounded : (n : ℕ) (o : Option ℕ) → n ≤ script-limit → ((e : ℕ) → o ≡ some e → e ≤ n) → Bounded (exactly n o)
 exactly-bounded n none b f = bounded-no {q = 17} (omega arith) (omega arith) b
 exactly-bounded n (some e) b f = ask-bounded 17 e (eqb e n) (omega arith) (omega arith) (omega (arith, f e refl))
-
--- the last of three tests of a length
-last-test : (q : ℕ) (a b c : Bool) → ask q 0 (a && (b && c)) ≡ accepted tt → c ≡ true
-last-test q a b c e = both b c (both a (b && c) (ask-true q 0 (a && (b && c)) e) .1) .1
-
-few-rows : (g : Bytes) → q2 g ≡ accepted tt → rows g ≤ group-limit
-few-rows g e = leb-true (rows g) group-limit (last-test 2 (eqb (length g % row-width) 0) (leb 1 (rows g)) (leb (rows g) group-limit) e)
-
-few-types : (t : Bytes) → q8 t ≡ accepted tt → type-count t ≤ table-limit
-few-types t e = leb-true (type-count t) table-limit (last-test 8 (eqb (length t % type-width) 0) (leb 1 (type-count t)) (leb (type-count t) table-limit) e)
 
 -- a question whose place is 0
 front : (q : ℕ) (b : Bool) → 1 ≤ q → q ≤ 27 → Bounded (ask q 0 b)

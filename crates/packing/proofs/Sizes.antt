@@ -1,24 +1,22 @@
 -- What a call gives is small: a found type has at most 63 records, a term that a step or a run comes to at most 8,192, and so has a
 -- sheet. Assumes nothing.
-use mathlib.Core.Path.{_≡_, refl, sym, ap, _∙_}
+use mathlib.Core.Path.{_≡_, refl}
 use mathlib.Core.Bool.{Bool, true, false, cond, _||_}
 use mathlib.Core.List.{List, [], _∷_, _++_}
-use Prim.Native.Nat.{ℕ, zero, suc, _+_, _*_, _/_, _≤_, _<_, min}
+use Prim.Native.Nat.{ℕ, zero, suc, _+_, _*_, _≤_}
 use native.Mathlib.Omega.{arith}
 use borrow.Author.Tests.{leb-true, ltb-false}
-use lib.Dec.{leb, ltb}
 use lib.ListN.{length, getD, length-append}
 use Rattle.calculus.specs.Security.{Property, Reader, Indirect, Security}
 use Rattle.calculus.specs.Types.{Former, sum, product, function, Ty, one, node, top, raiseT, sizeT, fits, type-limit}
-use Rattle.calculus.specs.Subtyping.{subtype, below}
 use Rattle.calculus.specs.Terms.{Side, first, second, choose, Term, var, unit, lam, pair, inj, app, proj, case, protect, mu, is-value}
 use Rattle.calculus.specs.Reduction.{Outcome, value, moved, denied, stuck, step}
 use Rattle.calculus.proofs.Raising.{raise-size}
-use Rattle.rules.specs.Answer.{Bytes, Octets, Answer, accepted, refused, _>>=_, _>>_, ask}
-use Rattle.rules.specs.Limits.{script-limit, script-width, depth-limit}
+use Rattle.rules.specs.Answer.{Bytes, Answer, accepted, refused, _>>=_, _>>_, ask}
+use Rattle.rules.specs.Limits.{script-limit}
 use Rattle.rules.specs.Groups.{leq}
 use Rattle.rules.specs.Types.{no-type}
-use Rattle.rules.specs.Script.{size, depth}
+use Rattle.rules.specs.Script.{size}
 use Rattle.rules.specs.Typing.{left, right, q20, q21, q22, q23, q24, typing}
 use Rattle.rules.specs.Step.{End, at-value, moves, may-not, wrong-kind, too-big, exceeds, limited, step-in}
 use Rattle.rules.specs.Run.{Ran, run}

@@ -1,10 +1,8 @@
 -- A caller reads off an exported number the answer that was packed. Assumes nothing.
-use mathlib.Core.Path.{_≡_, refl, ap, ap₂, _∙_}
-use mathlib.Core.Bool.{Bool, cond}
-use Prim.Native.Nat.{ℕ, _+_, _*_, _/_, _%_, _≤_, _<_}
+use mathlib.Core.Path.{_≡_, ap, ap₂}
+use Prim.Native.Nat.{ℕ, _+_, _*_, _/_, _%_, _<_}
 use native.Mathlib.Omega.{arith}
 use borrow.Author.Tests.{eq-eqb, ne-eqb}
-use lib.Dec.{eqb}
 use Rattle.rules.specs.Answer.{Answer, accepted, refused}
 use Rattle.packing.specs.Packed.{half, packed, unpacked, Holds, holds-yes, holds-no}
 

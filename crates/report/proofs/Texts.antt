@@ -1,5 +1,5 @@
 -- The report's texts from what the calls answer, and how long they can be. Assumes nothing.
-use mathlib.Core.Path.{_≡_, refl, sym, ap, subst, _∙_}
+use mathlib.Core.Path.{_≡_, refl, sym, ap, _∙_}
 use mathlib.Core.Bool.{Bool, true, false}
 use mathlib.Core.List.{[], _∷_, _++_}
 use Prim.Native.Nat.{ℕ, zero, suc, _+_, _*_, _-_, _/_, _≤_}
@@ -10,12 +10,12 @@ use lib.ListN.{length, take, drop, length-append}
 use lib.Seq.{take-at}
 use Rattle.calculus.specs.Types.{Ty, sizeT}
 use Rattle.rules.specs.Answer.{Bytes, Octets, Answer, accepted, refused}
-use Rattle.rules.specs.Limits.{script-limit, work-length, answer-length, report-budget, report-buffer, report-sheet}
+use Rattle.rules.specs.Limits.{script-limit, report-budget, report-buffer, report-sheet}
 use Rattle.rules.specs.Groups.{rows}
 use Rattle.rules.specs.Script.{encode, term, size}
 use Rattle.rules.specs.Sheet.{sheet}
 use Rattle.rules.specs.Run.{Ran}
-use Rattle.rules.specs.Calls.{zeros, q25, q26, q27, script-check, checking, type-records, running, Report, run-report, first-after, sheeting, sheet-records, sheet-after}
+use Rattle.rules.specs.Calls.{zeros, q25, q26, q27, script-check, type-records, running, Report, run-report, first-after, sheeting, sheet-records, sheet-after}
 use Rattle.rules.specs.Reach.{verdict}
 use Rattle.rules.specs.Report.{refusal-line, accepted-line, run-line, sheet-lines, sheet-text, value-text, run-text, checked-text, report}
 use Rattle.demands.proofs.Answers.{accepted-inj}

@@ -3,7 +3,6 @@ use mathlib.Core.Bool.{Bool, true, false, not}
 use mathlib.Core.List.{List}
 use mathlib.Core.Option.{Option, none, some}
 use Prim.Native.Nat.{ℕ, zero, suc, _<_}
-use lib.Dec.{eqb}
 use lib.ListN.{getD}
 
 -- a lent slice's content

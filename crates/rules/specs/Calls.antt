@@ -1,8 +1,8 @@
 -- The calls of document 01: each as the list of its questions in order and its answer, and what every lent buffer holds
 -- afterwards in terms of its old content. Where the document speaks of room, a call takes the buffer's length.
-use mathlib.Core.Bool.{Bool, true, false, _&&_, cond}
+use mathlib.Core.Bool.{Bool, _&&_, cond}
 use mathlib.Core.List.{List, [], _∷_, _++_}
-use Prim.Native.Nat.{ℕ, _-_, _/_, min, max}
+use Prim.Native.Nat.{ℕ, _-_, _/_, min}
 use lib.Dec.{leb, ltb}
 use lib.ListN.{length, drop, replicate}
 use Rattle.calculus.specs.Types.{Ty, sizeT}
@@ -12,8 +12,8 @@ use Rattle.calculus.specs.Reduction.{step, operand-first, reading, apply, proje
 use Rattle.rules.specs.Answer.{Bytes, Answer, accepted, refused, _>>=_, _>>_, ask, first-from}
 use Rattle.rules.specs.Limits.{work-length, answer-length, sheet-width}
 use Rattle.rules.specs.Groups.{rows, join, ok3, ok4, ok5, ok6, ok7, q2, q3, q4, q5, q6, q7, readers}
-use Rattle.rules.specs.Types.{type-count, encode-type, parse-types, type-at, end-after, type-end, pending, ok9, ok10, ok11, ok12, q8, q9, q10, q11, q12}
-use Rattle.rules.specs.Script.{records, encode, parse, term, size, depth, counts, signature-of, arity, term-end, ok14, ok15, ok16, ok18, ok19, q13, q14, q15, q16, q17, q18, q19}
+use Rattle.rules.specs.Types.{type-count, encode-type, type-at, ok9, ok10, ok11, ok12, q8, q9, q10, q11, q12}
+use Rattle.rules.specs.Script.{records, encode, term, size, depth, counts, term-end, ok14, ok15, ok16, ok18, ok19, q13, q14, q15, q16, q17, q18, q19}
 use Rattle.rules.specs.Typing.{typing}
 use Rattle.rules.specs.Step.{End, at-value, moves, may-not, wrong-kind, too-big, end-number, end-count, step-in, exceeds}
 use Rattle.rules.specs.Run.{Ran, run}

@@ -1,6 +1,6 @@
 -- Document 01, 'Cases A to L', each statement a field of one record.
 use mathlib.Core.Path.{_≡_}
-use mathlib.Core.List.{List, _++_, _∷_, []}
+use mathlib.Core.List.{_++_, _∷_, []}
 use Prim.Native.Nat.{ℕ}
 use Rattle.rules.specs.Answer.{Bytes, Answer, accepted, refused}
 use Rattle.rules.specs.Groups.{join}

@@ -1,14 +1,14 @@
 -- Further examples: the slips of the pen, and what cases A to L leave open.
 use mathlib.Core.Path.{_≡_}
 use mathlib.Core.Bool.{true, false}
-use mathlib.Core.List.{List, [], _∷_, _++_}
+use mathlib.Core.List.{[], _∷_, _++_}
 use Prim.Native.Nat.{ℕ, zero, suc}
-use Rattle.calculus.specs.Types.{Ty, one}
-use Rattle.rules.specs.Answer.{Bytes, Answer, accepted, refused}
+use Rattle.calculus.specs.Types.{one}
+use Rattle.rules.specs.Answer.{Bytes, accepted, refused}
 use Rattle.rules.specs.Groups.{leq}
 use Rattle.rules.specs.Script.{script-record, q18, subterm}
 use Rattle.rules.specs.Strip.{strip-script, strip-types}
-use Rattle.rules.specs.Calls.{groups-check, types-check, at-or-below, checking, type-bytes, answer-after, work-after, stepping, written-after, running, run-report, first-after, scratch-after, sheeting, Report}
+use Rattle.rules.specs.Calls.{groups-check, types-check, at-or-below, checking, type-bytes, answer-after, work-after, stepping, written-after, running, run-report, first-after, scratch-after, sheeting}
 use Rattle.rules.specs.Reach.{verdict}
 use Rattle.rules.specs.Cases.{word, ty, groups, types, case-term, loop, check, ran, ends}
 

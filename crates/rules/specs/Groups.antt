@@ -1,11 +1,11 @@
 -- Document 01, 'Groups', and questions 2 to 7.
-use mathlib.Core.Bool.{Bool, true, false, _&&_, Bool·beq}
+use mathlib.Core.Bool.{Bool, false, _&&_, Bool·beq}
 use mathlib.Core.Option.{Option, none, some}
 use Prim.Native.Nat.{ℕ, _+_, _*_, _/_, _%_, _^_}
 use lib.Dec.{eqb, leb, ltb}
 use lib.ListN.{length}
-use Rattle.calculus.specs.Security.{Property, Security}
-use Rattle.rules.specs.Answer.{Bytes, byte, Answer, accepted, refused, _>>_, ask, each, first-from, first-below, all-below, _⇒_}
+use Rattle.calculus.specs.Security.{Security}
+use Rattle.rules.specs.Answer.{Bytes, byte, Answer, _>>_, ask, each, first-from, first-below, all-below, _⇒_}
 use Rattle.rules.specs.Limits.{row-width, group-limit}
 
 -- "A groups table is 1 to 32 rows of 4 bytes, no header, each a little-endian word."

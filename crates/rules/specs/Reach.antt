@@ -3,9 +3,9 @@ use mathlib.Core.Path.{_≡_}
 use Prim.Native.Nat.{ℕ, suc}
 use Rattle.calculus.specs.Types.{Ty}
 use Rattle.calculus.specs.Terms.{Term}
-use Rattle.rules.specs.Answer.{Bytes, Answer, accepted, refused}
+use Rattle.rules.specs.Answer.{Bytes, Answer, accepted}
 use Rattle.rules.specs.Limits.{work-length, answer-length}
-use Rattle.rules.specs.Step.{End, moves}
+use Rattle.rules.specs.Step.{moves}
 use Rattle.rules.specs.Script.{encode}
 use Rattle.rules.specs.Calls.{checking, stepping}
 

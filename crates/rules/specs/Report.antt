@@ -1,6 +1,6 @@
 -- Document 01, 'Report program': the whole text that it prints, as a function of the bytes of its three files.
 use mathlib.Core.Bool.{true, false}
-use mathlib.Core.List.{List, _∷_, _++_}
+use mathlib.Core.List.{_∷_, _++_}
 use mathlib.Core.List as list
 use Prim.Native.Nat.{ℕ, zero, suc, _+_, _/_, _%_}
 use Prim.Native.Char.{code}

@@ -4,7 +4,7 @@ use Prim.Native.Nat.{ℕ, suc, zero}
 use Rattle.calculus.specs.Security.{Security}
 use Rattle.calculus.specs.Types.{Ty}
 use Rattle.calculus.specs.Terms.{Term, is-value}
-use Rattle.rules.specs.Step.{End, at-value, moves, may-not, wrong-kind, too-big, end-number, step-in}
+use Rattle.rules.specs.Step.{at-value, moves, may-not, wrong-kind, too-big, end-number, step-in}
 
 -- the number of the end, the steps made, and the last term
 pub record Ran : Type 0 where

@@ -1,15 +1,15 @@
 -- Document 01, 'Typing', and questions 20 to 24: table 3 with the departures.
 -- "Typing goes operands first, left to right; 20, 21 and 22 come as soon as the operand concerned has its type, 23 before the
 -- body, 24 last. The place is the node."
-use mathlib.Core.Bool.{Bool, true, false}
+use mathlib.Core.Bool.{Bool, false}
 use mathlib.Core.List.{List, [], _∷_}
 use Prim.Native.Nat.{ℕ, _+_}
 use lib.ListN.{getD}
-use Rattle.calculus.specs.Security.{Property, Reader, Security}
+use Rattle.calculus.specs.Security.{Reader, Security}
 use Rattle.calculus.specs.Types.{Former, sum, product, function, Ty, one, node, same, top, raiseT, fits}
 use Rattle.calculus.specs.Subtyping.{subtype, below}
 use Rattle.calculus.specs.Terms.{choose, Term, var, unit, lam, pair, inj, app, proj, case, protect, mu}
-use Rattle.rules.specs.Answer.{Answer, accepted, refused, _>>=_, _>>_, ask}
+use Rattle.rules.specs.Answer.{Answer, accepted, _>>=_, _>>_, ask}
 use Rattle.rules.specs.Types.{no-type}
 use Rattle.rules.specs.Script.{size}
 

@@ -1,57 +1,27 @@
 -- Pieces written over a buffer one after the other. Assumes nothing.
 use mathlib.Core.Path.{_≡_, refl, sym, ap, _∙_}
-use mathlib.Core.List.{[], _∷_, _++_, append-assoc}
-use Prim.Native.Nat.{ℕ, _+_, _≤_, _<_}
+use mathlib.Core.List.{[], _∷_, _++_}
+use Prim.Native.Nat.{ℕ, zero, suc, _+_, _≤_}
 use native.Mathlib.Omega.{arith}
-use native.Mathlib.Numerals.{add-one}
-use lib.ListN.{length, take, drop, getD, set, length-append, length-drop, take-append-drop}
-use lib.Seq.{take-at, drop-at, drop-drop, length-take-le, paste, paste-suc, set-at, take-length}
+use lib.ListN.{length, take, drop, set, length-append}
 use Rattle.rules.specs.Answer.{Bytes}
-use Rattle.text.specs.Written.{place, Written}
-
-pub place-length : (at : ℕ) (b w : Bytes) → at + length b ≤ length w → length (place at b w) ≡ length w
-place-length at b w l = simp (length-append, length-take-le at w (omega arith), length-drop) (omega arith)
-
-pub place-none : (at : ℕ) (w : Bytes) → place at [] w ≡ w
-place-none at w = let z : at + 0 ≡ at = omega arith in rw z (take-append-drop at w)
-
--- two pieces, the second where the first ends
-place-both : (at : ℕ) (b c w : Bytes) → at + length b ≤ length w → place (at + length b) c (place at b w) ≡ place at (b ++ c) w
-place-both at b c w l =
-    let k : length (take at w ++ b) ≡ at + length b = simp (length-append, length-take-le at w (omega arith)) in
-    let q : place at b w ≡ (take at w ++ b) ++ drop (at + length b) w = sym (append-assoc (take at w) b (drop (at + length b) w)) in
-    let t : take (at + length b) (place at b w) ≡ take at w ++ b = rw q (take-at (take at w ++ b) (drop (at + length b) w) (at + length b) k) in
-    let n : at + length b + length c ≡ at + length (b ++ c) = omega (arith, length-append b c) in
-    let d : drop (at + length b + length c) (place at b w) ≡ drop (at + length (b ++ c)) w =
-    sym (drop-drop (length c) (at + length b) (place at b w))
-    ∙ ap (drop (length c)) (rw q (drop-at (take at w ++ b) (drop (at + length b) w) (at + length b) k))
-    ∙ drop-drop (length c) (at + length b) w
-    ∙ ap (λ (m : ℕ). drop m w) n in
-    ap (λ (x : Bytes). x ++ (c ++ drop (at + length b + length c) (place at b w))) t
-    ∙ ap (λ (x : Bytes). (take at w ++ b) ++ (c ++ x)) d
-    ∙ simp append-assoc
-
--- a copy's turn
-pub copy-turn : (s w : Bytes) (at j : ℕ) → j < length s → at + j < length w
-    → set (place at (take j s) w) (at + j) (getD s j 0) ≡ place at (take (j + 1) s) w
-copy-turn s w at j ls lw =
-    let l0 : length (take j s) ≡ j = length-take-le j s (omega arith) in
-    let l1 : length (take (j + 1) s) ≡ j + 1 = length-take-le (j + 1) s (omega arith) in
-    let a : place at (take j s) w ≡ paste w at s j = rw l0 (sym (append-assoc (take at w) (take j s) (drop (at + j) w))) in
-    let b : place at (take (j + 1) s) w ≡ paste w at s (j + 1) = rw l1 (sym (append-assoc (take at w) (take (j + 1) s) (drop (at + (j + 1)) w))) in
-    ap (λ (l : Bytes). set l (at + j) (getD s j 0)) a ∙ paste-suc w at s j 0 lw ls ∙ ap (λ (n : ℕ). paste w at s n) (sym (add-one j)) ∙ sym b
+use Rattle.memory.specs.Splice.{splice}
+use Rattle.memory.proofs.Laws.{length-splice, splice-none, join-after}
+use Rattle.text.specs.Written.{Written}
 
 -- one byte
-pub place-one : (at x : ℕ) (w : Bytes) → at + 1 ≤ length w → set w at x ≡ place at (x ∷ []) w
-place-one at x w l =
-    let z : at + 0 ≡ at = omega arith in
-    ap (λ (v : Bytes). set v at x) (sym (place-none at w))
-    ∙ ap (λ (n : ℕ). set (place at [] w) n x) (sym z)
-    ∙ copy-turn (x ∷ []) w at 0 (omega arith) (omega arith)
+store : (at x : ℕ) (w : Bytes) → at + 1 ≤ length w → set w at x ≡ take at w ++ (x ∷ drop (suc at) w)
+store zero x [] l = absurd (omega arith)
+store zero x (a ∷ w) l = refl
+store (suc at) x [] l = absurd (omega arith)
+store (suc at) x (a ∷ w) l = ap (λ (b : Bytes). a ∷ b) (store at x w (omega arith))
+
+pub put-one : (at x : ℕ) (w : Bytes) → at + 1 ≤ length w → set w at x ≡ splice at (x ∷ []) w
+put-one at x w l = let a : at + 1 ≡ suc at = omega arith in rw a (store at x w l)
 
 -- nothing written
 pub nothing : {at : ℕ} {w : Bytes} → Written at [] w at w
-nothing {at} {w} = record { ends = omega arith; holds = sym (place-none at w) }
+nothing {at} {w} = record { ends = omega arith; holds = sym (splice-none at w) }
 
 -- a piece after another
 pub then : {at end after : ℕ} {b c w w1 w2 : Bytes} → Written at b w end w1 → Written end c w1 after w2 → at + length b ≤ length w
@@ -59,12 +29,12 @@ pub then : {at end after : ℕ} {b c w w1 w2 : Bytes} → Written at b w end w1 
 then {at} {end} {after} {b} {c} {w} {w1} {w2} x y l =
     record {
       ends = omega (arith, x .ends, y .ends, length-append b c);
-      holds = y .holds ∙ ap (λ (v : Bytes). place end c v) (x .holds) ∙ ap (λ (n : ℕ). place n c (place at b w)) (x .ends) ∙ place-both at b c w l;
+      holds = y .holds ∙ ap (splice end c) (x .holds) ∙ join-after at end b c w (x .ends) l;
     }
 
 -- what was written with room keeps the buffer's length
 pub keeps : {at end : ℕ} {b w w1 : Bytes} → Written at b w end w1 → at + length b ≤ length w → length w1 ≡ length w
-keeps {at} {end} {b} {w} {w1} x l = ap length (x .holds) ∙ place-length at b w l
+keeps {at} {end} {b} {w} {w1} x l = ap length (x .holds) ∙ length-splice at b w l
 
 -- room for a piece and what follows it is room for the piece,
 pub room-first : (at : ℕ) (b rest w : Bytes) → at + length (b ++ rest) ≤ length w → at + length b ≤ length w

@@ -5,7 +5,6 @@ ghost use mathlib.Core.Path.{_≡_};
 ghost use mathlib.Core.List.{[], _∷_};
 ghost use Prim.Native.Nat.{_+_, _≤_};
 ghost use lib.ListN.{length};
-ghost use Rattle.calculus.specs.Terms.{Term};
 ghost use Rattle.rules.specs.Script.{size};
 ghost use Rattle.rules.specs.Run.{Ran};
 ghost use Rattle.rules.specs.Report.{decimal, word, refusal-line, accepted-line, run-line, sheet-lines};
@@ -19,11 +18,7 @@ pub fn put(bytes: &[u8], out: &mut [u8], at: usize) -> usize
     requires { ⌜ at + length (now bytes) ≤ length (now out) ⌝ }
     ensures { λ end. ⌜ Written at (now (bytes .entry)) (now (out .entry)) end (now (out .exit)) ⌝ }
 {
-    let mut i: usize = 0;
-    while i < bytes.len() {
-        out[at + i] = bytes[i];
-        i += 1;
-    }
+    memory::copy(bytes, bytes.len(), out, at);
     at + bytes.len()
 }
 

@@ -6,10 +6,9 @@ use Prim.Native.Nat.{ℕ, _+_, _*_, _≤_}
 use lib.ListN.{length, getD, drop}
 use lib.Dec.{eqb}
 use Rattle.calculus.specs.Security.{Property, Security}
-use Rattle.calculus.specs.Types.{Former, sum, product, function, Ty, one, node, top, raiseT, fits}
-use Rattle.calculus.specs.Subtyping.{subtype, below}
+use Rattle.calculus.specs.Types.{Former, sum, product, function, Ty, one, node, top, raiseT}
 use Rattle.calculus.specs.Terms.{first, second, Term, var, unit, lam, pair, inj, app, proj, case, protect, mu}
-use Rattle.rules.specs.Answer.{Bytes, Answer, accepted, refused, _>>=_, _>>_, ask}
+use Rattle.rules.specs.Answer.{Bytes, Answer, accepted, refused, _>>=_, _>>_}
 use Rattle.rules.specs.Limits.{type-width, script-width, answer-length}
 use Rattle.rules.specs.Types.{no-type}
 use Rattle.rules.specs.Script.{encode, size}

@@ -1,9 +1,8 @@
 -- What the exported run passes on. Assumes nothing.
 use mathlib.Core.Path.{_≡_, refl}
-use Prim.Native.Nat.{ℕ, _≤_, _<_}
+use Prim.Native.Nat.{ℕ, _<_}
 use native.Mathlib.Omega.{arith}
 use Rattle.rules.specs.Answer.{Bytes, Octets, Answer, accepted, refused}
-use Rattle.rules.specs.Limits.{script-limit}
 use Rattle.rules.specs.Run.{Ran}
 use Rattle.rules.specs.Calls.{running, Report, run-report}
 use Rattle.packing.specs.Packed.{half, steps-after, Bounded, bounded-no}

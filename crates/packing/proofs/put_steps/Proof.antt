@@ -1,8 +1,6 @@
 -- `put_steps` meets its contract: the first i bytes are written.
-use Prim.Native.Nat.{_-_, _≤_, min}
-use mathlib.Core.Path.{_≡_}
+use Prim.Native.Nat.{_-_}
 use native.Mathlib.Omega.{arith}
-use lib.ListN.{length}
 use Rattle.packing.proofs.Steps.{So-far, begins, goes-on, ends}
 use borrow.Author.Needs.{needs}
 use Rattle.packing.proofs.put_steps.Statement.{statement}

@@ -1,5 +1,5 @@
 -- `checked` meets its contract.
-use mathlib.Core.Path.{_≡_, sym, ap, subst, _∙_}
+use mathlib.Core.Path.{sym, ap, subst, _∙_}
 use Rattle.lattice.specs.declared.Checked.{Checked}
 use Rattle.lattice.specs.Said.{said}
 use Rattle.packing.specs.Packed.{packed, passed, Bounded}

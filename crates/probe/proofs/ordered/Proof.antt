@@ -1,5 +1,5 @@
 -- `ordered` meets its contract.
-use mathlib.Core.Path.{_≡_, sym, ap, subst, _∙_}
+use mathlib.Core.Path.{sym, ap, subst, _∙_}
 use Rattle.types.specs.declared.Ordered.{Ordered}
 use Rattle.types.specs.Ordered.{answered}
 use Rattle.packing.specs.Packed.{packed, yes-or-no, Bounded}

@@ -1,5 +1,5 @@
 -- `probe_at_or_below` meets its contract.
-use mathlib.Core.Path.{_≡_, sym, ap, subst, _∙_}
+use mathlib.Core.Path.{sym, ap, subst, _∙_}
 use mathlib.Core.Bool.{Bool}
 use Rattle.rules.specs.Answer.{Answer}
 use Rattle.packing.specs.Packed.{packed, yes-or-no, Bounded}

@@ -1,5 +1,5 @@
 -- `probe_step` meets its contract.
-use mathlib.Core.Path.{_≡_, sym, ap, subst, _∙_}
+use mathlib.Core.Path.{sym, ap, subst, _∙_}
 use Rattle.rules.specs.Answer.{Answer}
 use Rattle.rules.specs.Calls.{StepReport}
 use Rattle.packing.specs.Packed.{packed, step-ended}

@@ -1,5 +1,5 @@
 -- `probe_subterm` meets its contract.
-use mathlib.Core.Path.{_≡_, sym, ap, subst, _∙_}
+use mathlib.Core.Path.{ap, _∙_}
 use lib.ListN.{length, take}
 use Rattle.rules.specs.Answer.{Bytes}
 use Rattle.rules.specs.Calls.{fill-front}

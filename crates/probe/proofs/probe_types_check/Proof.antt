@@ -1,5 +1,5 @@
 -- `probe_types_check` meets its contract.
-use mathlib.Core.Path.{_≡_, sym, ap, subst, _∙_}
+use mathlib.Core.Path.{sym, ap, subst, _∙_}
 use Rattle.rules.specs.Answer.{Answer}
 use Rattle.packing.specs.Packed.{packed, passed, Bounded}
 use Rattle.packing.proofs.Bounds.{types-bounded}

@@ -1,5 +1,5 @@
 -- `stepped` meets its contract.
-use mathlib.Core.Path.{_≡_, sym, ap, subst, _∙_}
+use mathlib.Core.Path.{sym, ap, subst, _∙_}
 use Rattle.reduction.specs.declared.StepAnswer.{StepAnswer}
 use Rattle.reduction.specs.Steps.{reported}
 use Rattle.packing.specs.Packed.{packed, step-ended}

@@ -1,6 +1,5 @@
 use mathlib.Core.Path.{refl}
-use native.Mathlib.Omega.{arith}
-use Rattle.text.proofs.Placed.{place-one}
+use Rattle.text.proofs.Placed.{put-one}
 use borrow.Author.Needs.{needs}
 use Rattle.text.proofs.digit.Statement.{statement}
 use Rattle.text.proofs.digit.Tie as tie
@@ -29,7 +28,7 @@ same-length c = search needs
 
 -- src/lib.rt:31:1
 returns : tie.Need-returns
-returns c = record { ends = refl; holds = place-one _ _ _ (c .pre .1) }
+returns c = record { ends = refl; holds = put-one _ _ _ (c .pre .1) }
 
 pub digit-spec : {M : Type 1} → statement M
 digit-spec = tie.close (tie.spec cast-out add-out slice-write-out add-result same-length returns)

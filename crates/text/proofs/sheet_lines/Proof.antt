@@ -10,7 +10,6 @@ use Rattle.text.specs.Written.{Written}
 use Rattle.text.specs.Lines.{sheet-line}
 use Rattle.text.proofs.Placed.{nothing, then, keeps}
 use Rattle.text.proofs.Lines.{no-lines, one-line}
-use borrow.Author.Needs.{needs}
 use Rattle.text.proofs.sheet_lines.Statement.{statement}
 use Rattle.text.proofs.sheet_lines.Tie as tie
 

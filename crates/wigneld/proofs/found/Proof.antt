@@ -1,5 +1,5 @@
 -- `found` meets its contract.
-use mathlib.Core.Path.{_≡_, sym, ap, subst, _∙_}
+use mathlib.Core.Path.{sym, ap, subst, _∙_}
 use Rattle.typing.specs.declared.Found.{Found}
 use Rattle.typing.specs.Answered.{answered}
 use Rattle.packing.specs.Packed.{packed, Bounded}

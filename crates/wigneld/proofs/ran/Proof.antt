@@ -1,5 +1,5 @@
 -- `ran` meets its contract.
-use mathlib.Core.Path.{_≡_, sym, ap, subst, _∙_}
+use mathlib.Core.Path.{sym, ap, subst, _∙_}
 use Rattle.reduction.specs.declared.RunAnswer.{RunAnswer}
 use Rattle.reduction.specs.Runs.{run-reported}
 use Rattle.packing.specs.Packed.{packed, run-ended}

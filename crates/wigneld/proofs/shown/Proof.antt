@@ -1,5 +1,5 @@
 -- `shown` meets its contract.
-use mathlib.Core.Path.{_≡_, sym, ap, subst, _∙_}
+use mathlib.Core.Path.{sym, ap, subst, _∙_}
 use Rattle.sheet.specs.declared.Sheet.{Sheet}
 use Rattle.sheet.specs.Said.{reported}
 use Rattle.packing.specs.Packed.{packed, Bounded}

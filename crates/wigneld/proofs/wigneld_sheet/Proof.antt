@@ -1,5 +1,5 @@
 -- `wigneld_sheet` meets its contract.
-use mathlib.Core.Path.{_≡_, sym, ap, subst, _∙_}
+use mathlib.Core.Path.{sym, ap, subst, _∙_}
 use lib.ListN.{length}
 use Rattle.packing.specs.Packed.{packed, Bounded}
 use Rattle.packing.proofs.Bounds.{page-bounded}
