@@ -21,7 +21,7 @@ use Rattle.rules.specs.Calls.{q1, q25, q26, q27, types-check, script-check, che
 use Rattle.demands.proofs.Answers.{accepted-inj}
 use Rattle.rules.proofs.Asked.{and-then}
 use Rattle.demands.proofs.TypesTable.{tables}
-use Rattle.packing.specs.Packed.{half, passed, yes-or-no, ended, run-ended, Bounded, bounded-yes, bounded-no, Holds, holds-yes, holds-no}
+use Rattle.packing.specs.Packed.{half, passed, yes-or-no, ended, run-ended, Bounded, bounded-yes, bounded-no, Counted, counted-yes, counted-no, Holds, holds-yes, holds-no}
 use Rattle.packing.proofs.Bounds.{check-bounded, run-bounded, page-bounded, script-small}
 use Rattle.packing.proofs.Sizes.{Small, small-yes, small-no, no-binders, typing-small, Within, within-move, step-within, Ends, run-within, sheet-length}
 
@@ -116,3 +116,10 @@ step-count g t s room x e =
 
 pub place-fits : {A : Type 0} (q p : ℕ) → Bounded {A = A} (refused q p) → p < half
 place-fits q p (bounded-no l m n) = omega arith
+
+-- and a counted one's number and place
+pub count-fits : {A : Type 0} (count : A → ℕ) (x : A) → Counted count (accepted x) → count x < half
+count-fits count x (counted-yes l) = omega arith
+
+pub place-counted : {A : Type 0} (count : A → ℕ) (q p : ℕ) → Counted count (refused q p) → p < half
+place-counted count q p (counted-no l) = omega arith

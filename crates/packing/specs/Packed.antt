@@ -32,6 +32,17 @@ pub data Bounded {A : Type 0} : Answer A → Type 0 where
   bounded-yes : {a : A} → Bounded (accepted a)
   bounded-no : {q p : ℕ} → 1 ≤ q → q ≤ 27 → p ≤ script-limit → Bounded (refused q p)
 
+-- a report whose record count, or a refusal whose place, is at most a script's: one number holds either
+pub data Counted {A : Type 0} (count : A → ℕ) : Answer A → Type 0 where
+  counted-yes : {x : A} → count x ≤ script-limit → Counted count (accepted x)
+  counted-no : {q p : ℕ} → p ≤ script-limit → Counted count (refused q p)
+
+abbrev pub Step-counted : Answer StepReport → Type 0
+Step-counted = Counted (λ x. x .count)
+
+abbrev pub Run-counted : Answer Report → Type 0
+Run-counted = Counted (λ x. x .count)
+
 -- the lower half of a check of tables, of 'at or below', and of a run or a step: end * 65,536 + records
 abbrev pub passed : Answer (Unit {0}) → Answer ℕ
 passed (accepted tt) = accepted 0

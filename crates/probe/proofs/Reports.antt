@@ -2,7 +2,7 @@
 use mathlib.Core.Path.{_≡_, refl, sym, ap, _∙_}
 use mathlib.Core.Bool.{Bool, true, false}
 use mathlib.Core.List.{[]}
-use Prim.Native.Nat.{ℕ, _≤_, _<_, min}
+use Prim.Native.Nat.{ℕ, _≤_, min}
 use native.Mathlib.Omega.{arith}
 use borrow.Author.Tests.{leb-true, leb-false}
 use lib.Dec.{leb}
@@ -12,22 +12,15 @@ use Rattle.rules.specs.Answer.{Bytes, Answer, accepted, refused}
 use Rattle.rules.specs.Step.{End}
 use Rattle.memory.specs.Splice.{splice}
 use Rattle.memory.proofs.Laws.{splice-front}
-use Rattle.rules.specs.Calls.{fill-front, stepping, StepReport, step-report}
-use Rattle.packing.specs.Packed.{half, Bounded, bounded-no}
+use Rattle.rules.specs.Calls.{fill-front, stepping, step-report}
+use Rattle.packing.specs.Packed.{Bounded, bounded-no, counted-yes, counted-no, Step-counted}
 use Rattle.packing.proofs.Bounds.{step-bounded}
 use Rattle.packing.proofs.Exported.{step-count}
-use Rattle.probe.specs.Stepped.{Counted, counted-yes, counted-no}
 
-pub count-fits : (x : StepReport) → Counted (accepted x) → x .count < half
-count-fits x (counted-yes l) = omega arith
-
-pub place-counted : (q p : ℕ) → Counted (refused q p) → p < half
-place-counted q p (counted-no l) = omega arith
-
-pub step-counted : (g t s : Bytes) (room : ℕ) → Counted (step-report s (stepping g t s room))
+pub step-counted : (g t s : Bytes) (room : ℕ) → Step-counted (step-report s (stepping g t s room))
 step-counted g t s room = go (stepping g t s room) refl (step-bounded g t s room)
   where
-    go : (a : Answer End) → stepping g t s room ≡ a → Bounded a → Counted (step-report s a)
+    go : (a : Answer End) → stepping g t s room ≡ a → Bounded a → Step-counted (step-report s a)
     go (accepted x) e b = counted-yes (step-count g t s room x e)
     go (refused q p) e (bounded-no l m n) = counted-no n
 

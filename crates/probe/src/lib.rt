@@ -10,8 +10,7 @@ ghost use Rattle.rules.specs.Calls.{fill-front, groups-check, types-check, at-o
 ghost use Rattle.lattice.specs.Said.{said};
 ghost use Rattle.types.specs.Ordered.{answered};
 ghost use Rattle.reduction.specs.Steps.{reported};
-ghost use Rattle.packing.specs.Packed.{packed, passed, yes-or-no, step-ended, Bounded};
-ghost use Rattle.probe.specs.Stepped.{Counted};
+ghost use Rattle.packing.specs.Packed.{packed, passed, yes-or-no, step-ended, Bounded, Step-counted};
 use lattice::Checked;
 use reduction::StepAnswer;
 use types::Ordered;
@@ -67,7 +66,7 @@ pub extern "C" fn probe_at_or_below(groups: &[u8], types: &[u8], i: u64, j: u64)
 
 // A step: end * 65,536 + records.
 fn stepped(a: StepAnswer) -> u64
-    requires { ⌜ Counted (reported a) ⌝ }
+    requires { ⌜ Step-counted (reported a) ⌝ }
     ensures { λ n. ⌜ n ≡ packed (step-ended (reported a)) ⌝ }
 {
     match a {

@@ -1,26 +1,19 @@
 -- What the exported run passes on. Assumes nothing.
 use mathlib.Core.Path.{_≡_, refl}
-use Prim.Native.Nat.{ℕ, _<_}
-use native.Mathlib.Omega.{arith}
+use Prim.Native.Nat.{ℕ}
 use Rattle.rules.specs.Answer.{Bytes, Octets, Answer, accepted, refused}
 use Rattle.rules.specs.Run.{Ran}
-use Rattle.rules.specs.Calls.{running, Report, run-report}
-use Rattle.packing.specs.Packed.{half, steps-after, Bounded, bounded-no}
+use Rattle.rules.specs.Calls.{running, run-report}
+use Rattle.packing.specs.Packed.{steps-after, Bounded, bounded-no, counted-yes, counted-no, Run-counted}
 use Rattle.packing.proofs.Bounds.{run-bounded}
 use Rattle.packing.proofs.Exported.{run-ends}
-use Rattle.wigneld.specs.Exported.{Counted, counted-yes, counted-no, steps-told}
+use Rattle.wigneld.specs.Exported.{steps-told}
 
-pub count-fits : (x : Report) → Counted (accepted x) → x .count < half
-count-fits x (counted-yes l) = omega arith
-
-pub place-counted : (q p : ℕ) → Counted (refused q p) → p < half
-place-counted q p (counted-no l) = omega arith
-
-pub run-counted : (g t s : Bytes) (budget first scratch : ℕ) → Octets s → Counted (run-report (running g t s budget first scratch))
+pub run-counted : (g t s : Bytes) (budget first scratch : ℕ) → Octets s → Run-counted (run-report (running g t s budget first scratch))
 unfolding run-report
 run-counted g t s budget first scratch o = go (running g t s budget first scratch) refl (run-bounded g t s budget first scratch)
   where
-    go : (a : Answer Ran) → running g t s budget first scratch ≡ a → Bounded a → Counted (run-report a)
+    go : (a : Answer Ran) → running g t s budget first scratch ≡ a → Bounded a → Run-counted (run-report a)
     go (accepted x) e b = counted-yes (run-ends g t s budget first scratch x o e .last)
     go (refused q p) e (bounded-no l m n) = counted-no n
 

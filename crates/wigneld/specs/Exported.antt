@@ -1,17 +1,11 @@
 -- What the exported run tells, and demand 3 in its words.
 use mathlib.Core.Path.{_≡_}
-use Prim.Native.Nat.{ℕ, _≤_}
+use Prim.Native.Nat.{ℕ}
 use Rattle.calculus.specs.Types.{Ty}
 use Rattle.rules.specs.Answer.{Bytes, Answer, accepted, refused}
-use Rattle.rules.specs.Limits.{script-limit}
 use Rattle.rules.specs.Calls.{Report, run-report, first-after, scratch-after}
 use Rattle.demands.specs.Demands.{Demand3}
 use Rattle.packing.specs.Packed.{packed, run-ended, steps-in}
-
--- a run's report that one number holds
-pub data Counted : Answer Report → Type 0 where
-  counted-yes : {x : Report} → x .count ≤ script-limit → Counted (accepted x)
-  counted-no : {q p : ℕ} → p ≤ script-limit → Counted (refused q p)
 
 -- the steps of a report, in a lent slice
 abbrev pub steps-told : Answer Report → Bytes → Bytes

@@ -6,13 +6,15 @@ ghost use mathlib.Core.Path.{_≡_};
 ghost use Prim.Native.Nat.{_≤_};
 ghost use lib.ListN.{length};
 ghost use Rattle.calculus.specs.Types.{Ty};
-ghost use Rattle.rules.specs.Calls.{checking, type-records, work-after, answer-after, running, run-report, first-after, scratch-after, sheeting, sheet-records, sheet-after};
+ghost use Rattle.rules.specs.Calls.{checking, type-records, work-after, answer-after};
+ghost use Rattle.rules.specs.Calls.{running, run-report, first-after, scratch-after};
+ghost use Rattle.rules.specs.Calls.{sheeting, sheet-records, sheet-after};
 ghost use Rattle.rules.specs.Reach.{Accepted};
 ghost use Rattle.typing.specs.Answered.{answered};
 ghost use Rattle.reduction.specs.Runs.{run-reported};
 ghost use Rattle.sheet.specs.Said.{reported};
-ghost use Rattle.packing.specs.Packed.{packed, run-ended, steps-after, Bounded};
-ghost use Rattle.wigneld.specs.Exported.{Counted, steps-told, Demanded};
+ghost use Rattle.packing.specs.Packed.{packed, run-ended, steps-after, Bounded, Run-counted};
+ghost use Rattle.wigneld.specs.Exported.{steps-told, Demanded};
 use reduction::RunAnswer;
 use sheet::Sheet;
 use typing::Found;
@@ -49,8 +51,9 @@ pub extern "C" fn wigneld_check(
 
 // A run's end and record count, with its steps written apart, or the refusal, with nothing written.
 fn ran(a: RunAnswer, steps: &mut [u8]) -> u64
-    requires { ⌜ Counted (run-reported a) ⌝ }
-    ensures { λ n. ⌜ (n ≡ packed (run-ended (run-reported a))) × (now (steps .exit) ≡ steps-told (run-reported a) (now (steps .entry))) ⌝ }
+    requires { ⌜ Run-counted (run-reported a) ⌝ }
+    ensures { λ n. ⌜ (n ≡ packed (run-ended (run-reported a)))
+        × (now (steps .exit) ≡ steps-told (run-reported a) (now (steps .entry))) ⌝ }
 {
     match a {
         RunAnswer::Ended(end, made, count) => {
@@ -72,8 +75,8 @@ pub extern "C" fn wigneld_run(
     scratch: &mut [u8],
     steps: &mut [u8],
 ) -> u64
-    ensures { λ n. ⌜ (n ≡ packed (run-ended (run-report (running (now (groups .entry)) (now (types .entry)) (now (script .entry)) budget
-        (length (now (first .entry))) (length (now (scratch .entry)))))))
+    ensures { λ n. ⌜ (n ≡ packed (run-ended (run-report (running (now (groups .entry)) (now (types .entry)) (now (script .entry))
+        budget (length (now (first .entry))) (length (now (scratch .entry)))))))
         × (now (first .exit) ≡ first-after (running (now (groups .entry)) (now (types .entry)) (now (script .entry)) budget
         (length (now (first .entry))) (length (now (scratch .entry)))) (now (first .entry)))
         × (now (scratch .exit) ≡ scratch-after (running (now (groups .entry)) (now (types .entry)) (now (script .entry)) budget
@@ -82,7 +85,8 @@ pub extern "C" fn wigneld_run(
         (length (now (first .entry))) (length (now (scratch .entry)))) (now (steps .entry)))
         × ((type : Ty) → Accepted (now (groups .entry)) (now (types .entry)) (now (script .entry)) type
         → length (now (script .entry)) ≤ length (now (first .entry)) → length (now (script .entry)) ≤ length (now (scratch .entry))
-        → Demanded (now (groups .entry)) (now (types .entry)) (now (script .entry)) type budget (now (first .entry)) (now (scratch .entry)) (now (steps .entry))
+        → Demanded (now (groups .entry)) (now (types .entry)) (now (script .entry)) type budget
+        (now (first .entry)) (now (scratch .entry)) (now (steps .entry))
         n (now (first .exit)) (now (scratch .exit)) (now (steps .exit))) ⌝ }
 {
     ran(
@@ -111,8 +115,10 @@ pub extern "C" fn wigneld_sheet(
     group: u64,
     sheet: &mut [u8],
 ) -> u64
-    ensures { λ n. ⌜ (n ≡ packed (sheet-records (sheeting (now (groups .entry)) (now (types .entry)) (now (value .entry)) group (length (now (sheet .entry))))))
-        × (now (sheet .exit) ≡ sheet-after (sheeting (now (groups .entry)) (now (types .entry)) (now (value .entry)) group (length (now (sheet .entry)))) (now (sheet .entry))) ⌝ }
+    ensures { λ n. ⌜ (n ≡ packed (sheet-records (sheeting (now (groups .entry)) (now (types .entry)) (now (value .entry))
+        group (length (now (sheet .entry))))))
+        × (now (sheet .exit) ≡ sheet-after (sheeting (now (groups .entry)) (now (types .entry)) (now (value .entry))
+        group (length (now (sheet .entry)))) (now (sheet .entry))) ⌝ }
 {
     shown(sheet::page(groups, types, value, group, sheet))
 }

@@ -2,8 +2,7 @@
 use mathlib.Core.Path.{sym, ap, subst, _∙_}
 use Rattle.rules.specs.Answer.{Answer}
 use Rattle.rules.specs.Calls.{StepReport}
-use Rattle.packing.specs.Packed.{packed, step-ended}
-use Rattle.probe.specs.Stepped.{Counted}
+use Rattle.packing.specs.Packed.{packed, step-ended, Step-counted}
 use Rattle.probe.proofs.Reports.{step-counted}
 use borrow.Author.Needs.{needs}
 use Rattle.probe.proofs.probe_step.Statement.{statement}
@@ -13,7 +12,7 @@ step-requires : tie.Need-step-requires
 step-requires c κs = search needs
 
 stepped-requires : tie.Need-stepped-requires
-stepped-requires c κs = subst Counted (sym (c .before .before .step .ensures .0)) (step-counted _ _ _ _)
+stepped-requires c κs = subst Step-counted (sym (c .before .before .step .ensures .0)) (step-counted _ _ _ _)
 
 same-length : tie.Need-same-length
 same-length c = search needs

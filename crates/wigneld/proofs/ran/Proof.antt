@@ -2,9 +2,9 @@
 use mathlib.Core.Path.{sym, ap, subst, _∙_}
 use Rattle.reduction.specs.declared.RunAnswer.{RunAnswer}
 use Rattle.reduction.specs.Runs.{run-reported}
-use Rattle.packing.specs.Packed.{packed, run-ended}
-use Rattle.wigneld.specs.Exported.{Counted, steps-told}
-use Rattle.wigneld.proofs.Reports.{count-fits, place-counted}
+use Rattle.packing.specs.Packed.{packed, run-ended, Run-counted}
+use Rattle.wigneld.specs.Exported.{steps-told}
+use Rattle.packing.proofs.Exported.{count-fits, place-counted}
 use borrow.Author.Needs.{needs}
 use Rattle.wigneld.proofs.ran.Statement.{statement}
 use Rattle.wigneld.proofs.ran.Tie as tie
@@ -16,13 +16,13 @@ put-steps-requires : tie.Need-put-steps-requires
 put-steps-requires c κs = search needs
 
 end-and-count-requires : tie.Need-end-and-count-requires
-end-and-count-requires c κs = count-fits _ (subst (λ (x : RunAnswer). Counted (run-reported x)) (c .before .before .before .before .before .a .given .1) (c .before .before .before .before .before .before .before .before .pre))
+end-and-count-requires c κs = count-fits _ _ (subst (λ (x : RunAnswer). Run-counted (run-reported x)) (c .before .before .before .before .before .a .given .1) (c .before .before .before .before .before .before .before .before .pre))
 
 enum-known-a-2 : tie.Need-enum-known-a-2
 enum-known-a-2 c = search needs
 
 refusal-requires : tie.Need-refusal-requires
-refusal-requires c κs = place-counted _ _ (subst (λ (x : RunAnswer). Counted (run-reported x)) (c .before .a2 .given .1) (c .before .before .before .before .pre))
+refusal-requires c κs = place-counted _ _ _ (subst (λ (x : RunAnswer). Run-counted (run-reported x)) (c .before .a2 .given .1) (c .before .before .before .before .pre))
 
 same-length : tie.Need-same-length
 same-length c = search needs

@@ -4,8 +4,8 @@ use native.Mathlib.Omega.{arith}
 use lib.ListN.{length}
 use Rattle.rules.specs.Answer.{Octets, Answer, accepted}
 use Rattle.rules.specs.Calls.{Report}
-use Rattle.packing.specs.Packed.{packed, run-ended}
-use Rattle.wigneld.specs.Exported.{Counted, steps-told}
+use Rattle.packing.specs.Packed.{packed, run-ended, Run-counted}
+use Rattle.wigneld.specs.Exported.{steps-told}
 use Rattle.wigneld.proofs.Reports.{run-counted, steps-same}
 use borrow.Author.Needs.{needs}
 use Rattle.wigneld.proofs.wigneld_run.Statement.{statement}
@@ -18,7 +18,7 @@ ran-requires : tie.Need-ran-requires
 ran-requires c κs =
     let s = c .before .before .before .before .before .before .before .before .before .before .before .before .before .before in
     let o : Octets (s .args .script .now) = λ j. omega (arith, c .before .before .before .before .before .before .before .before .before .before .before .shared-slice-known3 .given j) in
-    subst Counted (sym (c .before .before .before .before .before .run .ensures .0))
+    subst Run-counted (sym (c .before .before .before .before .before .run .ensures .0))
     (run-counted (s .args .groups .now) (s .args .types .now) (s .args .script .now) (s .args .budget) (length (s .args .first .now)) (length (s .args .scratch .now)) o)
 
 same-length : tie.Need-same-length
