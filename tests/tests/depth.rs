@@ -3,12 +3,11 @@
 
 mod common;
 
+use common::records::*;
 use common::*;
 use wigneld_tests::cases::{record, Inputs};
 use wigneld_tests::generate::{wide_type, words};
 use wigneld_tests::limits::*;
-
-type Record = [u8; 6];
 
 /// Types, all groups 0: a sum of unit and a pair of 61 records, a function from 31 to 31 records, a pair of 63.
 const SUM: u16 = 0;
@@ -16,13 +15,6 @@ const RIGHT_OF_SUM: u16 = 2;
 const FUNCTION: u16 = 63;
 const PARAMETER: u16 = 64;
 const LARGE_PAIR: u16 = 126;
-
-const UNIT: Record = [1, 0, 0, 0, 0, 0];
-const PAIR: Record = [3, 0, 0, 0, 0, 0];
-const APPLICATION: Record = [6, 0, 0, 0, 0, 0];
-const FIRST_OF: Record = [7, 0, 0, 0, 0, 0];
-const SECOND_OF: Record = [8, 0, 0, 0, 0, 0];
-const PROTECT: Record = [10, 0, 0, 0, 0, 0];
 
 fn types() -> Vec<u8> {
     let half = wide_type(31).write();
@@ -35,30 +27,6 @@ fn types() -> Vec<u8> {
         wide_type(63).write(),
     ]
     .concat()
-}
-
-fn variable(number: u16) -> Record {
-    record(0, 0, 0, number)
-}
-
-fn function(number: u16) -> Record {
-    record(2, 0, 0, number)
-}
-
-fn first(number: u16) -> Record {
-    record(4, 0, 0, number)
-}
-
-fn second(number: u16) -> Record {
-    record(5, 0, 0, number)
-}
-
-fn case(number: u16) -> Record {
-    record(9, 0, 0, number)
-}
-
-fn recursion(number: u16) -> Record {
-    record(11, 0, 0, number)
 }
 
 /// `levels` times `before`, the innermost records, and as often `after`, inside `outermost` and `last`.
@@ -135,7 +103,7 @@ fn parameters_of_functions() {
 #[test]
 fn arguments_beside_functions() {
     let outermost = [function(PARAMETER)];
-    let level = [APPLICATION, function(PARAMETER), variable(0)];
+    let level = [APPLY, function(PARAMETER), variable(0)];
     let all =
         |innermost: Record| nested([&outermost, &level, &[PROTECT, innermost], &[], &[]], 253);
     accepted(&all(variable(0)));
@@ -144,12 +112,12 @@ fn arguments_beside_functions() {
 
 #[test]
 fn first_operands() {
-    let outermost = [function(RIGHT_OF_SUM), SECOND_OF, PAIR];
+    let outermost = [function(RIGHT_OF_SUM), PROJECT_SECOND, PAIR];
     let all = |innermost: &[Record], levels| {
-        nested([&outermost, &[FIRST_OF, PAIR], innermost, &[UNIT], &[UNIT]], levels)
+        nested([&outermost, &[PROJECT, PAIR], innermost, &[UNIT], &[UNIT]], levels)
     };
     accepted(&all(&[variable(0)], 126));
-    refused(&all(&[FIRST_OF, UNIT], 125), 20, 3 + 2 * 125);
+    refused(&all(&[PROJECT, UNIT], 125), 20, 3 + 2 * 125);
 }
 
 #[test]

@@ -2,6 +2,7 @@
 
 mod common;
 
+use common::records::*;
 use common::*;
 use wigneld_tests::cases::{self, record, Inputs};
 use wigneld_tests::generate::*;
@@ -58,8 +59,6 @@ fn refused_by_all(inputs: &Inputs, question: u32, place: u32) {
     assert_eq!(seen, no(question, place));
     assert_eq!(sheet, filled(3));
 }
-
-const UNIT: [u8; 6] = [1, 0, 0, 0, 0, 0];
 
 #[test]
 fn the_tables_here_are_accepted() {
@@ -544,30 +543,6 @@ fn ill_typed(records: &[[u8; 6]], question: u32, place: u32) {
 
 fn finds(records: &[[u8; 6]], types: &[[u8; 4]]) {
     check_finds(&of(records), &types.concat());
-}
-
-const PAIR: [u8; 6] = [3, 0, 0, 0, 0, 0];
-const APPLY: [u8; 6] = [6, 0, 0, 0, 0, 0];
-const PROJECT: [u8; 6] = [7, 0, 0, 0, 0, 0];
-
-fn function(number: u16) -> [u8; 6] {
-    record(2, 0, 0, number)
-}
-
-fn first(number: u16) -> [u8; 6] {
-    record(4, 0, 0, number)
-}
-
-fn second(number: u16) -> [u8; 6] {
-    record(5, 0, 0, number)
-}
-
-fn case(number: u16) -> [u8; 6] {
-    record(9, 0, 0, number)
-}
-
-fn variable(number: u16) -> [u8; 6] {
-    record(0, 0, 0, number)
 }
 
 fn high_unit() -> [u8; 6] {

@@ -5,6 +5,8 @@
 //! property of the other files is one of the engine as well.
 #![allow(dead_code)]
 
+pub mod records;
+
 use wigneld_tests::calls::{self, RunReport, StepReport};
 use wigneld_tests::cases::Inputs;
 use wigneld_tests::limits::{ANSWER_BYTES, REPORT_RUN_BYTES, WORK_BYTES};
