@@ -7,13 +7,13 @@ ghost use lib.ListN.{length, take};
 ghost use Rattle.rules.specs.Script.{subterm};
 ghost use Rattle.rules.specs.Strip.{strip-script, strip-types};
 ghost use Rattle.rules.specs.Calls.{fill-front, groups-check, types-check, at-or-below, stepping, step-report, written-after};
-ghost use Rattle.lattice.specs.Said.{said};
-ghost use Rattle.types.specs.Ordered.{answered};
+ghost use Rattle.answer.specs.Said.{said};
+ghost use Rattle.types_table.specs.Ordered.{answered};
 ghost use Rattle.reduction.specs.Steps.{reported};
 ghost use Rattle.packing.specs.Packed.{packed, passed, yes-or-no, step-ended, Bounded, Step-counted};
-use lattice::Checked;
+use answer::Checked;
 use reduction::StepAnswer;
-use types::Ordered;
+use types_table::Ordered;
 
 // A check of tables: 0 for a pass.
 fn checked(a: Checked) -> u64
@@ -30,14 +30,14 @@ fn checked(a: Checked) -> u64
 pub extern "C" fn probe_groups_check(groups: &[u8]) -> u64
     ensures { λ n. ⌜ n ≡ packed (passed (groups-check (now (groups .entry)))) ⌝ }
 {
-    checked(lattice::groups_check(groups))
+    checked(groups_table::groups_check(groups))
 }
 
 #[no_mangle]
 pub extern "C" fn probe_types_check(groups: &[u8], types: &[u8]) -> u64
     ensures { λ n. ⌜ n ≡ packed (passed (types-check (now (groups .entry)) (now (types .entry)))) ⌝ }
 {
-    checked(types::types_check(groups, types))
+    checked(types_table::types_check(groups, types))
 }
 
 fn one_or_zero(yes: bool) -> u64
@@ -61,7 +61,7 @@ fn ordered(a: Ordered) -> u64
 pub extern "C" fn probe_at_or_below(groups: &[u8], types: &[u8], i: u64, j: u64) -> u64
     ensures { λ n. ⌜ n ≡ packed (yes-or-no (at-or-below (now (groups .entry)) (now (types .entry)) i j)) ⌝ }
 {
-    ordered(types::compare(groups, types, i, j))
+    ordered(types_table::compare(groups, types, i, j))
 }
 
 // A step: end * 65,536 + records.
@@ -110,12 +110,12 @@ pub extern "C" fn probe_subterm(script: &[u8], index: u64, copy: &mut [u8]) -> u
 pub extern "C" fn probe_strip_script(script: &mut [u8])
     ensures { λ _. ⌜ now (script .exit) ≡ strip-script (now (script .entry)) ⌝ }
 {
-    script::strip_script(script);
+    erasure::strip_script(script);
 }
 
 #[no_mangle]
 pub extern "C" fn probe_strip_types(types: &mut [u8])
     ensures { λ _. ⌜ now (types .exit) ≡ strip-types (now (types .entry)) ⌝ }
 {
-    script::strip_types(types);
+    erasure::strip_types(types);
 }

@@ -17,11 +17,11 @@ use Rattle.rules.specs.Limits.{type-width}
 use Rattle.rules.specs.Groups.{leq, readers}
 use Rattle.rules.specs.Types.{type-count, type-kind, type-r, type-ir, type-at, parse-types, make-type, no-type}
 use Rattle.rules.specs.Script.{kind, r, number}
-use Rattle.script.specs.Place.{At}
-use Rattle.script.proofs.Stands.{kind-of, stands-kind}
+use Rattle.records.specs.Place.{At}
+use Rattle.records.proofs.Stands.{kind-of, stands-kind}
 use Rattle.rules.proofs.TypePlaces.{type-at-outside}
 use Rattle.redex.specs.Fates.{goes, misfit, property-of, is-function, reading-fate, fate}
-use Rattle.script.specs.Operands.{first-operand}
+use Rattle.records.specs.Operands.{first-operand}
 use Rattle.redex.specs.Found.{answer, takes-apart}
 use Rattle.redex.proofs.Places.{reader-at, number-at}
 use Rattle.redex.proofs.Forms.{first-position, recursion-turn, reading-is}

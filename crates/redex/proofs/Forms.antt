@@ -12,10 +12,10 @@ use Rattle.calculus.specs.Stuck.{built-by}
 use Rattle.calculus.proofs.Booleans.{both}
 use Rattle.rules.specs.Script.{size}
 use Rattle.rules.proofs.TermCode.{two-bytes}
-use Rattle.script.proofs.Stands.{kind-of}
+use Rattle.records.proofs.Stands.{kind-of}
 use Rattle.redex.specs.Contexts.{offset, level}
 use Rattle.redex.specs.Fates.{goes, misfit, property-of, is-function, ready, reading-fate, fate}
-use Rattle.script.specs.Operands.{first-operand, second-operand}
+use Rattle.records.specs.Operands.{first-operand, second-operand}
 use Rattle.redex.specs.Found.{takes-apart}
 use Rattle.redex.proofs.Places.{number-of}
 

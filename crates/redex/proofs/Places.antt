@@ -15,8 +15,8 @@ use Rattle.rules.proofs.Parts.{past}
 use Rattle.rules.proofs.PrefixLaws.{record-is}
 use Rattle.rules.proofs.TermCode.{term-head, term-code}
 use Rattle.rules.proofs.RecordFields.{r-is, number-is}
-use Rattle.script.specs.Place.{At}
-use Rattle.script.proofs.Stands.{kind-of}
+use Rattle.records.specs.Place.{At}
+use Rattle.records.proofs.Stands.{kind-of}
 use Rattle.redex.specs.Contexts.{before, after, offset}
 use Rattle.redex.specs.Fates.{property-of}
 use Rattle.redex.specs.Found.{Site}

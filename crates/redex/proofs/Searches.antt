@@ -18,7 +18,7 @@ use Rattle.calculus.proofs.Values.{value-step}
 use Rattle.rules.specs.Answer.{Bytes}
 use Rattle.rules.specs.Limits.{depth-limit}
 use Rattle.rules.specs.Script.{size, depth}
-use Rattle.script.specs.Place.{At}
+use Rattle.records.specs.Place.{At}
 use Rattle.redex.specs.Contexts.{offset, level}
 use Rattle.redex.specs.Fates.{Fate, goes, barred, misfit, ready, fate, contractum}
 use Rattle.redex.specs.Found.{Site, Finds, finds-value, finds-redex, finds-denied, finds-stuck, answer}

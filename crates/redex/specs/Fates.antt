@@ -6,7 +6,7 @@ use Rattle.calculus.specs.Types.{sum, product, function, Ty, one, node, same, t
 use Rattle.calculus.specs.Terms.{Side, first, choose, Term, var, unit, lam, pair, inj, app, proj, case, protect, mu, is-value, subst, raise-value}
 use Rattle.calculus.specs.Reduction.{unrolled, Outcome, moved, denied, stuck}
 use Rattle.calculus.specs.Stuck.{built-by}
-use Rattle.script.specs.Operands.{first-operand, second-operand}
+use Rattle.records.specs.Operands.{first-operand, second-operand}
 
 -- the groups of a term's own record: "unnamed fields are 0"
 abbrev pub property-of : Term → Property

@@ -10,7 +10,7 @@ use Rattle.calculus.specs.Reduction.{Context, plug, denied, stuck, step}
 use Rattle.rules.specs.Answer.{Bytes}
 use Rattle.rules.specs.Limits.{depth-limit}
 use Rattle.rules.specs.Script.{size, depth}
-use Rattle.script.specs.Place.{At}
+use Rattle.records.specs.Place.{At}
 use Rattle.redex.specs.Contexts.{offset, level}
 use Rattle.redex.specs.Fates.{Fate, goes, barred, misfit, ready, fate}
 use Rattle.redex.specs.declared.Found.{Found}

@@ -8,10 +8,10 @@ ghost use Rattle.rules.specs.Limits.{script-width};
 ghost use Rattle.rules.specs.Groups.{leq, readers};
 ghost use Rattle.rules.specs.Types.{type-at};
 ghost use Rattle.rules.specs.Script.{kind, r};
-ghost use Rattle.script.specs.Place.{At};
+ghost use Rattle.records.specs.Place.{At};
 ghost use Rattle.redex.specs.Fates.{is-function, fate};
 ghost use Rattle.redex.specs.Found.{Shallow, Finds, answer, takes-apart};
-use script::TYPE_WIDTH;
+use types::TYPE_WIDTH;
 
 // What the search for the redex reports: a value and the record after it; the redex and the number of records around it; or why no
 // step moves the term, a reader that may not (end 2) or a wrong kind (end 3).
@@ -50,8 +50,8 @@ fn may_read(groups: &[u8], script: &[u8], at: usize) -> bool
     requires { ⌜ script-width * at + 12 ≤ length (now script) ⌝ }
     ensures { λ a. ⌜ a ≡ leq (now (groups .entry)) (r (now (script .entry)) (at + 1)) (r (now (script .entry)) at) ⌝ }
 {
-    let read = script::reader(script, at + 1);
-    let reader = script::reader(script, at);
+    let read = records::reader(script, at + 1);
+    let reader = records::reader(script, at);
     read.at_or_below(groups, reader)
 }
 
@@ -61,8 +61,8 @@ fn reading(groups: &[u8], script: &[u8], at: usize, depth: usize) -> Found
     ensures { λ a. ⌜ ((tab : ℕ → Ty) (e : Term) → At (now (script .entry)) at e → 6 ≤ kind (now (script .entry)) at
         → kind (now (script .entry)) at ≤ 9 → a ≡ answer (fate (readers (now (groups .entry))) tab e) at depth) ⌝ }
 {
-    let destructor = script::kind(script, at);
-    let value = script::kind(script, at + 1);
+    let destructor = records::kind(script, at);
+    let value = records::kind(script, at + 1);
     if takes_apart(destructor, value) {
         if may_read(groups, script, at) {
             return Found::Redex(at, depth);
@@ -78,7 +78,7 @@ fn unrolling(types: &[u8], script: &[u8], at: usize, depth: usize) -> Found
     ensures { λ a. ⌜ ((S : Security) (e : Term) → At (now (script .entry)) at e → kind (now (script .entry)) at ≡ 11
         → a ≡ answer (fate S (type-at (now (types .entry))) e) at depth) ⌝ }
 {
-    let named = script::index(script::number(script, at));
+    let named = records::index(records::number(script, at));
     if !unrolls(types, named) {
         return Found::Stuck;
     }
@@ -92,7 +92,7 @@ pub fn find(groups: &[u8], types: &[u8], script: &[u8], at: usize, depth: usize)
     ensures { λ a. ⌜ ((e : Term) → At (now (script .entry)) at e
         → Finds (readers (now (groups .entry))) (type-at (now (types .entry))) at depth e a) ⌝ }
 {
-    let kind = script::kind(script, at);
+    let kind = records::kind(script, at);
     if kind == 0 {
         return Found::Stuck;
     }
@@ -100,7 +100,7 @@ pub fn find(groups: &[u8], types: &[u8], script: &[u8], at: usize, depth: usize)
         return Found::Value(at + 1);
     }
     if kind == 2 {
-        return Found::Value(script::end_of(script, at));
+        return Found::Value(records::end_of(script, at));
     }
     if kind == 11 {
         return unrolling(types, script, at, depth);

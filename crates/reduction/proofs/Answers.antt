@@ -14,10 +14,10 @@ use Rattle.rules.specs.Script.{term, encode, size}
 use Rattle.rules.specs.Run.{Ran, run}
 use Rattle.rules.specs.Reach.{Accepted}
 use Rattle.rules.specs.Calls.{zeros, types-check, script-check, running, Report, run-report, first-after, scratch-after}
-use Rattle.lattice.specs.declared.Checked.{Checked}
-use Rattle.lattice.specs.declared.Checked.the-variants.{Passed, Refused}
-use Rattle.lattice.specs.Said.{said}
-use Rattle.lattice.proofs.Passed.{Yes, No, accepts}
+use Rattle.answer.specs.declared.Checked.{Checked}
+use Rattle.answer.specs.declared.Checked.the-variants.{Passed, Refused}
+use Rattle.answer.specs.Said.{said}
+use Rattle.answer.proofs.Passed.{Yes, No, accepts}
 use Rattle.script.specs.Check.{terms-check}
 use Rattle.script.proofs.Asked.{script-check-is}
 use Rattle.demands.proofs.Answers.{accepted-inj}

@@ -11,7 +11,7 @@ use Rattle.rules.specs.Answer.{Bytes}
 use Rattle.rules.specs.Limits.{script-width}
 use Rattle.rules.specs.Script.{records, encode, term}
 use Rattle.rules.specs.Calls.{zeros}
-use Rattle.script.proofs.Stands.{start-records}
+use Rattle.records.proofs.Stands.{start-records}
 use Rattle.memory.specs.Splice.{splice}
 use Rattle.substitution.proofs.Reading.{term-length}
 use Rattle.reduction.specs.Steps.{Startable}

@@ -18,10 +18,10 @@ use Rattle.rules.specs.Types.{type-count, type-at, q8}
 use Rattle.rules.specs.Script.{records, term}
 use Rattle.rules.specs.Step.{End, at-value, moves, may-not, wrong-kind, too-big, exceeds, limited, step-in}
 use Rattle.rules.specs.Calls.{step-report, types-check, groups-check, script-check, stepping, written-after}
-use Rattle.lattice.specs.declared.Checked.{Checked}
-use Rattle.lattice.specs.declared.Checked.the-variants.{Passed, Refused}
-use Rattle.lattice.specs.Said.{said}
-use Rattle.lattice.proofs.Passed.{Yes, No, accepts}
+use Rattle.answer.specs.declared.Checked.{Checked}
+use Rattle.answer.specs.declared.Checked.the-variants.{Passed, Refused}
+use Rattle.answer.specs.Said.{said}
+use Rattle.answer.proofs.Passed.{Yes, No, accepts}
 use Rattle.script.specs.Check.{terms-check}
 use Rattle.script.proofs.Asked.{script-check-is}
 use Rattle.demands.proofs.Answers.{go-on}

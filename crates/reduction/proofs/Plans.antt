@@ -22,8 +22,8 @@ use Rattle.rules.proofs.Prefix.{joined}
 use Rattle.rules.proofs.PrefixLaws.{after-head, record-is}
 use Rattle.rules.proofs.TermCode.{term-code, term-head, term-head-length, term-operands, term-encode-is, two-bytes}
 use Rattle.rules.proofs.RecordFields.{ir-is}
-use Rattle.script.specs.Place.{At}
-use Rattle.script.proofs.Stands.{kind-of, operands, op1, room, stands-kind, at-op1}
+use Rattle.records.specs.Place.{At}
+use Rattle.records.proofs.Stands.{kind-of, operands, op1, room, stands-kind, at-op1}
 use Rattle.redex.specs.Fates.{property-of, is-function, goes, misfit, fate, contractum}
 use Rattle.redex.proofs.Places.{number-of, reader-at, number-at}
 use Rattle.redex.proofs.Answers.{function-top}

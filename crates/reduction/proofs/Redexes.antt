@@ -9,8 +9,8 @@ use Rattle.calculus.specs.Terms.{Side, first, second, Term, var, unit, lam, pai
 use Rattle.calculus.specs.Stuck.{built-by}
 use Rattle.rules.specs.Answer.{Bytes}
 use Rattle.rules.specs.Script.{size}
-use Rattle.script.specs.Place.{At}
-use Rattle.script.proofs.Stands.{kind-of, operands, op1, op2, at-op1, at-op2, at-op3}
+use Rattle.records.specs.Place.{At}
+use Rattle.records.proofs.Stands.{kind-of, operands, op1, op2, at-op1, at-op2, at-op3}
 use Rattle.redex.specs.Fates.{property-of, goes, reading-fate, ready, fate}
 use Rattle.reduction.specs.declared.Plan.the-variants.{Part, Body, Raised, Unrolled}
 use Rattle.reduction.specs.Plans.{Left, applies, projects, branches, lifts, unrolls, Planned, applied, projected, branched, lifted, unrolled-one}

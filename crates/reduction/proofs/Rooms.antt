@@ -11,8 +11,8 @@ use Rattle.rules.specs.Answer.{Bytes}
 use Rattle.rules.specs.Groups.{readers}
 use Rattle.rules.specs.Types.{type-at}
 use Rattle.rules.specs.Script.{ir, encode, size, depth}
-use Rattle.script.specs.Place.{At}
-use Rattle.script.proofs.Stands.{operands, at-op1}
+use Rattle.records.specs.Place.{At}
+use Rattle.records.proofs.Stands.{operands, at-op1}
 use Rattle.redex.specs.Fates.{property-of, fate, contractum}
 use Rattle.memory.specs.Splice.{splice}
 use Rattle.reduction.specs.declared.Plan.{Plan}

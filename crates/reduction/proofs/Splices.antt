@@ -17,8 +17,8 @@ use Rattle.rules.specs.Answer.{Bytes}
 use Rattle.rules.specs.Limits.{script-width, script-limit, depth-limit}
 use Rattle.rules.specs.Script.{records, encode, term, size, depth}
 use Rattle.rules.specs.Step.{exceeds}
-use Rattle.script.specs.Place.{At}
-use Rattle.script.proofs.Stands.{at-start, start-records}
+use Rattle.records.specs.Place.{At}
+use Rattle.records.proofs.Stands.{at-start, start-records}
 use Rattle.redex.specs.Contexts.{before, after, offset, beside}
 use Rattle.redex.specs.Found.{Site}
 use Rattle.redex.proofs.Plugs.{plug-bytes, plug-size, plug-depth, plug-within, plug-past, before-length, after-length, before-is, after-is}

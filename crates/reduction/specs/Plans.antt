@@ -12,7 +12,7 @@ use Rattle.rules.specs.Limits.{script-width, script-limit, depth-limit, table-l
 use Rattle.rules.specs.Groups.{readers}
 use Rattle.rules.specs.Types.{type-count, type-at}
 use Rattle.rules.specs.Script.{size, depth}
-use Rattle.script.specs.Place.{At}
+use Rattle.records.specs.Place.{At}
 use Rattle.redex.specs.Fates.{is-function, goes, fate, contractum}
 use Rattle.reduction.specs.declared.Plan.{Plan}
 use Rattle.reduction.specs.declared.Plan.the-variants.{Part, Body, Raised, Unrolled}

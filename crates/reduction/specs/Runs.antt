@@ -9,8 +9,8 @@ use Rattle.rules.specs.Limits.{script-width}
 use Rattle.rules.specs.Script.{encode, term, size}
 use Rattle.rules.specs.Run.{Ran}
 use Rattle.rules.specs.Calls.{Report, run-report, first-after, scratch-after}
-use Rattle.lattice.specs.declared.Checked.{Checked}
-use Rattle.lattice.specs.declared.Checked.the-variants as checked
+use Rattle.answer.specs.declared.Checked.{Checked}
+use Rattle.answer.specs.declared.Checked.the-variants as checked
 use Rattle.demands.specs.Demands.{Demand3}
 use Rattle.redex.specs.declared.Found.{Found}
 use Rattle.redex.specs.declared.Found.the-variants as found

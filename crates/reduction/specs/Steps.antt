@@ -11,8 +11,8 @@ use Rattle.rules.specs.Types.{type-count, type-at}
 use Rattle.rules.specs.Script.{encode, term, size, depth}
 use Rattle.rules.specs.Step.{End, at-value, moves, may-not, wrong-kind, too-big}
 use Rattle.rules.specs.Calls.{StepReport}
-use Rattle.lattice.specs.declared.Checked.{Checked}
-use Rattle.lattice.specs.declared.Checked.the-variants as checked
+use Rattle.answer.specs.declared.Checked.{Checked}
+use Rattle.answer.specs.declared.Checked.the-variants as checked
 use Rattle.redex.specs.Fates.{contractum}
 use Rattle.redex.specs.Found.{Site}
 use Rattle.reduction.specs.declared.Plan.{Plan}

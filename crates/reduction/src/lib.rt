@@ -27,11 +27,11 @@ ghost use Rattle.reduction.specs.Plans.{UnrolledRoom, Fit};
 ghost use Rattle.reduction.specs.Steps.{told, Startable, Sited, Placing, as-step, refused-step, reported};
 ghost use Rattle.reduction.specs.Runs.{front, Loaded, Halted, Ends, number-of, spent-on, refused-run, run-reported};
 ghost use Rattle.reduction.specs.Runs.{Demanded};
-use lattice::Checked;
+use answer::Checked;
 use lattice::Indirect;
 use lattice::Reader;
+use records::SCRIPT_WIDTH;
 use redex::Found;
-use script::SCRIPT_WIDTH;
 
 // How a redex's contractum is made: a protected part of the script; a protected body with a value put in for its variable; the
 // operand raised; a recursion's body with the recursion put in. Places are records.
@@ -78,7 +78,7 @@ pub fn plan_of(script: &[u8], at: usize) -> Plan
     requires { ⌜ Fires (now script) at ⌝ }
     ensures { λ a. ⌜ ((q : Fires (now (script .entry)) at) → Planned (now (script .entry)) (q .tree) a) ⌝ }
 {
-    let kind = script::kind(script, at);
+    let kind = records::kind(script, at);
     if kind == 11 {
         return Plan::Unrolled;
     }
@@ -89,17 +89,17 @@ pub fn plan_of(script: &[u8], at: usize) -> Plan
     if kind == 7 {
         return Plan::Part(inner);
     }
-    let next = script::end_of(script, inner);
+    let next = records::end_of(script, inner);
     if kind == 8 {
         return Plan::Part(next);
     }
     if kind == 6 {
         return Plan::Body(inner, next);
     }
-    if script::kind(script, at + 1) == 4 {
+    if records::kind(script, at + 1) == 4 {
         return Plan::Body(next, inner);
     }
-    Plan::Body(script::end_of(script, next), inner)
+    Plan::Body(records::end_of(script, next), inner)
 }
 
 // A protected part, counted.
@@ -183,8 +183,8 @@ fn write_part(script: &[u8], at: usize, x: usize, written: &mut [u8], start: usi
         → now (written .exit) ≡ splice start (encode (protect (ir (now (script .entry)) (at + 1)) (q .part)))
         (now (written .entry))) ⌝ }
 {
-    let end = script::end_of(script, x);
-    let influence = script::indirect(script, at + 1);
+    let end = records::end_of(script, x);
+    let influence = records::indirect(script, at + 1);
     write_record(10, Reader(0), influence, 0, written, start);
     memory::copy_part(
         script,
@@ -203,8 +203,8 @@ fn write_body(script: &[u8], at: usize, x: usize, y: usize, written: &mut [u8], 
         ≡ splice start (encode (protect (ir (now (script .entry)) (at + 1)) (subst 0 (q .value) (q .body))))
         (now (written .entry))) ⌝ }
 {
-    let end = script::end_of(script, y);
-    let influence = script::indirect(script, at + 1);
+    let end = records::end_of(script, y);
+    let influence = records::indirect(script, at + 1);
     write_record(10, Reader(0), influence, 0, written, start);
     let from = SCRIPT_WIDTH * y;
     let to = SCRIPT_WIDTH * end;
@@ -229,15 +229,15 @@ fn write_raised(groups: &[u8], script: &[u8], at: usize, written: &mut [u8], sta
         (now (written .entry))) ⌝ }
 {
     let x = at + 1;
-    let end = script::end_of(script, x);
-    let by = script::indirect(script, at);
-    let r = script::reader(script, x).joined(groups, by);
-    let ir = script::indirect(script, x).joined(groups, by);
+    let end = records::end_of(script, x);
+    let by = records::indirect(script, at);
+    let r = records::reader(script, x).joined(groups, by);
+    let ir = records::indirect(script, x).joined(groups, by);
     write_record(
-        script::kind(script, x),
+        records::kind(script, x),
         r,
         ir,
-        script::number(script, x),
+        records::number(script, x),
         written,
         start,
     );
@@ -256,10 +256,10 @@ fn write_unrolled(types: &[u8], script: &[u8], at: usize, written: &mut [u8], st
         (subst 0 (unrolled (readers g) (q .type) (top (type-at (now (types .entry)) (q .type))) (q .body)) (q .body)))
         (now (written .entry))) ⌝ }
 {
-    let end = script::end_of(script, at);
-    let named = script::number(script, at);
-    let r = types::reader_at(types, script::index(named));
-    let ir = types::indirect_at(types, script::index(named));
+    let end = records::end_of(script, at);
+    let named = records::number(script, at);
+    let r = types::reader_at(types, records::index(named));
+    let ir = types::indirect_at(types, records::index(named));
     let parameter = named + 1;
     let caller = r.0;
     let front = [
@@ -344,7 +344,7 @@ fn exceeds(room: usize, records: usize, depth: usize) -> bool
     ensures { λ a. ⌜ a ≡ (ltb script-limit records || (ltb (room / script-width) records || ltb depth-limit depth)) ⌝ }
 {
     (script::SCRIPT_LIMIT < records)
-        | ((room / SCRIPT_WIDTH < records) | (script::DEPTH_LIMIT < depth))
+        | ((room / SCRIPT_WIDTH < records) | (scope::DEPTH_LIMIT < depth))
 }
 
 // The redex at record `at`, with `around` records around it, contracted. The new term is counted first. What stands beside the
@@ -367,8 +367,8 @@ fn contract(
 {
     let plan = plan_of(script, at);
     let size = measure(script, at, plan);
-    let end = script::end_of(script, at);
-    let total = at + size.records + (script::record_count(script) - end);
+    let end = records::end_of(script, at);
+    let total = at + size.records + (records::record_count(script) - end);
     if exceeds(room, total, around + size.depth) {
         return Stepped::Stopped(4);
     }
@@ -429,7 +429,7 @@ pub fn step(groups: &[u8], types: &[u8], script: &[u8], written: &mut [u8]) -> S
         ≡ written-after (stepping (now (groups .entry)) (now (types .entry)) (now (script .entry))
         (length (now (written .entry)))) (now (written .entry))) ⌝ }
 {
-    let tables = types::types_check(groups, types);
+    let tables = types_table::types_check(groups, types);
     let Checked::Passed = tables else {
         return refused_step(tables);
     };
@@ -437,7 +437,7 @@ pub fn step(groups: &[u8], types: &[u8], script: &[u8], written: &mut [u8]) -> S
     let Checked::Passed = terms else {
         return refused_step(terms);
     };
-    let own = script::record_count(script);
+    let own = records::record_count(script);
     let room = written.len();
     let x = step_term(groups, types, script, written, room);
     ended(x, own)
@@ -585,7 +585,7 @@ pub fn run(
         → Demanded (now (groups .entry)) (now (types .entry)) (now (script .entry)) type budget (now (first .entry))
         (now (scratch .entry)) a (now (first .exit)) (now (scratch .exit))) ⌝ }
 {
-    let tables = types::types_check(groups, types);
+    let tables = types_table::types_check(groups, types);
     let Checked::Passed = tables else {
         return refused_run(tables);
     };
@@ -594,7 +594,7 @@ pub fn run(
         return refused_run(terms);
     };
     memory::copy_part(script, 0, script.len(), first, 0);
-    let records = script::record_count(script);
+    let records = records::record_count(script);
     let x = run_term(groups, types, records, budget, first, scratch);
     RunAnswer::Ended(x.end, x.steps, x.records)
 }

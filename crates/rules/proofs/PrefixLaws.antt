@@ -1,8 +1,8 @@
 -- What holds of every prefix code: its length, reading back, uniqueness, and the pending count.
 use mathlib.Core.Path.{_≡_, refl, ap, sym, _∙_}
 use mathlib.Core.List.{List, [], _∷_, _++_, append-assoc, append-nil}
-use mathlib.Core.Option.{some}
-use Prim.Native.Nat.{ℕ, zero, suc, _+_, _*_, _-_, _≤_}
+use mathlib.Core.Option.{none, some}
+use Prim.Native.Nat.{ℕ, zero, suc, _+_, _*_, _-_, _≤_, _<_}
 use native.Mathlib.Omega.{arith}
 use native.Mathlib.Nat.{mul-zero}
 use lib.ListN.{length, take, drop, length-append}
@@ -68,6 +68,23 @@ no-more-needed f (suc left) i = refl
 pub one-more-record : (f : ℕ → ℕ) (left need i : ℕ) → end-after f (suc left) (suc need) i ≡ end-after f left (need + f i) (suc i)
 unfolding end-after
 one-more-record f left need i = refl
+
+-- the next of n records, where m is what it adds; the records run out; nothing is pending
+pub next-record : (f : ℕ → ℕ) (n need i m : ℕ) → i < n → 0 < need → m ≡ f i
+    → end-after f (n - (i + 1)) (need - 1 + m) (i + 1) ≡ end-after f (n - i) need i
+next-record f n need i m l p e =
+    same-walk f refl (ap (λ x. need - 1 + x) e) (omega arith) ∙ sym (one-more-record f (n - (i + 1)) (need - 1) i) ∙ same-walk f (omega arith)
+    (omega arith) refl
+
+none-left : (f : ℕ → ℕ) (need i : ℕ) → end-after f 0 (suc need) i ≡ none
+unfolding end-after
+none-left f need i = refl
+
+pub runs-out : (f : ℕ → ℕ) (left need i : ℕ) → left ≡ 0 → 0 < need → end-after f left need i ≡ none
+runs-out f left need i e p = same-walk f {b′ = suc (need - 1)} e (omega arith) refl ∙ none-left f (need - 1) i
+
+pub comes-to-end : (f : ℕ → ℕ) (left need i : ℕ) → need ≡ 0 → end-after f left need i ≡ some i
+comes-to-end f left need i e = same-walk f refl e refl ∙ no-more-needed f left i
 
 module _ {T : Type 0} {S : Shape T} {C : Code S} (X : Prefix C) where
   -- Reading back what was written.

@@ -82,6 +82,9 @@ pub record Found (test : ℕ → Bool) (n i j : ℕ) : Type 0 where
 pub some-inj : {A : Type 0} {a b : A} → some a ≡ some b → a ≡ b
 some-inj e = cc
 
+pub none≢some : {A : Type 0} {a : A} → none ≡ some a → ⊥
+none≢some p = let x : _≡_ {A = ℕ} 0 1 = cc in omega arith
+
 pub found : (test : ℕ → Bool) (n i j : ℕ) → first-from test n i ≡ some j → Found test n i j
 unfolding first-from
 found test zero i j e = let x : _≡_ {A = ℕ} 0 1 = cc in absurd (omega arith)

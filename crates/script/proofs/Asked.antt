@@ -8,10 +8,10 @@ use lib.ListN.{take, drop}
 use Rattle.rules.specs.Answer.{Bytes, Answer, accepted, _>>_}
 use Rattle.rules.specs.Script.{part-if, slice, q13, q14, q15, q16, q17, q18, q19}
 use Rattle.rules.specs.Calls.{types-check, script-check}
-use Rattle.lattice.specs.declared.Checked.{Checked}
-use Rattle.lattice.specs.declared.Checked.the-variants.{Passed, Refused}
-use Rattle.lattice.specs.Said.{said}
-use Rattle.lattice.proofs.Passed.{Yes, No, accepts}
+use Rattle.answer.specs.declared.Checked.{Checked}
+use Rattle.answer.specs.declared.Checked.the-variants.{Passed, Refused}
+use Rattle.answer.specs.Said.{said}
+use Rattle.answer.proofs.Passed.{Yes, No, accepts}
 use Rattle.script.specs.Check.{terms-check}
 use Rattle.rules.proofs.Asked.{and-then}
 

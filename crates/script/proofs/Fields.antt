@@ -7,7 +7,7 @@ use Rattle.rules.specs.Answer.{Bytes, _⇒_}
 use Rattle.rules.specs.Groups.{rows, leq}
 use Rattle.rules.specs.Types.{type-count, type-kind}
 use Rattle.rules.specs.Script.{kind, r, ir, zero-byte, number, Signature, signature-of, ok14, ok15, ok16}
-use Rattle.script.proofs.Tests.{not-or-implies}
+use Rattle.answer.proofs.Implications.{not-or-implies}
 
 three : {a a′ b b′ c c′ : Bool} → a ≡ a′ → b ≡ b′ → c ≡ c′ → (a && (b && c)) ≡ (a′ && (b′ && c′))
 three p q u = cc

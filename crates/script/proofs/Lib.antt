@@ -1,9 +1,3 @@
-pub mod Tests
-pub mod Table
+pub mod Rooms
 pub mod Fields
-pub mod Ends
-pub mod Stands
-pub mod Scans
-pub mod Walks
 pub mod Asked
-pub mod Stripped

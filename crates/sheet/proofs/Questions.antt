@@ -15,12 +15,12 @@ use Rattle.rules.specs.Sheet.{sheet}
 use Rattle.rules.specs.Calls.{groups-check, types-check, script-check, q25, q26, q27, sheeting, sheet-records, sheet-after}
 use Rattle.rules.proofs.Asked.{ask-true, and-then, regroup, few-rows}
 use Rattle.rules.proofs.Scripts.{whole}
-use Rattle.lattice.specs.declared.Checked.{Checked}
-use Rattle.lattice.specs.declared.Checked.the-variants.{Passed, Refused}
-use Rattle.lattice.specs.Said.{said}
-use Rattle.lattice.proofs.Passed.{No}
+use Rattle.answer.specs.declared.Checked.{Checked}
+use Rattle.answer.specs.declared.Checked.the-variants.{Passed, Refused}
+use Rattle.answer.specs.Said.{said}
+use Rattle.answer.proofs.Passed.{No}
 use Rattle.script.specs.Check.{terms-check}
-use Rattle.types.proofs.Questions.{all-yes}
+use Rattle.types_table.proofs.Questions.{all-yes}
 use Rattle.script.proofs.Asked.{script-check-is, Terms-pass, terms-pass}
 use Rattle.memory.specs.Splice.{splice}
 use Rattle.memory.proofs.Laws.{splice-front}

@@ -14,8 +14,8 @@ use Rattle.rules.specs.Sheet.{sheet, sheet-record}
 use Rattle.rules.proofs.PrefixLaws.{record-is}
 use Rattle.rules.proofs.RecordFields.{kind-is, r-is, ir-is}
 use Rattle.rules.proofs.TermCode.{term-code, term-head}
-use Rattle.script.specs.Place.{At}
-use Rattle.script.proofs.Stands.{kind-of, op1, op2, at-op1, at-op2}
+use Rattle.records.specs.Place.{At}
+use Rattle.records.proofs.Stands.{kind-of, op1, op2, at-op1, at-op2}
 use Rattle.memory.specs.Splice.{splice}
 use Rattle.sheet.specs.Shown.{shown, shown-kind}
 use Rattle.sheet.specs.Value.{lines, Room, Wrote}

@@ -9,7 +9,7 @@ use denote.Enum.Declared.{tagOf}
 use Rattle.calculus.specs.Security.{Property}
 use Rattle.calculus.specs.Terms.{Side, first, second, choose, Term, var, unit, lam, pair, inj, app, proj, case, protect, mu, is-value}
 use Rattle.rules.specs.Script.{size}
-use Rattle.script.proofs.Stands.{kind-of, op1, op2, operands}
+use Rattle.records.proofs.Stands.{kind-of, op1, op2, operands}
 use Rattle.sheet.specs.Value.{lines, looked}
 use Rattle.sheet.specs.declared.Looked.{Looked}
 use Rattle.sheet.specs.declared.Looked.the-variants.{Value, Other}

@@ -8,7 +8,7 @@ use Rattle.rules.specs.Answer.{Bytes}
 use Rattle.rules.specs.Limits.{sheet-width}
 use Rattle.rules.specs.Script.{size}
 use Rattle.rules.specs.Sheet.{sheet}
-use Rattle.script.specs.Place.{At}
+use Rattle.records.specs.Place.{At}
 use Rattle.memory.specs.Splice.{splice}
 use Rattle.sheet.specs.declared.Looked.{Looked}
 use Rattle.sheet.specs.declared.Looked.the-variants.{Value, Other}

@@ -1,4 +1,4 @@
-use lattice::Checked;
+use answer::Checked;
 use lattice::Indirect;
 use lattice::Reader;
 ghost use mathlib.Core.Path.{_≡_};
@@ -9,8 +9,8 @@ ghost use Rattle.calculus.specs.Terms.{Term, is-value};
 ghost use Rattle.rules.specs.Limits.{script-width, sheet-width};
 ghost use Rattle.rules.specs.Script.{kind};
 ghost use Rattle.rules.specs.Calls.{sheeting, sheet-records, sheet-after};
-ghost use Rattle.lattice.specs.Said.{said};
-ghost use Rattle.script.specs.Place.{At, Here};
+ghost use Rattle.answer.specs.Said.{said};
+ghost use Rattle.records.specs.Place.{At, Here};
 ghost use Rattle.memory.specs.Splice.{splice};
 ghost use Rattle.sheet.specs.Shown.{shown-kind, shown, bytes-of};
 ghost use Rattle.sheet.specs.Value.{looked, Room, Wrote};
@@ -73,7 +73,7 @@ fn look(value: &[u8], i: usize, count: usize) -> Looked
     requires { ⌜ Here (now value) i × (count ≤ i) ⌝ }
     ensures { λ a. ⌜ ((e : Term) → At (now (value .entry)) i e → a ≡ looked e i count) ⌝ }
 {
-    let kind = script::kind(value, i);
+    let kind = records::kind(value, i);
     if kind < UNIT {
         return Looked::Other;
     }
@@ -82,7 +82,7 @@ fn look(value: &[u8], i: usize, count: usize) -> Looked
     }
     // A function's body is neither asked to be a value nor counted.
     if kind <= FUNCTION {
-        return Looked::Value(script::end_of(value, i), count + 1);
+        return Looked::Value(records::end_of(value, i), count + 1);
     }
     let first = look(value, i + 1, count + 1);
     let Looked::Value(next, so_far) = first else {
@@ -112,10 +112,10 @@ fn line_of(groups: &[u8], value: &[u8], i: usize, group: Reader) -> Line
     requires { ⌜ script-width * i + 6 ≤ length (now value) ⌝ }
     ensures { λ a. ⌜ bytes-of a ≡ shown (now (groups .entry)) (group .0) (now (value .entry)) i ⌝ }
 {
-    let r = script::reader(value, i);
+    let r = records::reader(value, i);
     if r.at_or_below(groups, group) {
-        let kind = shown_kind(script::kind(value, i));
-        let ir = script::indirect(value, i);
+        let kind = shown_kind(records::kind(value, i));
+        let ir = records::indirect(value, i);
         return Line { kind, r, ir };
     }
     Line {
@@ -153,11 +153,11 @@ fn write(
         → Wrote (now (groups .entry)) (group .0) i at e (now (sheet .entry)) a (now (sheet .exit))) ⌝ }
 {
     put(sheet, at, line_of(groups, value, i, group));
-    let kind = script::kind(value, i);
+    let kind = records::kind(value, i);
     // Only pairs and injections have parts to show.
     if kind < PAIR {
         return Reached {
-            next: script::end_of(value, i),
+            next: records::end_of(value, i),
             line: at + 1,
         };
     }
@@ -174,7 +174,7 @@ fn write(
 fn asked(groups: &[u8], types: &[u8], value: &[u8], group: u64) -> Checked
     ensures { λ a. ⌜ said a ≡ before-26 (now (groups .entry)) (now (types .entry)) (now (value .entry)) group ⌝ }
 {
-    let a12 = types::types_check(groups, types);
+    let a12 = types_table::types_check(groups, types);
     let Checked::Passed = a12 else {
         return a12;
     };

@@ -12,9 +12,9 @@ use Rattle.rules.specs.Script.{size, depth, kind, number}
 use Rattle.rules.proofs.Prefix.{total}
 use Rattle.rules.proofs.Parts.{total-append}
 use Rattle.rules.proofs.TermCode.{term-operands, term-size-is}
-use Rattle.script.specs.Place.{At}
-use Rattle.script.proofs.Stands.{kind-of, stands-kind}
-use Rattle.substitution.specs.Binders.{binds}
+use Rattle.records.specs.Place.{At}
+use Rattle.records.proofs.Stands.{kind-of, stands-kind}
+use Rattle.records.specs.Binders.{binds}
 use Rattle.substitution.specs.Substituted.{value-limit, Sizes, Measured}
 use Rattle.substitution.specs.declared.Extent.{Extent}
 use Rattle.substitution.proofs.Nodes.{greatest, greatest-append, View, variable, node, view, under, under-append, subst-var, subst-size, subst-depth, operand-size, operand-depth, greatest-records, under-bound}

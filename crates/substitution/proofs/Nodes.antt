@@ -13,8 +13,8 @@ use Rattle.rules.specs.Script.{encode, size, depth}
 use Rattle.rules.proofs.Prefix.{All, joined, total}
 use Rattle.rules.proofs.Parts.{all-of, total-append}
 use Rattle.rules.proofs.TermCode.{term-operands, term-head, term-induction, term-size-is, term-encode-is}
-use Rattle.script.proofs.Stands.{kind-of}
-use Rattle.substitution.specs.Binders.{binds}
+use Rattle.records.proofs.Stands.{kind-of}
+use Rattle.records.specs.Binders.{binds}
 use Rattle.substitution.specs.Substituted.{value-limit}
 
 abbrev pub greatest : {T : Type 0} → (T → ℕ) → List T → ℕ

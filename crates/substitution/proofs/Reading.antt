@@ -13,7 +13,7 @@ use Rattle.rules.proofs.Parts.{record-byte}
 use Rattle.rules.proofs.PrefixLaws.{encode-length, record-is, size-positive}
 use Rattle.rules.proofs.Nodes.{operand-at}
 use Rattle.rules.proofs.TermCode.{term-operands, term-head, term-code, two-bytes}
-use Rattle.script.specs.Place.{At}
+use Rattle.records.specs.Place.{At}
 
 pub term-length : (e : Term) → length (encode e) ≡ script-width * size e
 term-length e = encode-length term-code e

@@ -13,10 +13,10 @@ use Rattle.rules.proofs.Prefix.{joined, total}
 use Rattle.rules.proofs.Parts.{joined-append, total-append}
 use Rattle.rules.proofs.PrefixLaws.{joined-length}
 use Rattle.rules.proofs.TermCode.{term-operands, term-head, term-head-length, term-size-is, term-code}
-use Rattle.script.specs.Place.{At}
+use Rattle.records.specs.Place.{At}
 use Rattle.memory.specs.Splice.{splice}
-use Rattle.script.proofs.Stands.{kind-of, stands-kind}
-use Rattle.substitution.specs.Binders.{binds}
+use Rattle.records.proofs.Stands.{kind-of, stands-kind}
+use Rattle.records.specs.Binders.{binds}
 use Rattle.substitution.specs.Substituted.{Room, Written}
 use Rattle.substitution.specs.declared.Wrote.{Wrote}
 use Rattle.memory.proofs.Laws.{splice-none, join-next}

@@ -7,7 +7,7 @@ use Rattle.calculus.specs.Terms.{Term, subst}
 use Rattle.rules.specs.Answer.{Bytes}
 use Rattle.rules.specs.Limits.{script-width, script-limit, depth-limit}
 use Rattle.rules.specs.Script.{encode, size, depth}
-use Rattle.script.specs.Place.{At}
+use Rattle.records.specs.Place.{At}
 use Rattle.memory.specs.Splice.{splice}
 use Rattle.substitution.specs.declared.Wrote.{Wrote}
 use Rattle.substitution.specs.declared.Extent.{Extent}

@@ -7,11 +7,11 @@ ghost use lib.ListN.{length};
 ghost use Rattle.calculus.specs.Terms.{Term};
 ghost use Rattle.rules.specs.Limits.{script-width};
 ghost use Rattle.rules.specs.Script.{kind, number, encode, size, depth};
-ghost use Rattle.script.specs.Place.{At};
+ghost use Rattle.records.specs.Place.{At};
 ghost use Rattle.memory.specs.Splice.{splice};
-ghost use Rattle.substitution.specs.Binders.{binds};
+ghost use Rattle.records.specs.Binders.{binds};
 ghost use Rattle.substitution.specs.Substituted.{Sizes, Measured, Within, Extends, Room, Written};
-use script::SCRIPT_WIDTH;
+use records::SCRIPT_WIDTH;
 
 // The record after a term, and the records and the depth of what it becomes.
 pub struct Extent {
@@ -35,31 +35,12 @@ fn larger(a: usize, b: usize) -> usize
     a
 }
 
-// How many binders stand over operand j of a record of this kind.
-fn binders(kind: u8, j: usize) -> u16
-    ensures { λ a. ⌜ (a ≡ binds kind j) × (a ≤ 1) ⌝ }
-{
-    if j == 0 {
-        if kind == 2 {
-            return 1;
-        }
-        if kind == 11 {
-            return 1;
-        }
-        return 0;
-    }
-    if kind == 9 {
-        return 1;
-    }
-    0
-}
-
 // Is the variable at record i variable n?
 fn is_variable(script: &[u8], i: usize, n: u16) -> bool
     requires { ⌜ script-width * i + 6 ≤ length (now script) ⌝ }
     ensures { λ a. ⌜ a ≡ eqb (number (now (script .entry)) i) n ⌝ }
 {
-    script::number(script, i) == n
+    records::number(script, i) == n
 }
 
 // A variable with the value for variable n, counted.
@@ -89,17 +70,17 @@ pub fn measure(script: &[u8], i: usize, n: u16, records: usize, deep: usize) -> 
     requires { ⌜ Sizes (now script) i n records deep ⌝ }
     ensures { λ x. ⌜ ((e v : Term) → At (now (script .entry)) i e → records ≡ size v → deep ≡ depth v → Measured i n e v x) ⌝ }
 {
-    let k = script::kind(script, i);
+    let k = records::kind(script, i);
     if k == 0 {
         return measure_variable(script, i, n, records, deep);
     }
-    let count = script::arity(k);
+    let count = records::arity(k);
     let mut next = i + 1;
     let mut sum: usize = 1;
     let mut below: usize = 0;
     let mut j: usize = 0;
     while j < count {
-        let level = n + binders(k, j);
+        let level = n + records::binders(k, j);
         let x = measure(script, next, level, records, deep);
         next = x.next;
         sum += x.records;
@@ -179,17 +160,17 @@ pub fn write(
         → now (front .entry) ++ (now (mid .entry) ++ now (back .entry)) ≡ encode v
         → Written i n e v at (now (to .entry)) x (now (to .exit))) ⌝ }
 {
-    let k = script::kind(script, i);
+    let k = records::kind(script, i);
     if k == 0 {
         return write_variable(script, i, front, mid, back, n, to, at);
     }
     memory::copy_part(script, SCRIPT_WIDTH * i, SCRIPT_WIDTH, to, at);
-    let count = script::arity(k);
+    let count = records::arity(k);
     let mut next = i + 1;
     let mut end = at + SCRIPT_WIDTH;
     let mut j: usize = 0;
     while j < count {
-        let level = n + binders(k, j);
+        let level = n + records::binders(k, j);
         let x = write(script, next, front, mid, back, level, to, end);
         next = x.next;
         end = x.end;

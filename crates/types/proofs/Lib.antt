@@ -1,5 +1,2 @@
 pub mod Parts
-pub mod Pass
-pub mod Order
-pub mod Questions
-pub mod Table
+pub mod Counting

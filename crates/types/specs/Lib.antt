@@ -1,3 +1,1 @@
 pub mod Held
-pub mod Compared
-pub mod Ordered

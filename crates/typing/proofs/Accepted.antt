@@ -17,7 +17,7 @@ use Rattle.rules.proofs.Depth.{q18-depth}
 use Rattle.rules.proofs.Scripts.{Whole, whole}
 use Rattle.rules.proofs.ScriptLength.{q13-fitting}
 use Rattle.rules.proofs.TypeTables.{passes, standing, every-short}
-use Rattle.types.proofs.Questions.{all-yes}
+use Rattle.types_table.proofs.Questions.{all-yes}
 use Rattle.script.specs.Check.{terms-check}
 use Rattle.script.proofs.Asked.{script-check-is, Terms-pass, terms-pass}
 use Rattle.typing.specs.Operands.{Formed}

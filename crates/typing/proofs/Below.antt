@@ -12,9 +12,9 @@ use Rattle.rules.proofs.Prefix.{total, joined}
 use Rattle.rules.proofs.Nodes.{operand-at}
 use Rattle.rules.proofs.PrefixLaws.{encode-length}
 use Rattle.rules.proofs.TermCode.{term-code, term-operands}
-use Rattle.script.specs.Place.{At}
+use Rattle.records.specs.Place.{At}
 use Rattle.typing.specs.Operands.{operand-count, Formed}
-use Rattle.script.specs.Operands.{first-operand, second-operand, third-operand}
+use Rattle.records.specs.Operands.{first-operand, second-operand, third-operand}
 use Rattle.typing.specs.Stages.{first-context, second-context, kept-front, kept-between}
 
 at-operand : (s : Bytes) (e : Term) → s ≡ encode e → (i : ℕ) (before : List Term) (d : Term) (after : List Term) → term-operands e ≡ before ++ d ∷ after

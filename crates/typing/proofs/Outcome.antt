@@ -19,10 +19,10 @@ use Rattle.rules.specs.Types.{no-type, type-at, type-count, ok9, ok10, ok11, ok
 use Rattle.rules.specs.Script.{term, size, depths, binders, records, ok14, ok15, ok16, ok18, ok19, term-end, exactly, q13, q14, q15, q16, q17, q18, q19}
 use Rattle.rules.specs.Typing.{has-form, left, right, q20, q21, q22, q23, q24, typing}
 use Rattle.rules.specs.Calls.{zeros, groups-check, types-check, script-check, q1, checking, type-records, answer-after, work-after}
-use Rattle.lattice.specs.Said.{said}
-use Rattle.lattice.specs.declared.Checked.{Checked}
-use Rattle.lattice.specs.declared.Checked.the-variants as checked
-use Rattle.lattice.proofs.Checked.{the-type as checked-type}
+use Rattle.answer.specs.Said.{said}
+use Rattle.answer.specs.declared.Checked.{Checked}
+use Rattle.answer.specs.declared.Checked.the-variants as checked
+use Rattle.answer.proofs.Checked.{the-type as checked-type}
 use Rattle.script.specs.Check.{terms-check}
 use Rattle.script.proofs.Asked.{script-check-is}
 use Rattle.typing.specs.Memory.{Meets, finds, refuses}

@@ -15,10 +15,10 @@ use Rattle.rules.specs.Answer.{Bytes, Answer, accepted, refused, _>>_, ask}
 use Rattle.rules.specs.Types.{former-kind, encode-type}
 use Rattle.rules.specs.Typing.{has-form, left, right, q21, q24}
 use Rattle.types.specs.Held.{kind-of}
-use Rattle.types.specs.Compared.{compared}
-use Rattle.types.specs.declared.Compared.{Compared}
-use Rattle.types.specs.declared.Compared.the-variants.{Related, Unrelated}
-use Rattle.types.proofs.Compared.{the-type as compared-type}
+use Rattle.subtyping.specs.Compared.{compared}
+use Rattle.subtyping.specs.declared.Compared.{Compared}
+use Rattle.subtyping.specs.declared.Compared.the-variants.{Related, Unrelated}
+use Rattle.subtyping.proofs.Compared.{the-type as compared-type}
 use Rattle.memory.specs.Splice.{splice}
 use Rattle.memory.proofs.Laws.{join-before, join-after}
 use Rattle.calculus.specs.Terms.{Term}
@@ -31,18 +31,6 @@ use Rattle.typing.proofs.Found.{the-type}
 use Rattle.typing.proofs.Front.{size-raised}
 use Rattle.types.proofs.Parts.{type-length}
 use Rattle.typing.proofs.Regions.{high-past, wrote-first}
-
--- the walk's answer
-related-cases : (b : Bool) (n : ℕ) (x : Compared) → x ≡ cond b (Related n) Unrelated → (tagOf compared-type x ≡ 0 → true ≡ b) × (tagOf compared-type x ≡ 1 → false ≡ b)
-related-cases true n x e = (λ t. refl, λ t. let z : tagOf compared-type x ≡ 0 = ap (tagOf compared-type) e in absurd (omega arith))
-related-cases false n x e = (λ t. let z : tagOf compared-type x ≡ 1 = ap (tagOf compared-type) e in absurd (omega arith), λ t. refl)
-
-module _ (S : Security) (s t : Ty) {x : Compared} (e : x ≡ compared S below s t) where
-  pub related : tagOf compared-type x ≡ 0 → true ≡ subtype S below s t
-  related = related-cases (subtype S below s t) (sizeT s) x e .0
-
-  pub unrelated : tagOf compared-type x ≡ 1 → false ≡ subtype S below s t
-  unrelated = related-cases (subtype S below s t) (sizeT s) x e .1
 
 -- question 22
 pub wanting-yes : (S : Security) (p : ℕ) (t u x : Ty) → true ≡ subtype S below t u → wanting S p t u x ≡ accepted x

@@ -12,7 +12,7 @@ use Rattle.rules.specs.Script.{kind, r, ir, number, arity, encode, depth, make}
 use Rattle.rules.proofs.PrefixLaws.{encode-length, size-positive}
 use Rattle.rules.proofs.TermCode.{term-code, two-bytes}
 use Rattle.typing.specs.Operands.{operand-count}
-use Rattle.script.specs.Operands.{first-operand, second-operand, third-operand}
+use Rattle.records.specs.Operands.{first-operand, second-operand, third-operand}
 use Rattle.typing.specs.Stages.{before-first, first-context, kept-front}
 
 pub long : {s : Bytes} (e : Term) → s ≡ encode e → 6 ≤ length s

@@ -15,7 +15,7 @@ use Rattle.rules.specs.Script.{encode, size, depth, kind, r, ir, number}
 use Rattle.rules.specs.Typing.{left, right, q22, typing}
 use Rattle.types.specs.Held.{Held, Starts, kind-of, right-of}
 use Rattle.typing.specs.Operands.{operand-count, Formed}
-use Rattle.script.specs.Operands.{first-operand, second-operand, third-operand}
+use Rattle.records.specs.Operands.{first-operand, second-operand, third-operand}
 use Rattle.typing.specs.Memory.{high, Sized, Holds, Meets, finds, refuses, Ready, Entered, Enters, enters, stops, Named, Beside, Some-sides}
 use Rattle.typing.specs.Stages.{before-first, first-context, kept-front, after-one, between, second-context, after-two, wanting, One, Some, Aside, Passes, passes, denies, Two, kept-between}
 use Rattle.typing.specs.declared.Found.{Found}

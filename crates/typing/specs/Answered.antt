@@ -1,8 +1,8 @@
 -- The document's answer of a check: the type's record count, or the question's number and the place.
 use Prim.Native.Nat.{ℕ}
 use Rattle.rules.specs.Answer.{Answer, accepted, refused}
-use Rattle.lattice.specs.declared.Checked.{Checked}
-use Rattle.lattice.specs.declared.Checked.the-variants as checked
+use Rattle.answer.specs.declared.Checked.{Checked}
+use Rattle.answer.specs.declared.Checked.the-variants as checked
 use Rattle.typing.specs.declared.Found.{Found}
 use Rattle.typing.specs.declared.Found.the-variants.{Typed, Refused}
 

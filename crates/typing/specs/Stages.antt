@@ -14,7 +14,7 @@ use Rattle.rules.specs.Types.{no-type}
 use Rattle.rules.specs.Script.{encode, size}
 use Rattle.rules.specs.Groups.{readers}
 use Rattle.rules.specs.Typing.{left, right, q20, q21, q22, q23, q24}
-use Rattle.script.specs.Place.{At}
+use Rattle.records.specs.Place.{At}
 use Rattle.typing.specs.Operands.{operand-count, Formed}
 use Rattle.typing.specs.Memory.{high, Sized, Holds, Table, Entered, Beside}
 use Rattle.typing.specs.declared.Found.{Found}

@@ -1,11 +1,11 @@
-use lattice::Checked;
+use answer::Checked;
 use lattice::Indirect;
 use lattice::Reader;
-use script::DEPTH_LIMIT;
-use script::SCRIPT_WIDTH;
-use script::TYPE_WIDTH;
-use types::Compared;
+use records::SCRIPT_WIDTH;
+use scope::DEPTH_LIMIT;
+use subtyping::Compared;
 use types::TYPE_LIMIT;
+use types::TYPE_WIDTH;
 ghost use mathlib.Core.Path.{_≡_};
 ghost use mathlib.Core.List.{List, [], _∷_};
 ghost use Prim.Native.Nat.{ℕ, _+_, _*_, _≤_, _<_};
@@ -22,7 +22,7 @@ ghost use Rattle.rules.specs.Typing.{q22, typing};
 ghost use Rattle.rules.specs.Calls.{script-check, checking, type-records, answer-after, work-after};
 ghost use Rattle.memory.specs.Splice.{splice};
 ghost use Rattle.types.specs.Held.{Held, Starts, Sided, left-of, right-of, kind-of};
-ghost use Rattle.script.specs.Place.{At};
+ghost use Rattle.records.specs.Place.{At};
 ghost use Rattle.typing.specs.Memory.{high, Slot, Sized, Holds, Meets, Ready, Enters, Says, Named, Named-sided, Beside};
 ghost use Rattle.typing.specs.Memory.{Some-sides, In-scope, Typed-front, Sided-front, Part, Entered, Answers};
 ghost use Rattle.typing.specs.Stages.{leaf-type, before-first, first-context, kept-front, function-type, pair-type};
@@ -71,7 +71,7 @@ fn index(s: &[u8]) -> usize
     requires { ⌜ script-width ≤ length (now s) ⌝ }
     ensures { λ a. ⌜ a ≡ number (now (s .entry)) 0 ⌝ }
 {
-    script::index(script::number(s, 0))
+    records::index(records::number(s, 0))
 }
 
 // The number of operands of the first record.
@@ -79,7 +79,7 @@ fn operands(s: &[u8]) -> usize
     requires { ⌜ script-width ≤ length (now s) ⌝ }
     ensures { λ a. ⌜ a ≡ arity (kind (now (s .entry)) 0) ⌝ }
 {
-    script::arity(script::kind(s, 0))
+    records::arity(records::kind(s, 0))
 }
 
 // The record after operand j of a node of o, counted from 1, where it starts at record i. The last one ends where the node's part
@@ -89,9 +89,9 @@ fn operand_end(s: &[u8], o: usize, j: usize, i: usize) -> usize
     ensures { λ a. ⌜ ((e : Term) → At (now (s .entry)) i e → a ≡ i + size e) ⌝ }
 {
     if j == o {
-        return script::record_count(s);
+        return records::record_count(s);
     }
-    script::end_of(s, i)
+    records::end_of(s, i)
 }
 
 // The part of an operand, from its record i to its end.
@@ -118,19 +118,6 @@ fn put(w: &mut [u8], kind: u8, r: Reader, ir: Indirect)
     w[3] = 0;
 }
 
-// Question 22: is the type in front of a at or below that in front of b?
-fn fits(groups: &[u8], a: &[u8], b: &[u8]) -> bool
-    requires { ⌜ Starts (now a) × Starts (now b) ⌝ }
-    ensures { λ x. ⌜ ((s t : Ty) → Held (now (a .entry)) s → Held (now (b .entry)) t
-        → x ≡ subtype (readers (now (groups .entry))) below s t) ⌝ }
-{
-    let x = types::at_or_below(groups, a, b);
-    match x {
-        Compared::Related(_) => true,
-        Compared::Unrelated => false,
-    }
-}
-
 // Question 22 against the type that record i of the types table starts.
 fn wanted(groups: &[u8], types: &[u8], i: usize, w: &[u8]) -> bool
     requires { ⌜ Named (now types) i × Starts (now w) ⌝ }
@@ -138,7 +125,7 @@ fn wanted(groups: &[u8], types: &[u8], i: usize, w: &[u8]) -> bool
         → x ≡ subtype (readers (now (groups .entry))) below s t) ⌝ }
 {
     let from = TYPE_WIDTH * i;
-    fits(groups, w, &types[from..])
+    subtyping::is_subtype(groups, w, &types[from..])
 }
 
 // Question 22 against a side of it.
@@ -150,9 +137,9 @@ fn wanted_side(groups: &[u8], types: &[u8], i: usize, second: bool, w: &[u8]) ->
     let from = TYPE_WIDTH * i;
     if second {
         let n = types::type_records(types::left_side(&types[from..]));
-        return fits(groups, w, types::right_side(&types[from..], n));
+        return subtyping::is_subtype(groups, w, types::right_side(&types[from..], n));
     }
-    fits(groups, w, types::left_side(&types[from..]))
+    subtyping::is_subtype(groups, w, types::left_side(&types[from..]))
 }
 
 // Questions 20 and 21 of the type in front; a yes goes on with this number of binders.
@@ -204,10 +191,15 @@ fn leaf(s: &[u8], b: usize, w: &mut [u8]) -> Found
     ensures { λ x. ⌜ ((v : Leaf (now (s .entry)) b (now (w .entry)))
         → Meets (leaf-type (v .ctx) (v .tree)) b (now (w .entry)) x (now (w .exit))) ⌝ }
 {
-    if script::kind(s, 0) == VARIABLE {
+    if records::kind(s, 0) == VARIABLE {
         return variable(index(s), b, w);
     }
-    put(w, types::UNIT, script::reader(s, 0), script::indirect(s, 0));
+    put(
+        w,
+        types::UNIT,
+        records::reader(s, 0),
+        records::indirect(s, 0),
+    );
     Found::Typed(1)
 }
 
@@ -243,7 +235,7 @@ fn enter(groups: &[u8], types: &[u8], s: &[u8], place: usize, b: usize, w: &mut 
         → Enters (before-first (readers (now (groups .entry))) (type-at (now (types .entry))) place (v .tree))
         (first-context (type-at (now (types .entry))) (v .ctx) (v .tree)) b (now (w .entry)) x (now (w .exit))) ⌝ }
 {
-    let k = script::kind(s, 0);
+    let k = records::kind(s, 0);
     let i = index(s);
     if k == LAMBDA {
         bind(types, i, b, w);
@@ -264,7 +256,7 @@ fn kept_front(s: &[u8]) -> usize
     requires { ⌜ script-width ≤ length (now s) ⌝ }
     ensures { λ a. ⌜ ((e : Term) → now (s .entry) ≡ encode e → a ≡ kept-front e) ⌝ }
 {
-    let k = script::kind(s, 0);
+    let k = records::kind(s, 0);
     if k == FIRST_INJECTION {
         return TYPE_WIDTH;
     }
@@ -381,9 +373,9 @@ fn last(groups: &[u8], types: &[u8], s: &[u8], place: usize, w: &mut [u8], n: us
         → Meets (after-one (readers (now (groups .entry))) (type-at (now (types .entry))) place (v .tree) (v .type)) b
         (now (w .entry)) x (now (w .exit))) ⌝ }
 {
-    let k = script::kind(s, 0);
-    let r = script::reader(s, 0);
-    let ir = script::indirect(s, 0);
+    let k = records::kind(s, 0);
+    let r = records::reader(s, 0);
+    let ir = records::indirect(s, 0);
     let i = index(s);
     if k == LAMBDA {
         return function(types, i, r, ir, place, w, n);
@@ -428,11 +420,11 @@ fn middle(groups: &[u8], s: &[u8], place: usize, b: usize, w: &mut [u8], n: usiz
         → Passes (between (readers (now (groups .entry))) place (v .tree) (v .type)) (v .tree) (v .type)
         (second-context (v .ctx) (v .tree) (v .type)) b (now (w .entry)) n x (now (w .exit))) ⌝ }
 {
-    let k = script::kind(s, 0);
+    let k = records::kind(s, 0);
     if k == PAIR {
         return Found::Typed(b);
     }
-    let r = script::reader(s, 0);
+    let r = records::reader(s, 0);
     if k == APPLICATION {
         return asks(groups, types::FUNCTION, r, place, b, w);
     }
@@ -462,7 +454,7 @@ fn argument_fits(groups: &[u8], w: &[u8]) -> bool
     ensures { λ x. ⌜ ((s t : Ty) → Held (now (w .entry)) s → Held (drop answer-length (now (w .entry))) t
         → x ≡ subtype (readers (now (groups .entry))) below t (left-of s)) ⌝ }
 {
-    fits(groups, &w[SLOT..], types::left_side(w))
+    subtyping::is_subtype(groups, &w[SLOT..], types::left_side(w))
 }
 
 // An application: the function's type is in front, the argument's from the next slot's length on. The result is the right
@@ -490,8 +482,15 @@ fn ends(groups: &[u8], s: &[u8], place: usize, w: &mut [u8], n: usize, m: usize)
         → Meets (after-two (readers (now (groups .entry))) place (v .tree) (v .first) (v .second)) b (now (w .entry)) x
         (now (w .exit))) ⌝ }
 {
-    if script::kind(s, 0) == PAIR {
-        return both(script::reader(s, 0), script::indirect(s, 0), place, w, n, m);
+    if records::kind(s, 0) == PAIR {
+        return both(
+            records::reader(s, 0),
+            records::indirect(s, 0),
+            place,
+            w,
+            n,
+            m,
+        );
     }
     apply(groups, place, w, n)
 }
@@ -654,7 +653,7 @@ pub fn checking(
     if answer.len() < SLOT {
         return Found::Refused(1, 0);
     }
-    let a = types::types_check(groups, types);
+    let a = types_table::types_check(groups, types);
     let Checked::Passed = a else {
         return refused(a);
     };

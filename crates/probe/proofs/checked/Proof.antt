@@ -1,7 +1,7 @@
 -- `checked` meets its contract.
 use mathlib.Core.Path.{sym, ap, subst, _∙_}
-use Rattle.lattice.specs.declared.Checked.{Checked}
-use Rattle.lattice.specs.Said.{said}
+use Rattle.answer.specs.declared.Checked.{Checked}
+use Rattle.answer.specs.Said.{said}
 use Rattle.packing.specs.Packed.{packed, passed, Bounded}
 use Rattle.packing.proofs.Exported.{place-fits}
 use borrow.Author.Needs.{needs}

@@ -1,7 +1,7 @@
 -- `ordered` meets its contract.
 use mathlib.Core.Path.{sym, ap, subst, _∙_}
-use Rattle.types.specs.declared.Ordered.{Ordered}
-use Rattle.types.specs.Ordered.{answered}
+use Rattle.types_table.specs.declared.Ordered.{Ordered}
+use Rattle.types_table.specs.Ordered.{answered}
 use Rattle.packing.specs.Packed.{packed, yes-or-no, Bounded}
 use Rattle.packing.proofs.Exported.{place-fits}
 use borrow.Author.Needs.{needs}

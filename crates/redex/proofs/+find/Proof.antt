@@ -12,11 +12,11 @@ use Rattle.rules.specs.Limits.{depth-limit}
 use Rattle.rules.specs.Groups.{readers}
 use Rattle.rules.specs.Types.{type-at}
 use Rattle.rules.specs.Script.{size}
-use Rattle.script.specs.Place.{At}
+use Rattle.records.specs.Place.{At}
 use Rattle.redex.specs.declared.Found.{Found}
-use Rattle.script.specs.Operands.{first-operand, second-operand}
+use Rattle.records.specs.Operands.{first-operand, second-operand}
 use Rattle.redex.specs.Found.{Finds, finds-value}
-use Rattle.script.proofs.Stands.{kind-of, room-one, stands-kind, here}
+use Rattle.records.proofs.Stands.{kind-of, room-one, stands-kind, here}
 use Rattle.redex.proofs.Places.{kind-bound}
 use Rattle.redex.proofs.Forms.{Position, first-position, Second, second-position, unit-value, function-value, injection-value, variable-turn, recursion-turn, operand-turn, protect-fate}
 use Rattle.redex.proofs.Searches.{either, neither, past-six, found-value, position-at, position-shallow, lift, fired}
@@ -26,10 +26,10 @@ use borrow.Fn.PlainCycle.{Measures, is, falls, and}
 use Rattle.redex.proofs.find.Reads as find
 use Rattle.redex.proofs.find.Kinds as find-kinds
 use Rattle.redex.proofs.+find.Lts-find as find-lts
-use Rattle.script.proofs.end_of.Reads as end-of-reads
+use Rattle.records.proofs.end_of.Reads as end-of-reads
 use Rattle.redex.proofs.reading.Reads as reading-reads
 use Rattle.redex.proofs.unrolling.Reads as unrolling-reads
-use Rattle.script.proofs.kind.Reads as kind-reads
+use Rattle.records.proofs.kind.Reads as kind-reads
 use Rattle.redex.proofs.+find.{statement}
 use Rattle.redex.proofs.+find.Tie.{close}
 

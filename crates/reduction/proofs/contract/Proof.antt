@@ -11,7 +11,7 @@ use Rattle.rules.specs.Types.{type-at}
 use Rattle.rules.specs.Script.{records, encode, term, size}
 use Rattle.rules.specs.Step.{End, too-big, moves, exceeds, step-in}
 use Rattle.rules.specs.Calls.{front-after}
-use Rattle.script.proofs.Stands.{here, start-records}
+use Rattle.records.proofs.Stands.{here, start-records}
 use Rattle.demands.proofs.Steps.{within-limits}
 use Rattle.redex.specs.Fates.{contractum}
 use Rattle.redex.proofs.Turns.{site-moves}

@@ -7,8 +7,8 @@ use Rattle.calculus.specs.Terms.{Term}
 use Prim.Native.Nat.{_≤_}
 use Rattle.rules.specs.Limits.{script-limit, depth-limit}
 use Rattle.rules.specs.Script.{size, depth}
-use Rattle.script.specs.Place.{At}
-use Rattle.script.proofs.Stands.{room-one}
+use Rattle.records.specs.Place.{At}
+use Rattle.records.proofs.Stands.{room-one}
 use Rattle.redex.specs.Fates.{property-of, contractum}
 use Rattle.reduction.specs.declared.Plan.{Plan}
 use Rattle.reduction.specs.Plans.{Planned, Ready, Measures, Recursive}

@@ -6,8 +6,8 @@ use Rattle.calculus.specs.Types.{top}
 use Rattle.calculus.specs.Terms.{mu}
 use Rattle.calculus.specs.Reduction.{unrolled}
 use Rattle.rules.specs.Groups.{readers}
-use Rattle.script.specs.Place.{At}
-use Rattle.script.proofs.Stands.{room-one, at-op1}
+use Rattle.records.specs.Place.{At}
+use Rattle.records.proofs.Stands.{room-one, at-op1}
 use Rattle.redex.specs.Fates.{contractum}
 use Rattle.substitution.specs.Substituted.{Extends}
 use Rattle.reduction.specs.Plans.{Recursive}

@@ -3,8 +3,8 @@ use mathlib.Core.Path.{_≡_, sym, _∙_}
 use Prim.Native.Nat.{_+_}
 use native.Mathlib.Omega.{arith}
 use Rattle.rules.specs.Script.{size}
-use Rattle.script.specs.Place.{At}
-use Rattle.script.proofs.Stands.{kind-of, op1, room-one, stands-kind, here}
+use Rattle.records.specs.Place.{At}
+use Rattle.records.proofs.Stands.{kind-of, op1, room-one, stands-kind, here}
 use Rattle.reduction.specs.Plans.{Fires}
 use Rattle.reduction.proofs.Redexes.{taken-at, inner-at, plan-unrolled, plan-raised, plan-first, plan-second, plan-applied, Cased, cased}
 use Rattle.reduction.proofs.plan_of.Statement.{statement}

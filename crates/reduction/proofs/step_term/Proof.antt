@@ -9,7 +9,7 @@ use Rattle.rules.specs.Types.{type-at}
 use Rattle.rules.specs.Script.{term}
 use Rattle.rules.specs.Step.{End}
 use Rattle.rules.specs.Calls.{front-after}
-use Rattle.script.proofs.Stands.{at-start}
+use Rattle.records.proofs.Stands.{at-start}
 use Rattle.redex.specs.Found.{Finds}
 use Rattle.redex.specs.declared.Found.{Found}
 use Rattle.reduction.specs.Steps.{told}

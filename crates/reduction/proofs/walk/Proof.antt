@@ -15,7 +15,7 @@ use Rattle.rules.specs.Script.{term}
 use Rattle.rules.specs.Step.{step-in}
 use Rattle.rules.specs.Calls.{front-after}
 use Rattle.rules.proofs.Scripts.{term-encode}
-use Rattle.script.proofs.Stands.{at-start}
+use Rattle.records.proofs.Stands.{at-start}
 use Rattle.redex.specs.Found.{Finds}
 use Rattle.reduction.specs.declared.Stepped.the-variants.{Moved}
 use Rattle.reduction.specs.Steps.{told}

@@ -6,7 +6,7 @@ use native.Mathlib.Omega.{arith}
 use lib.ListN.{length, take, drop}
 use borrow.Author.Needs.{needs}
 use Rattle.rules.specs.Script.{size, encode}
-use Rattle.script.proofs.Stands.{room}
+use Rattle.records.proofs.Stands.{room}
 use Rattle.reduction.specs.Plans.{BodyRoom}
 use Rattle.reduction.proofs.Plans.{own-bytes, protect-placed}
 use Rattle.reduction.proofs.write_body.Statement.{statement}

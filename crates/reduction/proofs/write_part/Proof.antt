@@ -5,7 +5,7 @@ use native.Mathlib.Omega.{arith}
 use lib.ListN.{length}
 use borrow.Author.Needs.{needs}
 use Rattle.rules.specs.Script.{size}
-use Rattle.script.proofs.Stands.{room}
+use Rattle.records.proofs.Stands.{room}
 use Rattle.reduction.specs.Plans.{PartRoom}
 use Rattle.reduction.proofs.Plans.{own-bytes, protect-placed}
 use Rattle.reduction.proofs.write_part.Statement.{statement}

@@ -6,7 +6,7 @@ use lib.ListN.{length}
 use borrow.Author.Needs.{needs}
 use Rattle.rules.specs.Groups.{join}
 use Rattle.rules.specs.Script.{size, ir}
-use Rattle.script.proofs.Stands.{room}
+use Rattle.records.proofs.Stands.{room}
 use Rattle.substitution.proofs.Reading.{size-from}
 use Rattle.reduction.specs.Plans.{RaisedRoom}
 use Rattle.reduction.proofs.Plans.{operand-bytes, raise-placed}

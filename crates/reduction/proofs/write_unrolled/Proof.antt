@@ -13,8 +13,8 @@ use Rattle.rules.specs.Answer.{Bytes}
 use Rattle.rules.specs.Groups.{readers}
 use Rattle.rules.specs.Types.{type-count, type-at}
 use Rattle.rules.specs.Script.{size, encode}
-use Rattle.script.specs.Place.{At}
-use Rattle.script.proofs.Stands.{room, room-one, at-op1}
+use Rattle.records.specs.Place.{At}
+use Rattle.records.proofs.Stands.{room, room-one, at-op1}
 use Rattle.redex.proofs.Answers.{function-inside}
 use Rattle.reduction.specs.Plans.{UnrolledRoom}
 use Rattle.reduction.proofs.Plans.{own-bytes, rolled-bytes, type-groups, recursion-number}

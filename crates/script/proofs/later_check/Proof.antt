@@ -7,7 +7,7 @@ use borrow.Author.Needs.{needs}
 use Rattle.rules.specs.Answer.{Bytes, Answer, accepted, _>>_}
 use Rattle.rules.specs.Script.{encode, term, q14, q15, q16, q17, q18, q19}
 use Rattle.rules.proofs.Scripts.{whole}
-use Rattle.lattice.proofs.Passed.{accepts, stops, goes}
+use Rattle.answer.proofs.Passed.{accepts, stops, goes}
 use Rattle.script.specs.Check.{later-check}
 use Rattle.script.proofs.later_check.Statement.{statement}
 use Rattle.script.proofs.later_check.Tie as tie

@@ -1,7 +1,7 @@
 -- `script::question_13` meets its contract: a script alone has no rooms.
 use mathlib.Core.Path.{ap, _∙_}
 use Rattle.rules.specs.Answer.{ask}
-use Rattle.script.proofs.Tests.{asked-alone}
+use Rattle.script.proofs.Rooms.{asked-alone}
 use borrow.Author.Needs.{needs}
 use Rattle.script.proofs.question_13.Statement.{statement}
 use Rattle.script.proofs.question_13.Tie as tie

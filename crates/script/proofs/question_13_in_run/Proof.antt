@@ -4,7 +4,7 @@ use mathlib.Core.Bool.{_&&_}
 use lib.Dec.{leb}
 use lib.ListN.{length}
 use Rattle.rules.specs.Answer.{ask}
-use Rattle.script.proofs.Tests.{asked-in-run}
+use Rattle.script.proofs.Rooms.{asked-in-run}
 use borrow.Author.Needs.{needs}
 use Rattle.script.proofs.question_13_in_run.Statement.{statement}
 use Rattle.script.proofs.question_13_in_run.Tie as tie

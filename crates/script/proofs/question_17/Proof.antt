@@ -3,7 +3,7 @@ use mathlib.Core.Path.{sym, ap, _∙_}
 use lib.Dec.{eqb}
 use Rattle.rules.specs.Answer.{refused, ask}
 use Rattle.rules.specs.Script.{records, exactly}
-use Rattle.script.proofs.Ends.{is-short, is-before}
+use Rattle.records.proofs.Ends.{is-short, is-before}
 use borrow.Author.Needs.{needs}
 use Rattle.script.proofs.question_17.Statement.{statement}
 use Rattle.script.proofs.question_17.Tie as tie

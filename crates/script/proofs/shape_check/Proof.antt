@@ -4,7 +4,7 @@ use mathlib.Core.List.{[]}
 use borrow.Author.Needs.{needs}
 use Rattle.rules.specs.Answer.{Bytes, Answer, _>>_}
 use Rattle.rules.specs.Script.{q13, q14, q17}
-use Rattle.lattice.proofs.Passed.{stops, goes}
+use Rattle.answer.proofs.Passed.{stops, goes}
 use Rattle.script.specs.Check.{shape-check}
 use Rattle.script.proofs.shape_check.Statement.{statement}
 use Rattle.script.proofs.shape_check.Tie as tie

@@ -6,7 +6,7 @@ use mathlib.Core.Option.{some}
 use lib.ListN.{length}
 use Rattle.rules.specs.Script.{slice, subterm, term-end}
 use Rattle.script.specs.Check.{shape-check}
-use Rattle.script.proofs.Ends.{is-short, is-before, end-inside}
+use Rattle.records.proofs.Ends.{is-short, is-before, end-inside}
 use Rattle.script.proofs.Asked.{no-part, whole-part, slice-is}
 use borrow.Author.Needs.{needs}
 use Rattle.script.proofs.subterm.Statement.{statement}

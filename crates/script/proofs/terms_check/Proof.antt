@@ -3,7 +3,7 @@ use mathlib.Core.List.{[]}
 use borrow.Author.Needs.{needs}
 use Rattle.rules.specs.Answer.{Answer}
 use Rattle.rules.specs.Script.{q13}
-use Rattle.lattice.proofs.Passed.{accepts, stops, goes}
+use Rattle.answer.proofs.Passed.{accepts, stops, goes}
 use Rattle.script.specs.Check.{later-check, terms-check}
 use Rattle.script.proofs.terms_check.Statement.{statement}
 use Rattle.script.proofs.terms_check.Tie as tie

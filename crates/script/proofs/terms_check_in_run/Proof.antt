@@ -3,9 +3,9 @@ use mathlib.Core.List.{[], _∷_}
 use borrow.Author.Needs.{needs}
 use Rattle.rules.specs.Answer.{Answer}
 use Rattle.rules.specs.Script.{q13}
-use Rattle.lattice.proofs.Passed.{accepts, stops, goes}
+use Rattle.answer.proofs.Passed.{accepts, stops, goes}
 use Rattle.script.specs.Check.{later-check, terms-check}
-use Rattle.script.proofs.Tests.{run-alone}
+use Rattle.script.proofs.Rooms.{run-alone}
 use Rattle.script.proofs.terms_check_in_run.Statement.{statement}
 use Rattle.script.proofs.terms_check_in_run.Tie as tie
 

@@ -1,6 +1,6 @@
 -- `script::zero_unless` meets its contract: an implication is an or.
 use lib.Dec.{eqb}
-use Rattle.script.proofs.Tests.{or-implies}
+use Rattle.answer.proofs.Implications.{or-implies}
 use Rattle.script.proofs.zero_unless.Statement.{statement}
 use Rattle.script.proofs.zero_unless.Tie as tie
 

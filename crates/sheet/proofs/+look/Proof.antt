@@ -8,15 +8,15 @@ use borrow.Fn.Kinds.{In}
 use borrow.Fn.PlainCycle.{Measures, is, falls, and}
 use lib.ListN.{length}
 use Rattle.calculus.specs.Terms.{Term}
-use Rattle.script.specs.Place.{At}
-use Rattle.script.proofs.Stands.{kind-of, op1, op2, here, room-one, stands-kind, at-op1, at-op2}
+use Rattle.records.specs.Place.{At}
+use Rattle.records.proofs.Stands.{kind-of, op1, op2, here, room-one, stands-kind, at-op1, at-op2}
 use Rattle.sheet.specs.Value.{looked}
 use Rattle.sheet.proofs.Values.{Found, found, lost, is-other, looked-no, looked-yes, no-object, no-parts, first-part, injects, pairs, look-injection, look-pair, lines-size}
 use Rattle.sheet.proofs.look.Reads as look
 use Rattle.sheet.proofs.look.Kinds as look-kinds
 use Rattle.sheet.proofs.+look.Lts-look as lts
-use Rattle.script.proofs.kind.Reads as kind-reads
-use Rattle.script.proofs.end_of.Reads as end-of-reads
+use Rattle.records.proofs.kind.Reads as kind-reads
+use Rattle.records.proofs.end_of.Reads as end-of-reads
 use Rattle.sheet.proofs.+look.{statement}
 use Rattle.sheet.proofs.+look.Tie.{close}
 

@@ -9,8 +9,8 @@ use borrow.Fn.PlainCycle.{Measures, is, falls, and}
 use lib.ListN.{length}
 use Rattle.calculus.specs.Terms.{Term, is-value}
 use Rattle.rules.specs.Answer.{Bytes}
-use Rattle.script.specs.Place.{At}
-use Rattle.script.proofs.Stands.{kind-of, op1, op2, here, room-one, stands-kind, at-op1, at-op2}
+use Rattle.records.specs.Place.{At}
+use Rattle.records.proofs.Stands.{kind-of, op1, op2, here, room-one, stands-kind, at-op1, at-op2}
 use Rattle.memory.specs.Splice.{splice}
 use Rattle.sheet.specs.Shown.{shown}
 use Rattle.sheet.specs.Value.{Room, Wrote}
@@ -19,8 +19,8 @@ use Rattle.sheet.proofs.Sheets.{object, first-of, second-value, wrote-a
 use Rattle.sheet.proofs.write.Reads as write
 use Rattle.sheet.proofs.write.Kinds as write-kinds
 use Rattle.sheet.proofs.+write.Lts-write as lts
-use Rattle.script.proofs.kind.Reads as kind-reads
-use Rattle.script.proofs.end_of.Reads as end-of-reads
+use Rattle.records.proofs.kind.Reads as kind-reads
+use Rattle.records.proofs.end_of.Reads as end-of-reads
 use Rattle.sheet.proofs.line_of.Reads as line-of-reads
 use Rattle.sheet.proofs.put.Reads as put-reads
 use Rattle.sheet.proofs.+write.{statement}

@@ -7,9 +7,9 @@ use Rattle.calculus.specs.Terms.{Term}
 use Rattle.rules.specs.Answer.{Bytes, Octets, accepted}
 use Rattle.rules.specs.Script.{term}
 use Rattle.rules.specs.Calls.{sheeting}
-use Rattle.lattice.proofs.Passed.{accepts}
-use Rattle.script.specs.Place.{At}
-use Rattle.script.proofs.Stands.{here, at-start, room}
+use Rattle.answer.proofs.Passed.{accepts}
+use Rattle.records.specs.Place.{At}
+use Rattle.records.proofs.Stands.{here, at-start, room}
 use Rattle.sheet.specs.Said.{before-26}
 use Rattle.sheet.specs.Value.{lines}
 use Rattle.sheet.proofs.Values.{Found, found, lost, lines-size}

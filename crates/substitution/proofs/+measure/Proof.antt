@@ -10,19 +10,19 @@ use Rattle.calculus.specs.Terms.{Term}
 use Rattle.rules.specs.Answer.{Bytes}
 use Rattle.rules.specs.Script.{size, depth, arity}
 use Rattle.rules.proofs.TermCode.{term-operands}
-use Rattle.script.specs.Place.{At}
-use Rattle.script.proofs.Stands.{kind-of, room-one, stands-kind, stands-arity}
-use Rattle.substitution.specs.Binders.{binds}
+use Rattle.records.specs.Place.{At}
+use Rattle.records.proofs.Stands.{kind-of, room-one, stands-kind, stands-arity}
+use Rattle.records.specs.Binders.{binds}
 use Rattle.substitution.specs.Substituted.{value-limit, Sizes}
 use Rattle.substitution.proofs.Counting.{Ahead, ahead, operand-here, operand-sizes, Counted, counted-none, counted-more, counted-bound, counted-all, measured-variable}
 use Rattle.substitution.proofs.measure.Reads as measure
 use Rattle.substitution.proofs.measure.Kinds as measure-kinds
 use Rattle.substitution.proofs.+measure.Lts-measure as lts
-use Rattle.script.proofs.kind.Reads as kind-reads
-use Rattle.substitution.proofs.binders.Reads as binders-reads
+use Rattle.records.proofs.kind.Reads as kind-reads
+use Rattle.records.proofs.binders.Reads as binders-reads
 use Rattle.substitution.proofs.larger.Reads as larger-reads
 use Rattle.substitution.proofs.measure_variable.Reads as measure-variable-reads
-use Rattle.script.proofs.arity.Reads as arity-reads
+use Rattle.records.proofs.arity.Reads as arity-reads
 use Rattle.substitution.proofs.+measure.{statement}
 use Rattle.substitution.proofs.+measure.Tie.{close}
 

@@ -11,10 +11,10 @@ use Rattle.calculus.specs.Terms.{Term, subst}
 use Rattle.rules.specs.Answer.{Bytes}
 use Rattle.rules.specs.Script.{encode, arity}
 use Rattle.rules.proofs.TermCode.{term-operands, term-head}
-use Rattle.script.specs.Place.{At}
-use Rattle.script.proofs.Stands.{kind-of, room-one, stands-kind, stands-arity}
+use Rattle.records.specs.Place.{At}
+use Rattle.records.proofs.Stands.{kind-of, room-one, stands-kind, stands-arity}
 use Rattle.memory.specs.Splice.{splice}
-use Rattle.substitution.specs.Binders.{binds}
+use Rattle.records.specs.Binders.{binds}
 use Rattle.substitution.specs.Substituted.{Room}
 use Rattle.substitution.proofs.Reading.{head-at, size-from}
 use Rattle.substitution.proofs.Counting.{Ahead, ahead, operand-here}
@@ -22,10 +22,10 @@ use Rattle.substitution.proofs.Writing.{Copied, copied-none, copied-mor
 use Rattle.substitution.proofs.write.Reads as write
 use Rattle.substitution.proofs.write.Kinds as write-kinds
 use Rattle.substitution.proofs.+write.Lts-write as lts
-use Rattle.script.proofs.kind.Reads as kind-reads
-use Rattle.substitution.proofs.binders.Reads as binders-reads
+use Rattle.records.proofs.kind.Reads as kind-reads
+use Rattle.records.proofs.binders.Reads as binders-reads
 use Rattle.memory.proofs.copy_part.Reads as copy-part-reads
-use Rattle.script.proofs.arity.Reads as arity-reads
+use Rattle.records.proofs.arity.Reads as arity-reads
 use Rattle.substitution.proofs.write_variable.Reads as write-variable-reads
 use Rattle.substitution.proofs.+write.{statement}
 use Rattle.substitution.proofs.+write.Tie.{close}

@@ -8,7 +8,7 @@ use borrow.Author.Tests.{eqb-true, eqb-false}
 use lib.Dec.{eqb}
 use lib.ListN.{length}
 use Rattle.rules.specs.Script.{size, kind, number}
-use Rattle.script.proofs.Stands.{room-one}
+use Rattle.records.proofs.Stands.{room-one}
 use Rattle.substitution.specs.Substituted.{Room}
 use Rattle.substitution.proofs.Reading.{term-length}
 use Rattle.substitution.proofs.Writing.{variable-here, variable-else, written-here, written-else}

@@ -2,7 +2,7 @@
 use native.Mathlib.Omega.{arith}
 use mathlib.Core.Path.{_∙_, ap}
 use Rattle.rules.specs.Types.{sides}
-use Rattle.types.proofs.Pass.{at-most-two}
+use Rattle.types.proofs.Counting.{at-most-two}
 use borrow.Author.Needs.{needs}
 use Rattle.types.proofs.pending_after.Statement.{statement}
 use Rattle.types.proofs.pending_after.Tie as tie

@@ -3,7 +3,8 @@ use mathlib.Core.Path.{_≡_, refl, sym, ap, _∙_}
 use Prim.Native.Nat.{_≤_, _<_, _+_, _-_}
 use native.Mathlib.Omega.{arith}
 use Rattle.rules.specs.Types.{type-count, type-kind, type-end}
-use Rattle.types.proofs.Pass.{walk, walk-next, at-most-two, in-range, all-counted}
+use Rattle.rules.proofs.PrefixLaws.{next-record}
+use Rattle.types.proofs.Counting.{ops, walk, at-most-two, in-range, all-counted}
 use Rattle.types.proofs.type_records.Statement.{statement}
 use Rattle.types.proofs.type_records.Tie as tie
 
@@ -34,7 +35,9 @@ loop-again c =
     let d = c .before .before in (
       omega (arith, there (c .before)),
       omega (arith, c .pending-after .ensures, at-most-two (type-kind (d .before .before .args .s .now) (d .loop .i))),
-      d .loop .inv .2 ∙ walk-next (d .before .before .args .s .now) (d .loop .pending) (d .loop .i) (there (c .before)) (omega arith) ∙ ap (λ n. walk (d .before .before .args .s .now) n (d .loop .i + 1)) (sym (c .pending-after .ensures)),
+      d .loop .inv .2
+          ∙ sym (next-record (ops (d .before .before .args .s .now)) (type-count (d .before .before .args .s .now)) (d .loop .pending) (d .loop .i) _ (there (c .before)) (omega arith) refl)
+          ∙ ap (λ n. walk (d .before .before .args .s .now) n (d .loop .i + 1)) (sym (c .pending-after .ensures)),
     )
 
 returns : tie.Need-returns Inv-loop μ-loop

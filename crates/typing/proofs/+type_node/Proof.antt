@@ -12,7 +12,7 @@ use Rattle.rules.specs.Script.{number, encode, size}
 use Rattle.rules.specs.Typing.{right, q22, typing}
 use Rattle.types.specs.Held.{right-of}
 use Rattle.typing.specs.Operands.{operand-count}
-use Rattle.script.specs.Operands.{first-operand, second-operand, third-operand}
+use Rattle.records.specs.Operands.{first-operand, second-operand, third-operand}
 use Rattle.typing.specs.Memory.{Sized, Meets, Ready, Enters}
 use Rattle.typing.specs.Stages.{first-context, kept-front, second-context, Leaf, Some, kept-between}
 use Rattle.types.proofs.Parts.{to-end}
@@ -21,7 +21,7 @@ use Rattle.typing.proofs.Shapes.{long, counted-of}
 use Rattle.typing.proofs.Rules.{meets-of}
 use borrow.Author.Needs.{needs}
 use borrow.Rule.Slice.PartMut.{putMid, same-len-mid}
-use Rattle.script.specs.Place.{At}
+use Rattle.records.specs.Place.{At}
 use Rattle.typing.proofs.Apart.{typing-leaf}
 use Rattle.typing.proofs.Below.{first-at, second-at, third-at, first-whole, second-whole, third-whole, at-most-three, branch-binders}
 use Rattle.typing.proofs.Steps.{went, Went, Done1, Done2, Done3, Done5, Done6, level, enter-refuses, low-within, ready1, first-refuses, done1, room2, one-of, last-meets, front, some-of, middle-refuses, done2, mid-within, second-placed, ready2, second-refuses, done3, two-of as both-of, ends-meets, case-named, branch-held, turn-asks, holds4, turn-refuses, done5, third-placed, ready3, third-refuses, done6, done-room, done-asks, done-meets}

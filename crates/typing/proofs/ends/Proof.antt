@@ -9,7 +9,7 @@ use Rattle.rules.specs.Groups.{readers}
 use Rattle.rules.specs.Script.{kind, r, number}
 use Rattle.rules.specs.Typing.{left, right}
 use Rattle.types.specs.Held.{kind-of, left-of}
-use Rattle.script.specs.Operands.{first-operand, second-operand}
+use Rattle.records.specs.Operands.{first-operand, second-operand}
 use Rattle.typing.specs.Stages.{pair-type, wanting, reads, may-read, between, after-two, Two}
 use Rattle.typing.proofs.Front.{left-is, right-is}
 use Rattle.typing.proofs.Shapes.{long, of-kind, app-kind, of-fields}

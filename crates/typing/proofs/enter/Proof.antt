@@ -13,7 +13,7 @@ use Rattle.rules.specs.Types.{type-at}
 use Rattle.rules.specs.Script.{kind, r, ir, number}
 use Rattle.rules.specs.Typing.{q23}
 use Rattle.types.specs.Held.{kind-of}
-use Rattle.script.specs.Operands.{first-operand}
+use Rattle.records.specs.Operands.{first-operand}
 use Rattle.typing.specs.Memory.{Ready}
 use Rattle.typing.specs.Stages.{before-first, first-context}
 use Rattle.typing.proofs.Front.{right-is}

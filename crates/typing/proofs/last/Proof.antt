@@ -12,7 +12,7 @@ use Rattle.rules.specs.Groups.{readers}
 use Rattle.rules.specs.Types.{type-at, type-count}
 use Rattle.rules.specs.Script.{kind, r, ir, number, make}
 use Rattle.types.specs.Held.{Held}
-use Rattle.script.specs.Operands.{first-operand, second-operand, third-operand}
+use Rattle.records.specs.Operands.{first-operand, second-operand, third-operand}
 use Rattle.typing.specs.Memory.{Sized, Named-sided}
 use Rattle.typing.specs.Stages.{kept-front, function-type, wanting, injection-type, side-of, projection-type, after-one, One}
 use Rattle.typing.proofs.Shapes.{long, mu-kind, front-plain, of-fields}

@@ -7,7 +7,7 @@ use lib.Seq.{take-at}
 use Rattle.rules.specs.Script.{encode}
 use Rattle.rules.proofs.PrefixLaws.{encode-length, size-positive}
 use Rattle.rules.proofs.TermCode.{term-code}
-use Rattle.script.proofs.Stands.{room}
+use Rattle.records.proofs.Stands.{room}
 use borrow.Author.Needs.{needs}
 use Rattle.typing.proofs.operand.Statement.{statement}
 use Rattle.typing.proofs.operand.Tie as tie

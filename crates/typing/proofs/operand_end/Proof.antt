@@ -8,7 +8,7 @@ use Rattle.rules.specs.Answer.{Bytes}
 use Rattle.rules.specs.Script.{size}
 use Rattle.rules.proofs.PrefixLaws.{unique}
 use Rattle.rules.proofs.TermCode.{term-prefix}
-use Rattle.script.specs.Place.{At}
+use Rattle.records.specs.Place.{At}
 use Rattle.typing.specs.Stages.{Operand-at}
 use borrow.Author.Needs.{needs}
 use Rattle.typing.proofs.operand_end.Statement.{statement}

@@ -46,15 +46,15 @@ right-side-requires c κs =
       count = (c .before) .type-records .ensures (left-of ((c .before .before .before .before .before .before .before .before) .pre .0 .type)) ((c .before .before) .left-side .ensures .0 ((c .before .before .before .before .before .before .before .before) .pre .0 .type) (rw to-end ((c .before .before .before .before .before .before .before .before) .pre .0 .slot .held)));
     }
 
-fits-requires : tie.Need-fits-requires
-fits-requires c κs = ((c .before .before .before .before .before .before .before .before .before) .pre .1, record { type = right-of ((c .before .before .before .before .before .before .before .before .before) .pre .0 .type); held = c .right-side .ensures .0 ((c .before .before .before .before .before .before .before .before .before) .pre .0 .type) (rw to-end ((c .before .before .before .before .before .before .before .before .before) .pre .0 .slot .held)) })
+is-subtype-requires : tie.Need-is-subtype-requires
+is-subtype-requires c κs = ((c .before .before .before .before .before .before .before .before .before) .pre .1, record { type = right-of ((c .before .before .before .before .before .before .before .before .before) .pre .0 .type); held = c .right-side .ensures .0 ((c .before .before .before .before .before .before .before .before .before) .pre .0 .type) (rw to-end ((c .before .before .before .before .before .before .before .before .before) .pre .0 .slot .held)) })
 
 returns : tie.Need-returns
 returns c =
     λ s t h k.
     let S = readers ((c .before .before .before .before .before .before .before .before .before .before) .args .groups .now) in
     let n = two-of ((c .before .before .before .before .before .before .before .before .before .before) .pre .0 .slot .held) ((c .before .before .before .before .before .before .before .before .before .before) .pre .0 .two) k in
-    c .fits2 .ensures s (right-of t) h ((c .before) .right-side .ensures .0 t (rw to-end k)) ∙ ap (subtype S below s) (sym (right-is t n))
+    c .is-subtype .ensures s (right-of t) h ((c .before) .right-side .ensures .0 t (rw to-end k)) ∙ ap (subtype S below s) (sym (right-is t n))
     ∙ ap (λ d. subtype S below s (side-of d t)) (sym ((c .before .before .before .before .before .before) .if1 .taken))
 
 sub-left-side-2 : tie.Need-sub-left-side-2
@@ -69,15 +69,15 @@ part-left-side-end-2 c = search needs
 left-side-requires-2 : tie.Need-left-side-requires-2
 left-side-requires-2 c κs = record { type = (c .before .before .before .before .before) .pre .0 .type; held = rw to-end ((c .before .before .before .before .before) .pre .0 .slot .held); two = (c .before .before .before .before .before) .pre .0 .two }
 
-fits-requires-2 : tie.Need-fits-requires-2
-fits-requires-2 c κs = ((c .before .before .before .before .before .before) .pre .1, record { type = left-of ((c .before .before .before .before .before .before) .pre .0 .type); held = c .left-side2 .ensures .0 ((c .before .before .before .before .before .before) .pre .0 .type) (rw to-end ((c .before .before .before .before .before .before) .pre .0 .slot .held)) })
+is-subtype-requires-2 : tie.Need-is-subtype-requires-2
+is-subtype-requires-2 c κs = ((c .before .before .before .before .before .before) .pre .1, record { type = left-of ((c .before .before .before .before .before .before) .pre .0 .type); held = c .left-side2 .ensures .0 ((c .before .before .before .before .before .before) .pre .0 .type) (rw to-end ((c .before .before .before .before .before .before) .pre .0 .slot .held)) })
 
 returns-2 : tie.Need-returns-2
 returns-2 c =
     λ s t h k.
     let S = readers ((c .before .before .before .before .before .before .before) .args .groups .now) in
     let n = two-of ((c .before .before .before .before .before .before .before) .pre .0 .slot .held) ((c .before .before .before .before .before .before .before) .pre .0 .two) k in
-    c .fits3 .ensures s (left-of t) h ((c .before) .left-side2 .ensures .0 t (rw to-end k)) ∙ ap (subtype S below s) (sym (left-is t n))
+    c .is-subtype2 .ensures s (left-of t) h ((c .before) .left-side2 .ensures .0 t (rw to-end k)) ∙ ap (subtype S below s) (sym (left-is t n))
     ∙ ap (λ d. subtype S below s (side-of d t)) (sym ((c .before .before .before) .if1 .left))
 
 pub wanted-side-spec : {M : Type 1} → statement M
@@ -94,11 +94,11 @@ wanted-side-spec =
     part-right-side-start
     part-right-side-end
     right-side-requires
-    fits-requires
+    is-subtype-requires
     returns
     sub-left-side-2
     part-left-side-start-2
     part-left-side-end-2
     left-side-requires-2
-    fits-requires-2
+    is-subtype-requires-2
     returns-2)

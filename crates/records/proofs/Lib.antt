@@ -1,0 +1,3 @@
+pub mod Table
+pub mod Ends
+pub mod Stands

@@ -1,0 +1,4 @@
+pub mod Place
+pub mod Operands
+pub mod Binders
+pub mod Said

@@ -1,0 +1,194 @@
+use lattice::Indirect;
+use lattice::Reader;
+ghost use mathlib.Core.Path.{_≡_};
+ghost use Prim.Native.Nat.{_+_, _*_, _≤_, _<_};
+ghost use lib.ListN.{length};
+ghost use Rattle.calculus.specs.Terms.{Term};
+ghost use Rattle.rules.specs.Limits.{script-width};
+ghost use Rattle.rules.specs.Script.{records, kind, r, ir, zero-byte, number, signature, signature-of, arity};
+ghost use Rattle.rules.specs.Script.{size, term-end};
+ghost use Rattle.records.specs.Place.{At, Here};
+ghost use Rattle.records.specs.Said.{line, ended};
+ghost use Rattle.records.specs.Binders.{binds, binds-first, binds-later};
+
+pub const SCRIPT_WIDTH: usize = 6;
+
+pub fn wide(x: u8) -> usize
+    ensures { λ a. ⌜ (a ≡ x) × (a < 256) ⌝ }
+{
+    x as usize
+}
+
+pub fn word(x: u8) -> u16
+    ensures { λ a. ⌜ (a ≡ x) × (a < 256) ⌝ }
+{
+    x as u16
+}
+
+// A number of a record, as an index.
+pub fn index(n: u16) -> usize
+    ensures { λ a. ⌜ (a ≡ n) × (a < 65536) ⌝ }
+{
+    n as usize
+}
+
+// How many whole records the script has.
+pub fn record_count(script: &[u8]) -> usize
+    ensures { λ a. ⌜ a ≡ records (now (script .entry)) ⌝ }
+{
+    script.len() / SCRIPT_WIDTH
+}
+
+// The fields of record i.
+pub fn kind(script: &[u8], i: usize) -> u8
+    requires { ⌜ script-width * i + 6 ≤ length (now script) ⌝ }
+    ensures { λ a. ⌜ a ≡ kind (now (script .entry)) i ⌝ }
+{
+    script[SCRIPT_WIDTH * i]
+}
+
+pub fn reader(script: &[u8], i: usize) -> Reader
+    requires { ⌜ script-width * i + 6 ≤ length (now script) ⌝ }
+    ensures { λ a. ⌜ a .0 ≡ r (now (script .entry)) i ⌝ }
+{
+    Reader(script[SCRIPT_WIDTH * i + 1])
+}
+
+pub fn indirect(script: &[u8], i: usize) -> Indirect
+    requires { ⌜ script-width * i + 6 ≤ length (now script) ⌝ }
+    ensures { λ a. ⌜ a .0 ≡ ir (now (script .entry)) i ⌝ }
+{
+    Indirect(script[SCRIPT_WIDTH * i + 2])
+}
+
+pub fn zero_byte(script: &[u8], i: usize) -> u8
+    requires { ⌜ script-width * i + 6 ≤ length (now script) ⌝ }
+    ensures { λ a. ⌜ a ≡ zero-byte (now (script .entry)) i ⌝ }
+{
+    script[SCRIPT_WIDTH * i + 3]
+}
+
+pub fn number(script: &[u8], i: usize) -> u16
+    requires { ⌜ script-width * i + 6 ≤ length (now script) ⌝ }
+    ensures { λ a. ⌜ a ≡ number (now (script .entry)) i ⌝ }
+{
+    word(script[SCRIPT_WIDTH * i + 4]) + 256 * word(script[SCRIPT_WIDTH * i + 5])
+}
+
+// A line of the table of kinds: the number of operands, which fields are named, and whether the number names a type.
+pub struct Signature {
+    pub operands: u8,
+    pub reader: bool,
+    pub indirect: bool,
+    pub number: bool,
+    pub typed: bool,
+}
+
+fn entry(operands: u8, reader: bool, indirect: bool, number: bool, typed: bool) -> Signature
+    ensures { λ a. ⌜ line a ≡ signature operands reader indirect number typed ⌝ }
+{
+    Signature {
+        operands,
+        reader,
+        indirect,
+        number,
+        typed,
+    }
+}
+
+// The table of kinds: operands, r, ir, number, type.
+pub fn signature_of(kind: u8) -> Signature
+    ensures { λ a. ⌜ line a ≡ signature-of kind ⌝ }
+{
+    match kind {
+        0 => entry(0, false, false, true, false), // variable
+        1 => entry(0, true, true, false, false), // unit
+        2 => entry(1, true, true, true, true), // function
+        3 => entry(2, true, true, false, false), // pair
+        4 => entry(1, true, true, true, true), // first injection
+        5 => entry(1, true, true, true, true), // second injection
+        6 => entry(2, true, false, false, false), // application
+        7 => entry(1, true, false, false, false), // first projection
+        8 => entry(1, true, false, false, false), // second projection
+        9 => entry(3, true, false, true, true), // case
+        10 => entry(1, false, true, false, false), // protect
+        11 => entry(1, false, false, true, true), // recursion
+        _ => entry(0, false, false, false, false),
+    }
+}
+
+// The number of operands that follow a record.
+pub fn arity(kind: u8) -> usize
+    ensures { λ a. ⌜ (a ≡ arity kind) × (a ≤ 3) ⌝ }
+{
+    let f = signature_of(kind);
+    wide(f.operands)
+}
+
+// How many binders stand over operand j of a record of this kind.
+pub fn binders(kind: u8, j: usize) -> u16
+    ensures { λ a. ⌜ (a ≡ binds kind j) × (a ≤ 1) ⌝ }
+{
+    if j == 0 {
+        if kind == 2 {
+            return 1;
+        }
+        if kind == 11 {
+            return 1;
+        }
+        return 0;
+    }
+    if kind == 9 {
+        return 1;
+    }
+    0
+}
+
+// How many binders stand over the first operand of a record: functions and recursions bind one.
+pub fn binds_first(kind: u8) -> usize
+    ensures { λ a. ⌜ a ≡ binds-first kind ⌝ }
+{
+    if (kind == 2) | (kind == 11) { 1 } else { 0 }
+}
+
+// And over a later operand: a case binds one in each branch.
+pub fn binds_later(kind: u8) -> usize
+    ensures { λ a. ⌜ a ≡ binds-later kind ⌝ }
+{
+    if kind == 9 { 1 } else { 0 }
+}
+
+// Where a term ends: before a record, or not before the script does.
+pub enum Ended {
+    Before(usize),
+    Short,
+}
+
+// The record after the term that starts at record `start`: how many terms are still to come, record by record.
+pub fn term_end(script: &[u8], start: usize) -> Ended
+    ensures { λ a. ⌜ ended a ≡ term-end (now (script .entry)) start ⌝ }
+{
+    let n = record_count(script);
+    let mut pending: usize = 1;
+    let mut i = start;
+    while 0 < pending {
+        if n <= i {
+            return Ended::Short;
+        }
+        pending = pending - 1 + arity(kind(script, i));
+        i += 1;
+    }
+    Ended::Before(i)
+}
+
+// The record after the term that stands at record i. A term that stands there is not cut short, so the i is never returned.
+pub fn end_of(script: &[u8], i: usize) -> usize
+    requires { ⌜ Here (now script) i ⌝ }
+    ensures { λ a. ⌜ ((e : Term) → At (now (script .entry)) i e → a ≡ i + size e) ⌝ }
+{
+    let e = term_end(script, i);
+    let Ended::Before(end) = e else {
+        return i;
+    };
+    end
+}

@@ -1,0 +1,105 @@
+use types::FUNCTION;
+use types::UNIT;
+ghost use mathlib.Core.Path.{_≡_};
+ghost use mathlib.Core.Bool.{_&&_};
+ghost use lib.Dec.{eqb};
+ghost use Rattle.calculus.specs.Types.{Ty, top};
+ghost use Rattle.calculus.specs.Subtyping.{subtype, below, above};
+ghost use Rattle.rules.specs.Groups.{readers};
+ghost use Rattle.types.specs.Held.{Held, Starts, kind-of};
+ghost use Rattle.subtyping.specs.Compared.{compared};
+
+// What a walk over two types finds: the records that each of them has, or that they are not related.
+pub enum Compared {
+    Related(usize),
+    Unrelated,
+}
+
+// Are the first records of one kind, with r ⊑ r′ and ir ⊑ ir′?
+fn first_below(groups: &[u8], lower: &[u8], upper: &[u8]) -> bool
+    requires { ⌜ Starts (now lower) × Starts (now upper) ⌝ }
+    ensures { λ a. ⌜ ((s t : Ty) → Held (now (lower .entry)) s → Held (now (upper .entry)) t
+        → a ≡ (eqb (kind-of s) (kind-of t) && readers (now (groups .entry)) .le (top s) (top t))) ⌝ }
+{
+    types::kind(lower) == types::kind(upper)
+        && (types::reader(lower).at_or_below(groups, types::reader(upper))
+            && types::indirect(lower).at_or_below(groups, types::indirect(upper)))
+}
+
+// Is the type of `lower` at or below that of `upper`? A function's left sides are walked the other way round. Related types have
+// as many records, so what the walk of the left sides counts says where both right sides start.
+pub fn at_or_below(groups: &[u8], lower: &[u8], upper: &[u8]) -> Compared
+    requires { ⌜ Starts (now lower) × Starts (now upper) ⌝ }
+    ensures { λ a. ⌜ ((s t : Ty) → Held (now (lower .entry)) s → Held (now (upper .entry)) t
+        → a ≡ compared (readers (now (groups .entry))) below s t) ⌝ }
+{
+    if !first_below(groups, lower, upper) {
+        return Compared::Unrelated;
+    }
+    let lower_kind = types::kind(lower);
+    if lower_kind == UNIT {
+        return Compared::Related(1);
+    }
+    let left = if lower_kind == FUNCTION {
+        at_or_above(groups, types::left_side(lower), types::left_side(upper))
+    } else {
+        at_or_below(groups, types::left_side(lower), types::left_side(upper))
+    };
+    let Compared::Related(n) = left else {
+        return Compared::Unrelated;
+    };
+    let right = at_or_below(
+        groups,
+        types::right_side(lower, n),
+        types::right_side(upper, n),
+    );
+    let Compared::Related(m) = right else {
+        return Compared::Unrelated;
+    };
+    Compared::Related(1 + (n + m))
+}
+
+// Is the type of `upper` at or above that of `lower`?
+pub fn at_or_above(groups: &[u8], upper: &[u8], lower: &[u8]) -> Compared
+    requires { ⌜ Starts (now upper) × Starts (now lower) ⌝ }
+    ensures { λ a. ⌜ ((s t : Ty) → Held (now (upper .entry)) s → Held (now (lower .entry)) t
+        → a ≡ compared (readers (now (groups .entry))) above s t) ⌝ }
+{
+    if !first_below(groups, lower, upper) {
+        return Compared::Unrelated;
+    }
+    let upper_kind = types::kind(upper);
+    if upper_kind == UNIT {
+        return Compared::Related(1);
+    }
+    let left = if upper_kind == FUNCTION {
+        at_or_below(groups, types::left_side(upper), types::left_side(lower))
+    } else {
+        at_or_above(groups, types::left_side(upper), types::left_side(lower))
+    };
+    let Compared::Related(n) = left else {
+        return Compared::Unrelated;
+    };
+    let right = at_or_above(
+        groups,
+        types::right_side(upper, n),
+        types::right_side(lower, n),
+    );
+    let Compared::Related(m) = right else {
+        return Compared::Unrelated;
+    };
+    Compared::Related(1 + (n + m))
+}
+
+// The same as one answer: is the type of `lower` at or below that of `upper`?
+pub fn is_subtype(groups: &[u8], lower: &[u8], upper: &[u8]) -> bool
+    requires { ⌜ Starts (now lower) × Starts (now upper) ⌝ }
+    ensures { λ a. ⌜ ((s t : Ty) → Held (now (lower .entry)) s → Held (now (upper .entry)) t
+        → a ≡ subtype (readers (now (groups .entry))) below s t) ⌝ }
+{
+    let x = at_or_below(groups, lower, upper);
+    match x {
+        Compared::Related(_) => true,
+        Compared::Unrelated => false,
+    }
+}

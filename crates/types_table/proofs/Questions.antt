@@ -1,0 +1,95 @@
+-- Questions 8 to 12 and 25 one after another.
+use mathlib.Core.Path.{_≡_, refl, ap, _∙_}
+use mathlib.Core.Bool.{Bool}
+use Prim.Native.Nat.{ℕ, _≤_, _<_}
+use native.Mathlib.Omega.{arith}
+use borrow.Author.Tests.{lt-ltb, le-ltb}
+use Rattle.calculus.specs.Subtyping.{subtype, below}
+use Rattle.rules.specs.Answer.{Bytes, Answer, accepted, refused, _>>_, first-from}
+use Rattle.rules.specs.Groups.{join, readers}
+use Rattle.rules.specs.Types.{type-count, type-at, ok9, ok10, ok11, ok12, q8, q9, q10, q11, q12}
+use Rattle.rules.specs.Calls.{groups-check, types-check, q25, at-or-below}
+use Rattle.answer.specs.declared.Checked.{Checked}
+use Rattle.answer.specs.declared.Checked.the-variants.{Passed, Refused}
+use Rattle.answer.specs.Said.{said}
+use Rattle.answer.proofs.Passed.{No}
+use Rattle.types_table.specs.Ordered.{answered, refusal}
+use Rattle.rules.proofs.Asked.{and-then}
+
+-- what is left to ask from a question on
+abbrev pub from-11 : Bytes → Answer (Unit {0})
+from-11 t = do
+  q11 t
+  q12 t
+
+abbrev pub from-10 : Bytes → Bytes → Answer (Unit {0})
+from-10 g t = do
+  q10 g t
+  from-11 t
+
+abbrev pub from-9 : Bytes → Bytes → Answer (Unit {0})
+from-9 g t = do
+  q9 g t
+  from-10 g t
+
+abbrev pub from-8 : Bytes → Bytes → Answer (Unit {0})
+from-8 g t = do
+  q8 t
+  from-9 g t
+
+-- after a yes, the answer to what is left
+pub past : {A : Type 0} (a : Answer (Unit {0})) (b : Answer A) {o : Answer A} → a ≡ accepted tt → o ≡ b → o ≡ _>>_ a b
+past a b p e = rw p e
+
+pub types-check-is : (g t : Bytes) → _>>_ (groups-check g) (from-8 g t) ≡ types-check g t
+unfolding types-check groups-check first-from ok9 ok10 ok11 ok12
+types-check-is g t = refl
+
+pub record Yes (g t : Bytes) : Type 0 where
+  pub to-7 : groups-check g ≡ accepted tt
+  pub to-8 : q8 t ≡ accepted tt
+  pub to-9 : q9 g t ≡ accepted tt
+  pub to-10 : q10 g t ≡ accepted tt
+  pub to-11 : q11 t ≡ accepted tt
+  pub to-12 : q12 t ≡ accepted tt
+
+pub all-yes : (g t : Bytes) → types-check g t ≡ accepted tt → Yes g t
+all-yes g t e =
+    let a = and-then (groups-check g) (from-8 g t) (types-check-is g t ∙ e) in
+    let b = and-then (q8 t) (from-9 g t) (a .1) in
+    let c = and-then (q9 g t) (from-10 g t) (b .1) in
+    let d = and-then (q10 g t) (from-11 t) (c .1) in
+    let f = and-then (q11 t) (q12 t) (d .1) in
+    record { to-7 = a .0; to-8 = b .0; to-9 = c .0; to-10 = d .0; to-11 = f .0; to-12 = f .1 }
+
+-- 'At or below' after question 12.
+abbrev pub found : Bytes → Bytes → ℕ → ℕ → Answer Bool
+found g t i j = accepted (subtype (readers g) below (type-at t i) (type-at t j))
+
+abbrev pub second-index : Bytes → Bytes → ℕ → ℕ → Answer Bool
+second-index g t i j = do
+  q25 1 j (type-count t)
+  found g t i j
+
+abbrev pub from-25 : Bytes → Bytes → ℕ → ℕ → Answer Bool
+from-25 g t i j = do
+  q25 0 i (type-count t)
+  second-index g t i j
+
+pub at-or-below-is : (g t : Bytes) (i j : ℕ) → _>>_ (types-check g t) (from-25 g t i j) ≡ at-or-below g t i j
+unfolding at-or-below types-check subtype type-at join
+at-or-below-is g t i j = refl
+
+-- a refusal of the tables is the call's
+pub refused-on : (x : Checked) (a : Answer (Unit {0})) (b : Answer Bool) → No x → said x ≡ a → answered (refusal x) ≡ _>>_ a b
+refused-on Passed a b k e = absurd (omega arith)
+refused-on (Refused q p) a b k e = ap (λ (o : Answer (Unit {0})). _>>_ o b) e
+
+pub first-outside : (n i : ℕ) (b : Answer Bool) → n ≤ i → refused 25 0 ≡ _>>_ (q25 0 i n) b
+first-outside n i b l = rw (le-ltb i n l)
+
+pub second-outside : (n i j : ℕ) (b : Answer Bool) → i < n → n ≤ j → refused 25 1 ≡ _>>_ (q25 0 i n) (_>>_ (q25 1 j n) b)
+second-outside n i j b k l = rw (lt-ltb i n k, le-ltb j n l)
+
+pub both-inside : (n i j : ℕ) (b : Answer Bool) → i < n → j < n → b ≡ _>>_ (q25 0 i n) (_>>_ (q25 1 j n) b)
+both-inside n i j b k l = rw (lt-ltb i n k, lt-ltb j n l)

@@ -1,0 +1,205 @@
+use answer::Checked;
+use types::FUNCTION;
+use types::TYPE_LIMIT;
+use types::TYPE_WIDTH;
+ghost use mathlib.Core.Path.{_≡_};
+ghost use mathlib.Core.Bool.{cond, _&&_};
+ghost use Prim.Native.Nat.{_-_, _≤_, _<_};
+ghost use lib.Dec.{eqb, ltb};
+ghost use Rattle.calculus.specs.Types.{type-limit};
+ghost use Rattle.rules.specs.Types.{type-count, ok9, ok10, q8, q9};
+ghost use Rattle.rules.specs.Types.{q10, q11, q12};
+ghost use Rattle.rules.specs.Calls.{types-check, at-or-below};
+ghost use Rattle.answer.specs.Said.{said};
+ghost use Rattle.types_table.specs.Ordered.{answered, refusal};
+
+const TABLE_LIMIT: usize = 4096;
+
+// The answer of 'at or below': whether it is so, or the number of the first question answered no and the place.
+pub enum Ordered {
+    Answered(bool),
+    Refused(u8, usize),
+}
+
+fn wide(g: u8) -> usize
+    ensures { λ a. ⌜ a ≡ g ⌝ }
+{
+    g as usize
+}
+
+// 8. Whole records, 1 to 4,096?
+pub fn question_8(types: &[u8]) -> Checked
+    ensures { λ a. ⌜ said a ≡ q8 (now (types .entry)) ⌝ }
+{
+    let n = types::type_count(types);
+    if types.len() % TYPE_WIDTH != 0 {
+        return Checked::Refused(8, 0);
+    }
+    if n < 1 {
+        return Checked::Refused(8, 0);
+    }
+    if TABLE_LIMIT < n {
+        return Checked::Refused(8, 0);
+    }
+    Checked::Passed
+}
+
+// Has record i a kind that there is, a 0 in its last byte, and groups of the table, which has n?
+fn well_formed(n: usize, types: &[u8], i: usize) -> bool
+    requires { ⌜ i < type-count (now types) ⌝ }
+    ensures { λ a. ⌜ a ≡ ok9 n (now (types .entry)) i ⌝ }
+{
+    types::kind_at(types, i) <= FUNCTION
+        && (types[TYPE_WIDTH * i + 3] == 0
+            && (wide(types::reader_at(types, i).0) < n && wide(types::indirect_at(types, i).0) < n))
+}
+
+// 9. Kind at most 3, byte 3 equal to 0, groups in table?
+pub fn question_9(groups: &[u8], types: &[u8]) -> Checked
+    ensures { λ a. ⌜ said a ≡ q9 (now (groups .entry)) (now (types .entry)) ⌝ }
+{
+    let n = lattice::row_count(groups);
+    let m = types::type_count(types);
+    let mut i: usize = 0;
+    while i < m {
+        if !well_formed(n, types, i) {
+            return Checked::Refused(9, i);
+        }
+        i += 1;
+    }
+    Checked::Passed
+}
+
+// Is ir ⊑ r in record i?
+fn secure(groups: &[u8], types: &[u8], i: usize) -> bool
+    requires { ⌜ i < type-count (now types) ⌝ }
+    ensures { λ a. ⌜ a ≡ ok10 (now (groups .entry)) (now (types .entry)) i ⌝ }
+{
+    types::indirect_at(types, i).within(groups, types::reader_at(types, i))
+}
+
+// 10. ir ⊑ r?
+pub fn question_10(groups: &[u8], types: &[u8]) -> Checked
+    ensures { λ a. ⌜ said a ≡ q10 (now (groups .entry)) (now (types .entry)) ⌝ }
+{
+    let m = types::type_count(types);
+    let mut i: usize = 0;
+    while i < m {
+        if !secure(groups, types, i) {
+            return Checked::Refused(10, i);
+        }
+        i += 1;
+    }
+    Checked::Passed
+}
+
+// The start of the outermost type that record i belongs to.
+fn start_of(pending: usize, start: usize, i: usize) -> usize
+    ensures { λ a. ⌜ a ≡ cond (eqb pending 0) i start ⌝ }
+{
+    if pending == 0 { i } else { start }
+}
+
+// 11. Does the last type end with the table? One pass: an unfinished type would await the records past the end, at any depth.
+pub fn question_11(types: &[u8]) -> Checked
+    ensures { λ a. ⌜ said a ≡ q11 (now (types .entry)) ⌝ }
+{
+    let m = types::type_count(types);
+    let mut start: usize = 0;
+    let mut pending: usize = 0;
+    let mut i: usize = 0;
+    while i < m {
+        start = start_of(pending, start, i);
+        pending = types::pending_after(types, i, pending);
+        i += 1;
+    }
+    if pending == 0 {
+        return Checked::Passed;
+    }
+    Checked::Refused(11, start)
+}
+
+// Does a type that starts at `start` end at `end`, having too many records?
+fn too_long(pending: usize, start: usize, end: usize) -> bool
+    requires { ⌜ start ≤ end ⌝ }
+    ensures { λ a. ⌜ a ≡ (eqb pending 0 && ltb type-limit (end - start)) ⌝ }
+{
+    pending == 0 && TYPE_LIMIT < end - start
+}
+
+// 12. Has every type at most 63 records?
+pub fn question_12(types: &[u8]) -> Checked
+    ensures { λ a. ⌜ said a ≡ q12 (now (types .entry)) ⌝ }
+{
+    let m = types::type_count(types);
+    let mut start: usize = 0;
+    let mut pending: usize = 0;
+    let mut i: usize = 0;
+    while i < m {
+        start = start_of(pending, start, i);
+        pending = types::pending_after(types, i, pending);
+        i += 1;
+        if too_long(pending, start, i) {
+            return Checked::Refused(12, start);
+        }
+    }
+    Checked::Passed
+}
+
+// Questions 2 to 12, in order.
+pub fn types_check(groups: &[u8], types: &[u8]) -> Checked
+    ensures { λ a. ⌜ said a ≡ types-check (now (groups .entry)) (now (types .entry)) ⌝ }
+{
+    let a7 = groups_table::groups_check(groups);
+    let Checked::Passed = a7 else {
+        return a7;
+    };
+    let a8 = question_8(types);
+    let Checked::Passed = a8 else {
+        return a8;
+    };
+    let a9 = question_9(groups, types);
+    let Checked::Passed = a9 else {
+        return a9;
+    };
+    let a10 = question_10(groups, types);
+    let Checked::Passed = a10 else {
+        return a10;
+    };
+    let a11 = question_11(types);
+    let Checked::Passed = a11 else {
+        return a11;
+    };
+    question_12(types)
+}
+
+// A refusal, as an answer to 'at or below'.
+fn refused(a: Checked) -> Ordered
+    ensures { λ x. ⌜ x ≡ refusal a ⌝ }
+{
+    match a {
+        Checked::Passed => Ordered::Answered(false),
+        Checked::Refused(question, place) => Ordered::Refused(question, place),
+    }
+}
+
+// At or below, of two type indexes: questions 2 to 12 and 25, and the walk. The indexes are compared as they come, before they
+// are narrowed.
+pub fn compare(groups: &[u8], types: &[u8], i: u64, j: u64) -> Ordered
+    ensures { λ a. ⌜ answered a ≡ at-or-below (now (groups .entry)) (now (types .entry)) i j ⌝ }
+{
+    let a = types_check(groups, types);
+    let Checked::Passed = a else {
+        return refused(a);
+    };
+    let m = types::type_count(types) as u64;
+    if m <= i {
+        return Ordered::Refused(25, 0);
+    }
+    if m <= j {
+        return Ordered::Refused(25, 1);
+    }
+    let x = TYPE_WIDTH * (i as usize);
+    let y = TYPE_WIDTH * (j as usize);
+    Ordered::Answered(subtyping::is_subtype(groups, &types[x..], &types[y..]))
+}
