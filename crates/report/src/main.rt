@@ -14,10 +14,10 @@ ghost use Rattle.rules.specs.Report.{value-text, run-text, report};
 ghost use Rattle.text.specs.Written.{Written};
 ghost use Rattle.report.specs.declared.Loaded.the-variants.{Bytes};
 ghost use Rattle.report.specs.Room.{value-room, run-room, report-room};
+use inference::Found;
 use libc::STDOUT_FILENO;
 use reduction::RunAnswer;
 use sheet::Sheet;
-use typing::Found;
 
 const WIDTH: usize = 6;
 

@@ -20,8 +20,8 @@ use Rattle.rules.proofs.TypeTables.{passes, standing, every-short}
 use Rattle.types_table.proofs.Questions.{all-yes}
 use Rattle.script.specs.Check.{terms-check}
 use Rattle.script.proofs.Asked.{script-check-is, Terms-pass, terms-pass}
-use Rattle.typing.specs.Operands.{Formed}
-use Rattle.typing.specs.Memory.{high, Holds, Table, Ready}
+use Rattle.inference.specs.Operands.{Formed}
+use Rattle.inference.specs.Memory.{high, Holds, Table, Ready}
 use Rattle.rules.proofs.Asked.{and-then}
 
 -- the types table

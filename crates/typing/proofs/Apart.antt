@@ -9,9 +9,9 @@ use Rattle.calculus.specs.Terms.{first, second, Term, var, unit, lam, pair, inj
 use Rattle.rules.specs.Answer.{Answer, accepted, refused, _>>=_ as bind, _>>_ as then}
 use Rattle.rules.specs.Script.{size}
 use Rattle.rules.specs.Typing.{left, right, q20, q21, q22, typing}
-use Rattle.typing.specs.Operands.{operand-count}
+use Rattle.inference.specs.Operands.{operand-count}
 use Rattle.records.specs.Operands.{first-operand, second-operand}
-use Rattle.typing.specs.Stages.{leaf-type, before-first, first-context, wanting, reads, after-one, between, second-context, after-two}
+use Rattle.inference.specs.Stages.{leaf-type, before-first, first-context, wanting, reads, after-one, between, second-context, after-two}
 
 then-assoc : {A : Type 0} (a b : Answer (Unit {0})) (c : Answer A) → then a (then b c) ≡ then (then a b) c
 then-assoc (accepted tt) b c = refl

@@ -13,9 +13,10 @@ use Rattle.rules.proofs.Nodes.{operand-at}
 use Rattle.rules.proofs.PrefixLaws.{encode-length}
 use Rattle.rules.proofs.TermCode.{term-code, term-operands}
 use Rattle.records.specs.Place.{At}
-use Rattle.typing.specs.Operands.{operand-count, Formed}
+use Rattle.inference.specs.Operands.{operand-count, Formed}
 use Rattle.records.specs.Operands.{first-operand, second-operand, third-operand}
-use Rattle.typing.specs.Stages.{first-context, second-context, kept-front, kept-between}
+use Rattle.inference.specs.Stages.{first-context, second-context, kept-front}
+use Rattle.typing.specs.Parts.{kept-between}
 
 at-operand : (s : Bytes) (e : Term) → s ≡ encode e → (i : ℕ) (before : List Term) (d : Term) (after : List Term) → term-operands e ≡ before ++ d ∷ after
     → i ≡ 1 + total size before → At s i d

@@ -1,8 +1,3 @@
-pub mod Front
-pub mod Regions
-pub mod Shapes
-pub mod Rules
-pub mod Names
 pub mod Apart
 pub mod Below
 pub mod Steps

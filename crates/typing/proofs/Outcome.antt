@@ -25,10 +25,10 @@ use Rattle.answer.specs.declared.Checked.the-variants as checked
 use Rattle.answer.proofs.Checked.{the-type as checked-type}
 use Rattle.script.specs.Check.{terms-check}
 use Rattle.script.proofs.Asked.{script-check-is}
-use Rattle.typing.specs.Memory.{Meets, finds, refuses}
+use Rattle.inference.specs.Memory.{Meets, finds, refuses}
 use Rattle.typing.specs.Answered.{answered, refusal}
-use Rattle.typing.specs.declared.Found.{Found}
-use Rattle.typing.specs.declared.Found.the-variants.{Refused}
+use Rattle.inference.specs.declared.Found.{Found}
+use Rattle.inference.specs.declared.Found.the-variants.{Refused}
 
 -- ---- the questions before typing have numbers below 20
 

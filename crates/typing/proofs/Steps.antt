@@ -14,18 +14,19 @@ use Rattle.rules.specs.Types.{type-at, type-count}
 use Rattle.rules.specs.Script.{encode, size, depth, kind, r, ir, number}
 use Rattle.rules.specs.Typing.{left, right, q22, typing}
 use Rattle.types.specs.Held.{Held, Starts, kind-of, right-of}
-use Rattle.typing.specs.Operands.{operand-count, Formed}
+use Rattle.inference.specs.Operands.{operand-count, Formed}
 use Rattle.records.specs.Operands.{first-operand, second-operand, third-operand}
-use Rattle.typing.specs.Memory.{high, Sized, Holds, Meets, finds, refuses, Ready, Entered, Enters, enters, stops, Named, Beside, Some-sides}
-use Rattle.typing.specs.Stages.{before-first, first-context, kept-front, after-one, between, second-context, after-two, wanting, One, Some, Aside, Passes, passes, denies, Two, kept-between}
-use Rattle.typing.specs.declared.Found.{Found}
-use Rattle.typing.specs.declared.Found.the-variants.{Typed, Refused}
-use Rattle.typing.proofs.Found.{the-type}
-use Rattle.typing.proofs.Front.{right-is}
-use Rattle.typing.proofs.Regions.{high-drop, lent-rest, drop-lent, length-lent, high-lent, high-within, sized-lent, rebase}
-use Rattle.typing.proofs.Shapes.{of-fields, depth-positive}
-use Rattle.typing.proofs.Rules.{meets-of, Typed-as, typed-as, refused-as, refused-meets, read-two}
-use Rattle.typing.proofs.Names.{named, case-index}
+use Rattle.inference.specs.Memory.{high, Sized, Holds, Meets, finds, refuses, Ready, Entered, Enters, enters, stops, Named, Beside, Some-sides}
+use Rattle.inference.specs.Stages.{before-first, first-context, kept-front, after-one, between, second-context, after-two, wanting, One, Some, Aside, Passes, passes, denies, Two}
+use Rattle.typing.specs.Parts.{kept-between}
+use Rattle.inference.specs.declared.Found.{Found}
+use Rattle.inference.specs.declared.Found.the-variants.{Typed, Refused}
+use Rattle.inference.proofs.Found.{the-type}
+use Rattle.inference.proofs.Front.{right-is}
+use Rattle.inference.proofs.Regions.{high-drop, lent-rest, drop-lent, length-lent, high-lent, high-within, sized-lent, rebase}
+use Rattle.inference.proofs.Shapes.{of-fields, depth-positive}
+use Rattle.inference.proofs.Rules.{meets-of, Typed-as, typed-as, refused-as, refused-meets, read-two}
+use Rattle.inference.proofs.Names.{named, case-index}
 use Rattle.typing.proofs.Apart.{after-second, stops-before, stops-first, one-typed, first-typed, second-typed, branch-typed}
 use Rattle.typing.proofs.Below.{first-smaller, second-smaller, third-smaller, first-formed, second-formed, third-formed, first-room, second-room, several-front, branch-binders, is-case}
 

@@ -1,10 +1,12 @@
--- The document's answer of a check: the type's record count, or the question's number and the place.
+-- The document's answer of a check: the type's record count, or the question's number and the place; and what it hands over.
 use Prim.Native.Nat.{ℕ}
-use Rattle.rules.specs.Answer.{Answer, accepted, refused}
+use Rattle.calculus.specs.Types.{Ty}
+use Rattle.rules.specs.Answer.{Bytes, Answer, accepted, refused}
 use Rattle.answer.specs.declared.Checked.{Checked}
 use Rattle.answer.specs.declared.Checked.the-variants as checked
-use Rattle.typing.specs.declared.Found.{Found}
-use Rattle.typing.specs.declared.Found.the-variants.{Typed, Refused}
+use Rattle.inference.specs.Memory.{Meets}
+use Rattle.inference.specs.declared.Found.{Found}
+use Rattle.inference.specs.declared.Found.the-variants.{Typed, Refused}
 
 abbrev pub answered : Found → Answer ℕ
 answered (Typed n) = accepted n
@@ -14,3 +16,9 @@ answered (Refused question place) = refused question place
 abbrev pub refusal : Checked → Found
 refusal checked.Passed = Refused 0 0
 refusal (checked.Refused question place) = Refused question place
+
+-- what an answer hands over
+pub record Answers (x : Found) (w : Bytes) : Type 0 where
+  pub old : Bytes
+  pub answer : Answer Ty
+  pub meets : Meets answer 0 old x w

@@ -1,4 +1,2 @@
-pub mod Operands
-pub mod Memory
-pub mod Stages
+pub mod Parts
 pub mod Answered

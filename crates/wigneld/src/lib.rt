@@ -15,9 +15,9 @@ ghost use Rattle.reduction.specs.Runs.{run-reported};
 ghost use Rattle.sheet.specs.Said.{reported};
 ghost use Rattle.packing.specs.Packed.{packed, run-ended, steps-after, Bounded, Run-counted};
 ghost use Rattle.wigneld.specs.Exported.{steps-told, Demanded};
+use inference::Found;
 use reduction::RunAnswer;
 use sheet::Sheet;
-use typing::Found;
 
 // A found type's record count, or the refusal.
 fn found(a: Found) -> u64

@@ -11,14 +11,15 @@ use Rattle.rules.specs.Types.{type-at}
 use Rattle.rules.specs.Script.{number, encode, size}
 use Rattle.rules.specs.Typing.{right, q22, typing}
 use Rattle.types.specs.Held.{right-of}
-use Rattle.typing.specs.Operands.{operand-count}
+use Rattle.inference.specs.Operands.{operand-count}
 use Rattle.records.specs.Operands.{first-operand, second-operand, third-operand}
-use Rattle.typing.specs.Memory.{Sized, Meets, Ready, Enters}
-use Rattle.typing.specs.Stages.{first-context, kept-front, second-context, Leaf, Some, kept-between}
+use Rattle.inference.specs.Memory.{Sized, Meets, Ready, Enters}
+use Rattle.inference.specs.Stages.{first-context, kept-front, second-context, Leaf, Some}
+use Rattle.typing.specs.Parts.{kept-between}
 use Rattle.types.proofs.Parts.{to-end}
-use Rattle.typing.proofs.Regions.{entered}
-use Rattle.typing.proofs.Shapes.{long, counted-of}
-use Rattle.typing.proofs.Rules.{meets-of}
+use Rattle.inference.proofs.Regions.{entered}
+use Rattle.inference.proofs.Shapes.{long, counted-of}
+use Rattle.inference.proofs.Rules.{meets-of}
 use borrow.Author.Needs.{needs}
 use borrow.Rule.Slice.PartMut.{putMid, same-len-mid}
 use Rattle.records.specs.Place.{At}
@@ -32,19 +33,19 @@ use Rattle.typing.proofs.type_node.Reads as type-node
 use Rattle.typing.proofs.type_node.Kinds as type-node-kinds
 use Rattle.typing.proofs.+type_node.Lts-type_node as type-node-lts
 use Rattle.types.proofs.indirect.Reads as indirect-reads
-use Rattle.typing.proofs.done.Reads as done-reads
-use Rattle.typing.proofs.ends.Reads as ends-reads
-use Rattle.typing.proofs.enter.Reads as enter-reads
-use Rattle.typing.proofs.index.Reads as index-reads
+use Rattle.inference.proofs.done.Reads as done-reads
+use Rattle.inference.proofs.ends.Reads as ends-reads
+use Rattle.inference.proofs.enter.Reads as enter-reads
+use Rattle.inference.proofs.index.Reads as index-reads
 use Rattle.typing.proofs.kept_between.Reads as kept-between-reads
-use Rattle.typing.proofs.kept_front.Reads as kept-front-reads
-use Rattle.typing.proofs.last.Reads as last-reads
-use Rattle.typing.proofs.leaf.Reads as leaf-reads
-use Rattle.typing.proofs.middle.Reads as middle-reads
+use Rattle.inference.proofs.kept_front.Reads as kept-front-reads
+use Rattle.inference.proofs.last.Reads as last-reads
+use Rattle.inference.proofs.leaf.Reads as leaf-reads
+use Rattle.inference.proofs.middle.Reads as middle-reads
 use Rattle.typing.proofs.operand.Reads as operand-reads
 use Rattle.typing.proofs.operand_end.Reads as operand-end-reads
 use Rattle.typing.proofs.operands.Reads as operands-reads
-use Rattle.typing.proofs.turn.Reads as turn-reads
+use Rattle.inference.proofs.turn.Reads as turn-reads
 use Rattle.typing.proofs.+type_node.{statement}
 use Rattle.typing.proofs.+type_node.Tie.{close}
 

@@ -5,8 +5,8 @@ use Rattle.rules.specs.Types.{encode-type}
 use Rattle.rules.specs.Calls.{answer-after}
 use Rattle.memory.specs.Splice.{splice}
 use Rattle.memory.proofs.Laws.{splice-front}
-use Rattle.typing.proofs.Front.{held-long, held-bytes}
-use Rattle.typing.proofs.Rules.{Typed-as, typed-as, refused-as}
+use Rattle.inference.proofs.Front.{held-long, held-bytes}
+use Rattle.inference.proofs.Rules.{Typed-as, typed-as, refused-as}
 use borrow.Author.Needs.{needs}
 use Rattle.typing.proofs.hand_over.Statement.{statement}
 use Rattle.typing.proofs.hand_over.Tie as tie

@@ -9,7 +9,7 @@ use Rattle.rules.specs.Script.{size}
 use Rattle.rules.proofs.PrefixLaws.{unique}
 use Rattle.rules.proofs.TermCode.{term-prefix}
 use Rattle.records.specs.Place.{At}
-use Rattle.typing.specs.Stages.{Operand-at}
+use Rattle.typing.specs.Parts.{Operand-at}
 use borrow.Author.Needs.{needs}
 use Rattle.typing.proofs.operand_end.Statement.{statement}
 use Rattle.typing.proofs.operand_end.Tie as tie

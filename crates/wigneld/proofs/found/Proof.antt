@@ -1,6 +1,6 @@
 -- `found` meets its contract.
 use mathlib.Core.Path.{sym, ap, subst, _∙_}
-use Rattle.typing.specs.declared.Found.{Found}
+use Rattle.inference.specs.declared.Found.{Found}
 use Rattle.typing.specs.Answered.{answered}
 use Rattle.packing.specs.Packed.{packed, Bounded}
 use Rattle.packing.proofs.Exported.{place-fits}

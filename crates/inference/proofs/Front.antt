@@ -1,0 +1,68 @@
+-- What a list that starts with a type has at its front.
+use mathlib.Core.Path.{_≡_, refl, ap, _∙_}
+use mathlib.Core.List.{_++_}
+use Prim.Native.Nat.{ℕ, _+_, _-_, _*_, _≤_}
+use native.Mathlib.Omega.{arith}
+use lib.ListN.{length, take, drop, length-append}
+use lib.Seq.{take-at}
+use Rattle.calculus.specs.Security.{Security}
+use Rattle.calculus.specs.Types.{Ty, one, node, sizeT, raiseT}
+use Rattle.rules.specs.Answer.{Bytes}
+use Rattle.rules.specs.Types.{encode-type}
+use Rattle.rules.specs.Typing.{left, right}
+use Rattle.types.specs.Held.{Held, Starts, kind-of, left-of, right-of}
+use Rattle.inference.specs.Memory.{Slot, Sized}
+use Rattle.types.proofs.Parts.{type-length, right-held, same-type}
+
+pub sides-size : (t : Ty) → (kind-of t ≡ 0 → ⊥) → sizeT t ≡ 1 + (sizeT (left-of t) + sizeT (right-of t))
+unfolding sizeT
+sides-size (one k) n = absurd (n refl)
+sides-size (node c k a b) n = refl
+
+-- the sides in the rules' words
+pub left-is : (t : Ty) → (kind-of t ≡ 0 → ⊥) → left t ≡ left-of t
+left-is (one k) n = absurd (n refl)
+left-is (node c k a b) n = refl
+
+pub right-is : (t : Ty) → (kind-of t ≡ 0 → ⊥) → right t ≡ right-of t
+right-is (one k) n = absurd (n refl)
+right-is (node c k a b) n = refl
+
+module _ {l : Bytes} {t : Ty} (h : Held l t) where
+  pub held-long : 4 * sizeT t ≤ length l
+  held-long = omega (arith, ap length (h .is), length-append (encode-type t) (h .rest), type-length t)
+
+  pub held-take : take (4 * sizeT t) l ≡ encode-type t
+  held-take = ap (take (4 * sizeT t)) (h .is) ∙ take-at (encode-type t) (h .rest) (4 * sizeT t) (type-length t)
+
+  -- as the code takes it, with the count of its records
+  pub held-bytes : (n : ℕ) → n ≡ sizeT t → take (4 * n) l ≡ encode-type t
+  held-bytes n e = ap (λ j. take (4 * j) l) e ∙ held-take
+
+-- the right side, where the code starts it
+pub held-right : (l : Bytes) (t : Ty) (at : ℕ) → at ≡ 4 + 4 * sizeT (left-of t) → Held l t → (kind-of t ≡ 0 → ⊥) → Held (drop at l) (right-of t)
+held-right l t at e h n = rw e (right-held t (sizeT (left-of t)) n refl h)
+
+-- the sides' bytes
+pub sides-bytes : (w : Bytes) (t : Ty) → Held w t → (kind-of t ≡ 0 → ⊥) → take (4 * (sizeT t - 1)) (drop 4 w) ≡ encode-type (left-of t) ++ encode-type (right-of t)
+unfolding encode-type sizeT
+sides-bytes w (one k) h n = absurd (n refl)
+sides-bytes w (node c k a b) h n =
+    let l : length (encode-type a ++ encode-type b) ≡ 4 * ((1 + (sizeT a + sizeT b)) - 1) = length-append (encode-type a) (encode-type b) ∙ omega (arith, type-length a, type-length b) in
+    ap (λ x. take (4 * ((1 + (sizeT a + sizeT b)) - 1)) (drop 4 x)) (h .is) ∙ take-at (encode-type a ++ encode-type b) (h .rest) (4 * ((1 + (sizeT a + sizeT b)) - 1)) l
+
+-- a raised type has as many records
+pub size-raised : (S : Security) (t : Ty) (m : ℕ) → sizeT (raiseT S t m) ≡ sizeT t
+unfolding sizeT
+size-raised S (one k) m = refl
+size-raised S (node c k a b) m = refl
+
+pub slot-starts : {l : Bytes} {t : Ty} → Slot l t → Starts l
+slot-starts {l} {t} s = record { type = t; held = s .held }
+
+pub sized-slot : {l : Bytes} {n : ℕ} {t : Ty} → Sized l n t → Slot l t
+sized-slot s = record { held = s .held; small = s .small }
+
+-- two types in front of one list
+pub two-of : {l : Bytes} {u t : Ty} → Held l u → (kind-of u ≡ 0 → ⊥) → Held l t → kind-of t ≡ 0 → ⊥
+two-of {l} {u} {t} hu n ht z = n (ap kind-of (same-type hu ht) ∙ z)

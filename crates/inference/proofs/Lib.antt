@@ -1,0 +1,5 @@
+pub mod Shapes
+pub mod Front
+pub mod Regions
+pub mod Rules
+pub mod Names

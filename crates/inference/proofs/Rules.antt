@@ -1,0 +1,279 @@
+-- What the rule functions ask, and what they leave in the work buffer.
+use mathlib.Core.Path.{_≡_, refl, sym, ap, _∙_, subst}
+use mathlib.Core.Bool.{Bool, true, false, cond}
+use mathlib.Core.List.{List, [], _∷_, _++_}
+use Prim.Native.Nat.{ℕ, _+_, _*_, _≤_, _<_}
+use native.Mathlib.Omega.{arith}
+use borrow.Author.Tests.{le-leb, lt-leb}
+use denote.Enum.Declared.{tagOf}
+use lib.ListN.{length, drop, length-append}
+use lib.Seq.{drop-at}
+use Rattle.calculus.specs.Security.{Property, Security}
+use Rattle.calculus.specs.Types.{Former, sum, product, function, Ty, one, node, sizeT, same, top, raiseT}
+use Rattle.calculus.specs.Subtyping.{subtype, below}
+use Rattle.rules.specs.Answer.{Bytes, Answer, accepted, refused, _>>_, ask}
+use Rattle.rules.specs.Types.{former-kind, encode-type}
+use Rattle.rules.specs.Typing.{has-form, left, right, q21, q24}
+use Rattle.types.specs.Held.{kind-of}
+use Rattle.subtyping.specs.Compared.{compared}
+use Rattle.subtyping.specs.declared.Compared.{Compared}
+use Rattle.subtyping.specs.declared.Compared.the-variants.{Related, Unrelated}
+use Rattle.subtyping.proofs.Compared.{the-type as compared-type}
+use Rattle.memory.specs.Splice.{splice}
+use Rattle.memory.proofs.Laws.{join-before, join-after}
+use Rattle.calculus.specs.Terms.{Term}
+use Rattle.inference.specs.Memory.{Sized, Wrote, Meets, finds, refuses, Says, agrees, denies, Entered, Enters, enters, stops}
+use Rattle.inference.specs.Operands.{operand-count}
+use Rattle.inference.specs.Stages.{wanting, may-read, function-type, pair-type, Aside, Passes, passes, denies as passes-denies, Set-aside, aside, fails}
+use Rattle.inference.specs.declared.Found.{Found}
+use Rattle.inference.specs.declared.Found.the-variants.{Typed, Refused}
+use Rattle.inference.proofs.Found.{the-type}
+use Rattle.inference.proofs.Front.{size-raised}
+use Rattle.types.proofs.Parts.{type-length}
+use Rattle.inference.proofs.Regions.{high-past, wrote-first}
+
+-- question 22
+pub wanting-yes : (S : Security) (p : ℕ) (t u x : Ty) → true ≡ subtype S below t u → wanting S p t u x ≡ accepted x
+wanting-yes S p t u x e = ap (λ q. _>>_ (ask 22 p q) (accepted x)) (sym e)
+
+pub wanting-no : (S : Security) (p : ℕ) (t u x : Ty) → false ≡ subtype S below t u → wanting S p t u x ≡ refused 22 p
+wanting-no S p t u x e = ap (λ q. _>>_ (ask 22 p q) (accepted x)) (sym e)
+
+-- questions 20 and 21
+differ : (c d : Former) → (former-kind d ≡ former-kind c → ⊥) → same c d ≡ false
+differ sum sum n = absurd (n refl)
+differ sum product n = refl
+differ sum function n = refl
+differ product sum n = refl
+differ product product n = absurd (n refl)
+differ product function n = refl
+differ function sum n = refl
+differ function product n = refl
+differ function function n = absurd (n refl)
+
+agree : (c d : Former) → former-kind d ≡ former-kind c → same c d ≡ true
+agree sum sum n = refl
+agree sum product n = absurd (omega arith)
+agree sum function n = absurd (omega arith)
+agree product sum n = absurd (omega arith)
+agree product product n = refl
+agree product function n = absurd (omega arith)
+agree function sum n = absurd (omega arith)
+agree function product n = absurd (omega arith)
+agree function function n = refl
+
+pub former-not-unit : (f : Former) → former-kind f ≡ 0 → ⊥
+former-not-unit sum e = omega arith
+former-not-unit product e = omega arith
+former-not-unit function e = omega arith
+
+pub form-no : (f : Former) (t : Ty) → (kind-of t ≡ former-kind f → ⊥) → has-form f t ≡ false
+form-no f (one k) n = refl
+form-no f (node d k a b) n = differ f d n
+
+pub form-yes : (f : Former) (t : Ty) → kind-of t ≡ former-kind f → has-form f t ≡ true
+form-yes f (one k) e = absurd (former-not-unit f (sym e))
+form-yes f (node d k a b) e = agree f d e
+
+same-kind : (c d : Former) → same c d ≡ true → former-kind d ≡ former-kind c
+same-kind sum sum e = refl
+same-kind sum product e = let z : _≡_ {A = ℕ} 0 1 = cc in absurd (omega arith)
+same-kind sum function e = let z : _≡_ {A = ℕ} 0 1 = cc in absurd (omega arith)
+same-kind product sum e = let z : _≡_ {A = ℕ} 0 1 = cc in absurd (omega arith)
+same-kind product product e = refl
+same-kind product function e = let z : _≡_ {A = ℕ} 0 1 = cc in absurd (omega arith)
+same-kind function sum e = let z : _≡_ {A = ℕ} 0 1 = cc in absurd (omega arith)
+same-kind function product e = let z : _≡_ {A = ℕ} 0 1 = cc in absurd (omega arith)
+same-kind function function e = refl
+
+form-kind : (f : Former) (t : Ty) → has-form f t ≡ true → kind-of t ≡ former-kind f
+form-kind f (one k) e = let z : _≡_ {A = ℕ} 0 1 = cc in absurd (omega arith)
+form-kind f (node d k a b) e = same-kind f d e
+
+module _ (S : Security) (p : ℕ) (f : Former) (t : Ty) (w : ℕ) where
+  pub reads-20 : (kind-of t ≡ former-kind f → ⊥) → may-read S p f t w ≡ refused 20 p
+  reads-20 n = ap (λ q. _>>_ (ask 20 p q) (q21 S p t w)) (form-no f t n)
+
+  reads-21 : kind-of t ≡ former-kind f → (b : Bool) → S .permits (top t) w ≡ b → may-read S p f t w ≡ ask 21 p b
+  reads-21 e b q = ap (λ x. _>>_ (ask 20 p x) (q21 S p t w)) (form-yes f t e) ∙ ap (ask 21 p) q
+
+  pub reads-yes : kind-of t ≡ former-kind f → S .permits (top t) w ≡ true → may-read S p f t w ≡ accepted tt
+  reads-yes e q = reads-21 e true q
+
+  pub reads-no : kind-of t ≡ former-kind f → S .permits (top t) w ≡ false → may-read S p f t w ≡ refused 21 p
+  reads-no e q = reads-21 e false q
+
+  form-cases : (a b : Bool) → _>>_ (ask 20 p a) (ask 21 p b) ≡ accepted tt → a ≡ true
+  form-cases true b e = refl
+  form-cases false b e = let z : _≡_ {A = ℕ} 0 1 = cc in absurd (omega arith)
+
+  pub read-kind : may-read S p f t w ≡ accepted tt → kind-of t ≡ former-kind f
+  read-kind e = form-kind f t (form-cases (has-form f t) (S .permits (top t) w) e)
+
+  pub read-two : may-read S p f t w ≡ accepted tt → kind-of t ≡ 0 → ⊥
+  read-two e z = former-not-unit f (sym (read-kind e) ∙ z)
+
+pub says : {a : Answer (Unit {0})} {n : ℕ} {x : Found} → a ≡ accepted tt → x ≡ Typed n → Says a n x
+says {a} {n} {x} e q = subst (λ y. Says a n y) (sym q) (subst (λ y. Says y n (Typed n)) (sym e) agrees)
+
+pub says-no : {a : Answer (Unit {0})} {q p n : ℕ} → a ≡ refused q p → Says a n (Refused q p)
+says-no {a} {q} {p} {n} e = subst (λ y. Says y n (Refused q p)) (sym e) denies
+
+-- what an answer says
+pub said-yes : {a : Answer (Unit {0})} {n : ℕ} {x : Found} → tagOf the-type x ≡ 0 → Says a n x → a ≡ accepted tt
+said-yes e agrees = refl
+said-yes e denies = absurd (omega arith)
+
+pub meets-of : {o o′ : Answer Ty} {b : ℕ} {w : Bytes} {x : Found} {v : Bytes} → o ≡ o′ → Meets o′ b w x v → Meets o b w x v
+meets-of {b = b} {w = w} {x = x} {v = v} e m = subst (λ y. Meets y b w x v) (sym e) m
+
+-- question 24
+pub node-size : (f : Former) (k : Property) (s t : Ty) → sizeT (node f k s t) ≡ 1 + (sizeT s + sizeT t)
+unfolding sizeT
+node-size f k s t = refl
+
+pub fits-yes : (p : ℕ) (f : Former) (k : Property) (s t : Ty) → sizeT s + sizeT t ≤ 62
+    → _>>_ (q24 p (node f k s t)) (accepted (node f k s t)) ≡ accepted (node f k s t)
+fits-yes p f k s t l = ap (λ q. _>>_ (ask 24 p q) (accepted (node f k s t))) (le-leb (sizeT (node f k s t)) 63 (omega (arith, node-size f k s t)))
+
+pub fits-no : (p : ℕ) (f : Former) (k : Property) (s t : Ty) → 62 < sizeT s + sizeT t → _>>_ (q24 p (node f k s t)) (accepted (node f k s t)) ≡ refused 24 p
+fits-no p f k s t l = ap (λ q. _>>_ (ask 24 p q) (accepted (node f k s t))) (lt-leb (sizeT (node f k s t)) 63 (omega (arith, node-size f k s t)))
+
+-- a record before two types
+node-front : (f : Former) (k r ir : ℕ) (s t : Ty) (w w₂ w₃ : Bytes) → k ≡ former-kind f → 4 + (4 * sizeT s + 4 * sizeT t) ≤ length w
+    → w₂ ≡ splice 4 (encode-type s ++ encode-type t) w → w₃ ≡ splice 0 (k ∷ r ∷ ir ∷ 0 ∷ []) w₂
+    → w₃ ≡ splice 0 (encode-type (node f (record { r = r; ir = ir }) s t)) w
+unfolding encode-type
+node-front f k r ir s t w w₂ w₃ ek l e₂ e₃ =
+    let m : length (encode-type s ++ encode-type t) ≡ 4 * sizeT s + 4 * sizeT t = length-append (encode-type s) (encode-type t) ∙ omega (arith, type-length s, type-length t) in
+    e₃ ∙ ap (splice 0 (k ∷ r ∷ ir ∷ 0 ∷ [])) e₂ ∙ join-before 0 (k ∷ r ∷ ir ∷ 0 ∷ []) (encode-type s ++ encode-type t) w (omega (arith, m))
+    ∙ ap (λ j. splice 0 (j ∷ r ∷ ir ∷ 0 ∷ (encode-type s ++ encode-type t)) w) ek
+
+module _ (p r ir m n : ℕ) (s t : Ty) {b : ℕ} {w y x : Bytes} (f : sizeT s + sizeT t ≤ 62) (em : m ≡ sizeT s) (en : n ≡ sizeT t)
+    (ex : x ≡ encode-type s) (ey : y ≡ encode-type t) (l : 252 * (b + 1) ≤ length w) where
+  placed : {w₂ w₃ : Bytes} (c : Former) → w₂ ≡ splice 4 (encode-type s ++ encode-type t) w → w₃ ≡ splice 0 (former-kind c ∷ r ∷ ir ∷ 0 ∷ []) w₂
+      → Wrote (node c (record { r = r; ir = ir }) s t) b w (m + n + 1) w₃
+  placed {w₂} {w₃} c z₂ e₃ =
+      let ns = node-size c (record { r = r; ir = ir }) s t in
+      wrote-first (omega (arith, ns)) (omega (arith, ns)) refl l (node-front c (former-kind c) r ir s t w w₂ w₃ refl (omega arith) z₂ e₃)
+
+  -- the second type is moved first
+  pub function-meets : {w₁ w₂ w₃ : Bytes} → w₁ ≡ splice (4 + 4 * m) y w → w₂ ≡ splice 4 x w₁ → w₃ ≡ splice 0 (3 ∷ r ∷ ir ∷ 0 ∷ []) w₂
+      → Meets (function-type p (record { r = r; ir = ir }) s t) b w (Typed (m + n + 1)) w₃
+  function-meets {w₁} {w₂} {w₃} e₁ e₂ e₃ =
+      let ls : length (encode-type s) ≡ 4 * sizeT s = type-length s in
+      let lt : length (encode-type t) ≡ 4 * sizeT t = type-length t in
+      let a : 4 + 4 * m ≡ 4 + length (encode-type s) = omega arith in
+      let z₂ : w₂ ≡ splice 4 (encode-type s ++ encode-type t) w =
+      e₂ ∙ ap (λ u. splice 4 u w₁) ex
+      ∙ ap (splice 4 (encode-type s)) (e₁ ∙ ap (λ u. splice (4 + 4 * m) u w) ey ∙ ap (λ j. splice j (encode-type t) w) a)
+      ∙ join-before 4 (encode-type s) (encode-type t) w (omega arith) in
+      meets-of (fits-yes p function (record { r = r; ir = ir }) s t f) (finds (placed function z₂ e₃))
+
+  -- the first one is
+  pub pair-meets : {w₁ w₂ w₃ : Bytes} → w₁ ≡ splice 4 x w → w₂ ≡ splice (4 + 4 * m) y w₁ → w₃ ≡ splice 0 (2 ∷ r ∷ ir ∷ 0 ∷ []) w₂
+      → Meets (pair-type p (record { r = r; ir = ir }) s t) b w (Typed (m + n + 1)) w₃
+  pair-meets {w₁} {w₂} {w₃} e₁ e₂ e₃ =
+      let ls : length (encode-type s) ≡ 4 * sizeT s = type-length s in
+      let lt : length (encode-type t) ≡ 4 * sizeT t = type-length t in
+      let a : 4 + 4 * m ≡ 4 + length (encode-type s) = omega arith in
+      let z₂ : w₂ ≡ splice 4 (encode-type s ++ encode-type t) w =
+      e₂ ∙ ap (λ u. splice (4 + 4 * m) u w₁) ey ∙ ap (λ j. splice j (encode-type t) w₁) a
+      ∙ ap (splice (4 + length (encode-type s)) (encode-type t)) (e₁ ∙ ap (λ u. splice 4 u w) ex)
+      ∙ join-after 4 (4 + length (encode-type s)) (encode-type s) (encode-type t) w refl (omega arith) in
+      meets-of (fits-yes p product (record { r = r; ir = ir }) s t f) (finds (placed product z₂ e₃))
+
+-- another record before the sides of a type
+pub other-record : (u : Ty) (r ir : ℕ) (w : Bytes) → (kind-of u ≡ 0 → ⊥)
+    → splice 0 (1 ∷ r ∷ ir ∷ 0 ∷ []) (splice 0 (encode-type u) w) ≡ splice 0 (encode-type (node sum (record { r = r; ir = ir }) (left u) (right u))) w
+unfolding encode-type
+other-record (one k) r ir w n = absurd (n refl)
+other-record (node f k a b) r ir w n = refl
+
+pub other-size : (u : Ty) (k : Property) → (kind-of u ≡ 0 → ⊥) → sizeT (node sum k (left u) (right u)) ≡ sizeT u
+unfolding sizeT
+other-size (one j) k n = absurd (n refl)
+other-size (node f j a b) k n = refl
+
+-- the front, raised in place
+pub raise-wrote : (S : Security) (g : ℕ) {t : Ty} {b n : ℕ} {w w₁ w₂ : Bytes} (h : Wrote t b w n w₁) → w₂ ≡ encode-type (raiseT S t g) ++ h .sized .held .rest
+    → length w₂ ≡ length w₁ → 252 * (b + 1) ≤ length w₁ → Wrote (raiseT S t g) b w n w₂
+raise-wrote S g {t} {b} {n} {w} {w₁} {w₂} h e m l =
+    let rest = h .sized .held .rest in
+    let z = size-raised S t g in
+    let d : drop (4 * sizeT t) w₂ ≡ drop (4 * sizeT t) w₁ =
+    ap (drop (4 * sizeT t)) e ∙ drop-at (encode-type (raiseT S t g)) rest (4 * sizeT t) (omega (arith, type-length (raiseT S t g)))
+    ∙ sym (ap (drop (4 * sizeT t)) (h .sized .held .is) ∙ drop-at (encode-type t) rest (4 * sizeT t) (type-length t)) in
+    record {
+      sized = record { held = record { rest = rest; is = e }; small = omega (arith, h .sized .small); count = h .sized .count ∙ sym z };
+      kept = high-past (4 * sizeT t) b w₁ w₂ d m (omega (arith, h .sized .small)) ∙ h .kept;
+    }
+
+abbrev pub unchanged : {t : Ty} {b n : ℕ} {w : Bytes} → Sized w n t → Wrote t b w n w
+unchanged s = record { sized = s; kept = refl }
+
+-- ---- answers passed on
+
+pub says-passes : {a : Answer (Unit {0})} {n : ℕ} (k : Answer Ty) {b : ℕ} {w v : Bytes} {x : Found} → tagOf the-type x ≡ 1 → Says a n x → Meets (_>>_ a k) b w x v
+says-passes k e agrees = absurd (omega arith)
+says-passes k e denies = refuses
+
+pub says-refused : {a : Answer (Unit {0})} {n : ℕ} {x : Found} → tagOf the-type x ≡ 1 → Says a n x → (q : ℕ) × (p : ℕ) × (a ≡ refused q p) × (x ≡ Refused q p)
+says-refused e agrees = absurd (omega arith)
+says-refused e (denies {q = q} {p = p}) = (q, p, refl, refl)
+
+-- a type is found
+pub record Typed-as (o : Answer Ty) (b : ℕ) (w : Bytes) (n : ℕ) (v : Bytes) : Type 0 where
+  pub type : Ty
+  pub is : o ≡ accepted type
+  pub wrote : Wrote type b w n v
+
+pub typed-as : {o : Answer Ty} {b : ℕ} {w : Bytes} {x : Found} {n : ℕ} {v : Bytes} → x ≡ Typed n → Meets o b w x v → Typed-as o b w n v
+typed-as {n = n} e (finds {t = t} {b = b} {w = w} {n = m} {w′ = v} h) =
+    let q : m ≡ n = cc in
+    record { type = t; is = refl; wrote = subst (λ j. Wrote t b w j v) q h }
+typed-as e (refuses {q} {p}) = let z : _≡_ {A = ℕ} 0 1 = cc in absurd (omega arith)
+
+-- a refusal is passed on
+pub refused-as : {o : Answer Ty} {b : ℕ} {w : Bytes} {x : Found} {v : Bytes} → tagOf the-type x ≡ 1 → Meets o b w x v → (q : ℕ) × (p : ℕ) × (o ≡ refused q p) × (x ≡ Refused q p)
+refused-as e (finds m) = absurd (omega arith)
+refused-as e (refuses {q = q} {p = p}) = (q, p, refl, refl)
+
+pub refused-meets : {o : Answer Ty} {q p b : ℕ} {w v : Bytes} {x : Found} → o ≡ refused q p → x ≡ Refused q p → Meets o b w x v
+refused-meets {o} {q} {p} {b} {w} {v} {x} e f = subst (λ y. Meets o b w y v) (sym f) (meets-of e refuses)
+
+pub then-found : (a : Answer (Unit {0})) (u t : Ty) → _>>_ a (accepted u) ≡ accepted t → (a ≡ accepted tt) × (u ≡ t)
+then-found (accepted tt) u t e = (refl, (cc))
+then-found (refused q p) u t e = let z : _≡_ {A = ℕ} 0 1 = cc in absurd (omega arith)
+
+pub then-refused : (a : Answer (Unit {0})) (u : Ty) (k : Answer Ty) (q p : ℕ) → _>>_ a (accepted u) ≡ refused q p → _>>_ a k ≡ refused q p
+then-refused (accepted tt) u k q p e = let z : _≡_ {A = ℕ} 0 1 = cc in absurd (omega arith)
+then-refused (refused a b) u k q p e = let x : a ≡ q = cc in let y : b ≡ p = cc in cc
+
+pub enters-of : {A : Answer (Unit {0})} {Γ Γ′ : List Ty} {b : ℕ} {w : Bytes} {c : ℕ} {w′ : Bytes} → A ≡ accepted tt → Γ ≡ Γ′ → Entered Γ′ b w c w′ → Enters A Γ b w (Typed c) w′
+enters-of {A} {Γ} {Γ′} {b} {w} {c} {w′} e f h = subst (λ a. Enters a Γ b w (Typed c) w′) (sym e) (subst (λ g. Enters (accepted tt) g b w (Typed c) w′) (sym f) (enters h))
+
+pub stops-of : {A : Answer (Unit {0})} {Γ : List Ty} {q p b : ℕ} {w w′ : Bytes} → A ≡ refused q p → Enters A Γ b w (Refused q p) w′
+stops-of {A} {Γ} {q} {p} {b} {w} {w′} e = subst (λ a. Enters a Γ b w (Refused q p) w′) (sym e) stops
+
+-- ---- between two operands
+
+pub passes-of : {A : Answer (Unit {0})} {e : Term} {s : Ty} {Γ Γ′ : List Ty} {b : ℕ} {w : Bytes} {n c : ℕ} {w′ : Bytes} → A ≡ accepted tt → Γ ≡ Γ′ → Entered Γ′ b w c w′
+    → Aside e s b w′ n → Passes A e s Γ b w n (Typed c) w′
+passes-of {A} {e} {s} {Γ} {Γ′} {b} {w} {n} {c} {w′} p q h k =
+    subst (λ a. Passes a e s Γ b w n (Typed c) w′) (sym p) (subst (λ g. Passes (accepted tt) e s g b w n (Typed c) w′) (sym q) (passes h k))
+
+pub denies-of : {A : Answer (Unit {0})} {e : Term} {s : Ty} {Γ : List Ty} {q p b : ℕ} {w : Bytes} {n : ℕ} {x : Found} {w′ : Bytes} → A ≡ refused q p → x ≡ Refused q p → Passes A e s Γ b w n x w′
+denies-of {A} {e} {s} {Γ} {q} {p} {b} {w} {n} {x} {w′} a f =
+    subst (λ y. Passes A e s Γ b w n y w′) (sym f) (subst (λ y. Passes y e s Γ b w n (Refused q p) w′) (sym a) passes-denies)
+
+pub front-passes : {a A : Answer (Unit {0})} {e : Term} {s : Ty} {Γ Γ′ : List Ty} {b : ℕ} {w : Bytes} {n : ℕ} {x : Found} → Says a b x → A ≡ a → Γ ≡ Γ′ → Entered Γ′ b w b w
+    → Aside e s b w n → Passes A e s Γ b w n x w
+front-passes agrees p q h k = passes-of p q h k
+front-passes denies p q h k = denies-of p refl
+
+pub slot-passes : {S : Security} {place r : ℕ} {t : Ty} {Γ Γ′ : List Ty} {A : Answer (Unit {0})} {e : Term} {b : ℕ} {w : Bytes} {n : ℕ} {x : Found} {w′ : Bytes}
+    → Set-aside S place r t Γ b w x w′ → A ≡ may-read S place sum t r → Γ′ ≡ left t ∷ Γ → operand-count e ≡ 3 → Passes A e t Γ′ b w n x w′
+slot-passes {t = t} {Γ′ = Γ′} {A = A} {e = e} {b = b} {w = w} {n = n} {x = x} {w′ = w′} (aside ok q h k) p g o =
+    subst (λ y. Passes A e t Γ′ b w n y w′) (sym q) (passes-of (p ∙ ok) g k (record { front = λ z. absurd (omega arith); slot = λ z. h }))
+slot-passes (fails ok q) p g o = denies-of (p ∙ ok) q

@@ -1,0 +1,191 @@
+-- A node's record tells its kind, its fields and its operands.
+use mathlib.Core.Path.{_≡_, refl, sym, ap, _∙_}
+use mathlib.Core.List.{List}
+use Prim.Native.Nat.{ℕ, _≤_}
+use native.Mathlib.Omega.{arith}
+use lib.ListN.{length}
+use Rattle.calculus.specs.Security.{Security}
+use Rattle.calculus.specs.Types.{Ty}
+use Rattle.calculus.specs.Terms.{first, second, Term, var, unit, lam, pair, inj, app, proj, case, protect, mu}
+use Rattle.rules.specs.Answer.{Bytes, accepted}
+use Rattle.rules.specs.Script.{kind, r, ir, number, arity, encode, depth, make}
+use Rattle.rules.proofs.PrefixLaws.{encode-length, size-positive}
+use Rattle.rules.proofs.TermCode.{term-code, two-bytes}
+use Rattle.inference.specs.Operands.{operand-count}
+use Rattle.records.specs.Operands.{first-operand, second-operand, third-operand}
+use Rattle.inference.specs.Stages.{before-first, first-context, kept-front}
+
+pub long : {s : Bytes} (e : Term) → s ≡ encode e → 6 ≤ length s
+long {s} e p = omega (arith, ap length p, encode-length term-code e, size-positive term-code e)
+
+-- a term from its record and its operands
+pub made : (e : Term) → e ≡ make (kind (encode e) 0) (r (encode e) 0) (ir (encode e) 0) (number (encode e) 0) (first-operand e) (second-operand e) (third-operand e)
+unfolding encode
+made (var n) = ap var (sym (two-bytes n))
+made (unit k) = refl
+made (lam k i e) = ap (λ n. lam k n e) (sym (two-bytes i))
+made (pair k a b) = refl
+made (inj first k i e) = ap (λ n. inj first k n e) (sym (two-bytes i))
+made (inj second k i e) = ap (λ n. inj second k n e) (sym (two-bytes i))
+made (app w f a) = refl
+made (proj first w e) = refl
+made (proj second w e) = refl
+made (case w i e a b) = ap (λ n. case w n e a b) (sym (two-bytes i))
+made (protect m e) = refl
+made (mu i e) = ap (λ n. mu n e) (sym (two-bytes i))
+
+-- of a known kind
+pub of-kind : (s : Bytes) (e : Term) (k : ℕ) → s ≡ encode e → kind s 0 ≡ k
+    → e ≡ make k (r s 0) (ir s 0) (number s 0) (first-operand e) (second-operand e) (third-operand e)
+of-kind s e k p q =
+    made e ∙ ap (λ b. make (kind b 0) (r b 0) (ir b 0) (number b 0) (first-operand e) (second-operand e) (third-operand e)) (sym p)
+    ∙ ap (λ n. make n (r s 0) (ir s 0) (number s 0) (first-operand e) (second-operand e) (third-operand e)) q
+
+pub counted : (e : Term) → arity (kind (encode e) 0) ≡ operand-count e
+unfolding arity encode operand-count
+counted (var n) = refl
+counted (unit k) = refl
+counted (lam k i e) = refl
+counted (pair k a b) = refl
+counted (inj first k i e) = refl
+counted (inj second k i e) = refl
+counted (app w f a) = refl
+counted (proj first w e) = refl
+counted (proj second w e) = refl
+counted (case w i e a b) = refl
+counted (protect m e) = refl
+counted (mu i e) = refl
+
+pub counted-of : {s : Bytes} (e : Term) → s ≡ encode e → arity (kind s 0) ≡ operand-count e
+counted-of {s} e p = ap (λ b. arity (kind b 0)) p ∙ counted e
+
+-- which kind is left when the others are ruled out
+unit-left : (e : Term) → operand-count e ≡ 0 → (kind (encode e) 0 ≡ 0 → ⊥) → kind (encode e) 0 ≡ 1
+unfolding encode operand-count
+unit-left (var n) o z = absurd (z refl)
+unit-left (unit k) o z = refl
+unit-left (lam k i e) o z = absurd (omega arith)
+unit-left (pair k a b) o z = absurd (omega arith)
+unit-left (inj d k i e) o z = absurd (omega arith)
+unit-left (app w f a) o z = absurd (omega arith)
+unit-left (proj d w e) o z = absurd (omega arith)
+unit-left (case w i e a b) o z = absurd (omega arith)
+unit-left (protect m e) o z = absurd (omega arith)
+unit-left (mu i e) o z = absurd (omega arith)
+
+pub unit-kind : {s : Bytes} (e : Term) → s ≡ encode e → operand-count e ≡ 0 → (kind s 0 ≡ 0 → ⊥) → kind s 0 ≡ 1
+unit-kind {s} e p o z = ap (λ b. kind b 0) p ∙ unit-left e o (λ q. z (ap (λ b. kind b 0) p ∙ q))
+
+mu-left : (e : Term) → operand-count e ≡ 1 → (kind (encode e) 0 ≡ 2 → ⊥) → (kind (encode e) 0 ≡ 4 → ⊥) → (kind (encode e) 0 ≡ 5 → ⊥) → (kind (encode e) 0 ≡ 7 → ⊥)
+    → (kind (encode e) 0 ≡ 8 → ⊥) → (kind (encode e) 0 ≡ 10 → ⊥) → kind (encode e) 0 ≡ 11
+unfolding encode operand-count
+mu-left (var n) o a b c d f g = absurd (omega arith)
+mu-left (unit k) o a b c d f g = absurd (omega arith)
+mu-left (lam k i e) o a b c d f g = absurd (a refl)
+mu-left (pair k x y) o a b c d f g = absurd (omega arith)
+mu-left (inj first k i e) o a b c d f g = absurd (b refl)
+mu-left (inj second k i e) o a b c d f g = absurd (c refl)
+mu-left (app w x y) o a b c d f g = absurd (omega arith)
+mu-left (proj first w e) o a b c d f g = absurd (d refl)
+mu-left (proj second w e) o a b c d f g = absurd (f refl)
+mu-left (case w i e x y) o a b c d f g = absurd (omega arith)
+mu-left (protect m e) o a b c d f g = absurd (g refl)
+mu-left (mu i e) o a b c d f g = refl
+
+pub mu-kind : {s : Bytes} (e : Term) → s ≡ encode e → operand-count e ≡ 1 → (kind s 0 ≡ 2 → ⊥) → (kind s 0 ≡ 4 → ⊥) → (kind s 0 ≡ 5 → ⊥) → (kind s 0 ≡ 7 → ⊥)
+    → (kind s 0 ≡ 8 → ⊥) → (kind s 0 ≡ 10 → ⊥) → kind s 0 ≡ 11
+mu-kind {s} e p o a b c d f g =
+    let q = ap (λ x. kind x 0) p in
+    q ∙ mu-left e o (λ z. a (q ∙ z)) (λ z. b (q ∙ z)) (λ z. c (q ∙ z)) (λ z. d (q ∙ z)) (λ z. f (q ∙ z)) (λ z. g (q ∙ z))
+
+case-left : (e : Term) → 2 ≤ operand-count e → (kind (encode e) 0 ≡ 3 → ⊥) → (kind (encode e) 0 ≡ 6 → ⊥) → kind (encode e) 0 ≡ 9
+unfolding encode operand-count
+case-left (var n) o a b = absurd (omega arith)
+case-left (unit k) o a b = absurd (omega arith)
+case-left (lam k i e) o a b = absurd (omega arith)
+case-left (pair k x y) o a b = absurd (a refl)
+case-left (inj d k i e) o a b = absurd (omega arith)
+case-left (app w x y) o a b = absurd (b refl)
+case-left (proj d w e) o a b = absurd (omega arith)
+case-left (case w i e x y) o a b = refl
+case-left (protect m e) o a b = absurd (omega arith)
+case-left (mu i e) o a b = absurd (omega arith)
+
+pub case-kind : {s : Bytes} (e : Term) → s ≡ encode e → 2 ≤ operand-count e → (kind s 0 ≡ 3 → ⊥) → (kind s 0 ≡ 6 → ⊥) → kind s 0 ≡ 9
+case-kind {s} e p o a b = let q = ap (λ x. kind x 0) p in q ∙ case-left e o (λ z. a (q ∙ z)) (λ z. b (q ∙ z))
+
+app-left : (e : Term) → operand-count e ≡ 2 → (kind (encode e) 0 ≡ 3 → ⊥) → kind (encode e) 0 ≡ 6
+unfolding encode operand-count
+app-left (var n) o a = absurd (omega arith)
+app-left (unit k) o a = absurd (omega arith)
+app-left (lam k i e) o a = absurd (omega arith)
+app-left (pair k x y) o a = absurd (a refl)
+app-left (inj d k i e) o a = absurd (omega arith)
+app-left (app w x y) o a = refl
+app-left (proj d w e) o a = absurd (omega arith)
+app-left (case w i e x y) o a = absurd (omega arith)
+app-left (protect m e) o a = absurd (omega arith)
+app-left (mu i e) o a = absurd (omega arith)
+
+pub app-kind : {s : Bytes} (e : Term) → s ≡ encode e → operand-count e ≡ 2 → (kind s 0 ≡ 3 → ⊥) → kind s 0 ≡ 6
+app-kind {s} e p o a = let q = ap (λ x. kind x 0) p in q ∙ app-left e o (λ z. a (q ∙ z))
+
+-- no binder over the first operand
+pub record Plain (S : Security) (tab : ℕ → Ty) (Γ : List Ty) (place : ℕ) (e : Term) : Type 0 where
+  pub asked : before-first S tab place e ≡ accepted tt
+  pub context : first-context tab Γ e ≡ Γ
+
+plain-left : (S : Security) (tab : ℕ → Ty) (Γ : List Ty) (place : ℕ) (e : Term) → (kind (encode e) 0 ≡ 2 → ⊥) → (kind (encode e) 0 ≡ 11 → ⊥) → Plain S tab Γ place e
+unfolding encode before-first first-context
+plain-left S tab Γ p (var n) a b = record { asked = refl; context = refl }
+plain-left S tab Γ p (unit k) a b = record { asked = refl; context = refl }
+plain-left S tab Γ p (lam k i e) a b = absurd (a refl)
+plain-left S tab Γ p (pair k x y) a b = record { asked = refl; context = refl }
+plain-left S tab Γ p (inj d k i e) a b = record { asked = refl; context = refl }
+plain-left S tab Γ p (app w x y) a b = record { asked = refl; context = refl }
+plain-left S tab Γ p (proj d w e) a b = record { asked = refl; context = refl }
+plain-left S tab Γ p (case w i e x y) a b = record { asked = refl; context = refl }
+plain-left S tab Γ p (protect m e) a b = record { asked = refl; context = refl }
+plain-left S tab Γ p (mu i e) a b = absurd (b refl)
+
+pub plain : (S : Security) (tab : ℕ → Ty) (Γ : List Ty) (place : ℕ) {s : Bytes} (e : Term) → s ≡ encode e → (kind s 0 ≡ 2 → ⊥) → (kind s 0 ≡ 11 → ⊥) → Plain S tab Γ place e
+plain S tab Γ place e p a b = let q = ap (λ x. kind x 0) p in plain-left S tab Γ place e (λ z. a (q ∙ z)) (λ z. b (q ∙ z))
+
+front-left : (e : Term) → (kind (encode e) 0 ≡ 4 → ⊥) → (kind (encode e) 0 ≡ 5 → ⊥) → 0 ≡ kept-front e
+unfolding encode kept-front
+front-left (var n) a b = refl
+front-left (unit k) a b = refl
+front-left (lam k i e) a b = refl
+front-left (pair k x y) a b = refl
+front-left (inj first k i e) a b = absurd (a refl)
+front-left (inj second k i e) a b = absurd (b refl)
+front-left (app w x y) a b = refl
+front-left (proj d w e) a b = refl
+front-left (case w i e x y) a b = refl
+front-left (protect m e) a b = refl
+front-left (mu i e) a b = refl
+
+pub front-plain : (s : Bytes) (e : Term) → s ≡ encode e → (kind s 0 ≡ 4 → ⊥) → (kind s 0 ≡ 5 → ⊥) → 0 ≡ kept-front e
+front-plain s e p a b = let q = ap (λ x. kind x 0) p in front-left e (λ z. a (q ∙ z)) (λ z. b (q ∙ z))
+
+-- with the fields as they were read
+pub of-fields : (s : Bytes) (e : Term) (k : ℕ) {a b n : ℕ} → s ≡ encode e → kind s 0 ≡ k → a ≡ r s 0 → b ≡ ir s 0 → n ≡ number s 0
+    → e ≡ make k a b n (first-operand e) (second-operand e) (third-operand e)
+of-fields s e k {a} {b} {n} p q ea eb en =
+    of-kind s e k p q
+    ∙ ap (λ x. make k x (ir s 0) (number s 0) (first-operand e) (second-operand e) (third-operand e)) (sym ea)
+    ∙ ap (λ x. make k a x (number s 0) (first-operand e) (second-operand e) (third-operand e)) (sym eb)
+    ∙ ap (λ x. make k a b x (first-operand e) (second-operand e) (third-operand e)) (sym en)
+
+pub depth-positive : (e : Term) → 1 ≤ depth e
+unfolding depth
+depth-positive (var n) = omega arith
+depth-positive (unit k) = omega arith
+depth-positive (lam k i e) = omega arith
+depth-positive (pair k a b) = omega arith
+depth-positive (inj d k i e) = omega arith
+depth-positive (app w f a) = omega arith
+depth-positive (proj d w e) = omega arith
+depth-positive (case w i e a b) = omega arith
+depth-positive (protect m e) = omega arith
+depth-positive (mu i e) = omega arith
