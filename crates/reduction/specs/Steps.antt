@@ -15,12 +15,12 @@ use Rattle.answer.specs.declared.Checked.{Checked}
 use Rattle.answer.specs.declared.Checked.the-variants as checked
 use Rattle.redex.specs.Fates.{contractum}
 use Rattle.redex.specs.Found.{Site}
-use Rattle.reduction.specs.declared.Plan.{Plan}
+use Rattle.contraction.specs.declared.Plan.{Plan}
 use Rattle.reduction.specs.declared.Stepped.{Stepped}
 use Rattle.reduction.specs.declared.Stepped.the-variants.{Stopped, Moved}
 use Rattle.reduction.specs.declared.StepAnswer.{StepAnswer}
 use Rattle.reduction.specs.declared.StepAnswer.the-variants.{Ended, Refused}
-use Rattle.reduction.specs.Plans.{Planned}
+use Rattle.contraction.specs.Plans.{Planned}
 
 -- the script is one whole term, within the limits, and so is the types table
 pub record Startable (t s : Bytes) : Type 0 where

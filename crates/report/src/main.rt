@@ -14,9 +14,9 @@ ghost use Rattle.rules.specs.Report.{value-text, run-text, report};
 ghost use Rattle.text.specs.Written.{Written};
 ghost use Rattle.report.specs.declared.Loaded.the-variants.{Bytes};
 ghost use Rattle.report.specs.Room.{value-room, run-room, report-room};
+use evaluation::RunAnswer;
 use inference::Found;
 use libc::STDOUT_FILENO;
-use reduction::RunAnswer;
 use sheet::Sheet;
 
 const WIDTH: usize = 6;
@@ -81,7 +81,7 @@ fn run_text(groups: &[u8], types: &[u8], script: &[u8], out: &mut [u8], at: usiz
 {
     let mut first = [0u8; RUN_LENGTH];
     let mut scratch = [0u8; RUN_LENGTH];
-    let a = reduction::run(groups, types, script, BUDGET, &mut first, &mut scratch);
+    let a = evaluation::run(groups, types, script, BUDGET, &mut first, &mut scratch);
     match a {
         RunAnswer::Ended(end, steps, records) => {
             let after = text::run_line(end as u64, steps, records as u64, out, at);

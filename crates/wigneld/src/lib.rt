@@ -11,12 +11,12 @@ ghost use Rattle.rules.specs.Calls.{running, run-report, first-after, scratch-a
 ghost use Rattle.rules.specs.Calls.{sheeting, sheet-records, sheet-after};
 ghost use Rattle.rules.specs.Reach.{Accepted};
 ghost use Rattle.typing.specs.Answered.{answered};
-ghost use Rattle.reduction.specs.Runs.{run-reported};
+ghost use Rattle.evaluation.specs.Runs.{run-reported};
 ghost use Rattle.sheet.specs.Said.{reported};
 ghost use Rattle.packing.specs.Packed.{packed, run-ended, steps-after, Bounded, Run-counted};
 ghost use Rattle.wigneld.specs.Exported.{steps-told, Demanded};
+use evaluation::RunAnswer;
 use inference::Found;
-use reduction::RunAnswer;
 use sheet::Sheet;
 
 // A found type's record count, or the refusal.
@@ -90,7 +90,7 @@ pub extern "C" fn wigneld_run(
         n (now (first .exit)) (now (scratch .exit)) (now (steps .exit))) ⌝ }
 {
     ran(
-        reduction::run(groups, types, script, budget, first, scratch),
+        evaluation::run(groups, types, script, budget, first, scratch),
         steps,
     )
 }

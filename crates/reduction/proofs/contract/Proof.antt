@@ -17,11 +17,11 @@ use Rattle.redex.specs.Fates.{contractum}
 use Rattle.redex.proofs.Turns.{site-moves}
 use Rattle.substitution.proofs.Nodes.{depth-size}
 use Rattle.memory.proofs.Laws.{splice-front}
-use Rattle.reduction.specs.Plans.{Fires, Ready, Measures}
+use Rattle.contraction.specs.Plans.{Fires, Ready, Measures}
 use Rattle.reduction.specs.Steps.{Placing, told}
 use Rattle.reduction.specs.declared.Stepped.the-variants.{Moved}
-use Rattle.reduction.proofs.Redexes.{left-side}
-use Rattle.reduction.proofs.Rooms.{contractum-few}
+use Rattle.contraction.proofs.Redexes.{left-side}
+use Rattle.contraction.proofs.Rooms.{contractum-few}
 use Rattle.reduction.proofs.Splices.{redex-at, redex-small, redex-shallow, new-size, end-inside, exceeds-is}
 use Rattle.reduction.proofs.Ends.{ends-moved, ends-too-big}
 use Rattle.reduction.proofs.contract.Statement.{statement}

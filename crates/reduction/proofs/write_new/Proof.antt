@@ -11,7 +11,7 @@ use Rattle.rules.specs.Types.{type-at}
 use Rattle.rules.specs.Script.{records, encode, size}
 use Rattle.redex.specs.Fates.{contractum}
 use Rattle.memory.specs.Splice.{splice}
-use Rattle.reduction.specs.Plans.{Fit}
+use Rattle.contraction.specs.Plans.{Fit}
 use Rattle.reduction.specs.Steps.{Placing}
 use Rattle.reduction.proofs.Splices.{redex-at, redex-small, redex-shallow, length-is, new-size, end-inside, new-term}
 use Rattle.reduction.proofs.write_new.Statement.{statement}

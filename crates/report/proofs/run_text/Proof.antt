@@ -10,7 +10,7 @@ use Rattle.rules.specs.Run.{Ran}
 use Rattle.rules.specs.Script.{encode}
 use Rattle.rules.specs.Calls.{running}
 use Rattle.rules.specs.Report.{run-line}
-use Rattle.reduction.specs.Runs.{run-reported}
+use Rattle.evaluation.specs.Runs.{run-reported}
 use Rattle.text.specs.Written.{Written}
 use Rattle.text.proofs.Placed.{then, keeps}
 use Rattle.report.proofs.Texts.{Ended, ended, last-in-front, few-records, run-accepted, run-refused, refusal-fits, run-line-fits, run-line-length}

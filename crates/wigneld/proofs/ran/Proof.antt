@@ -1,7 +1,7 @@
 -- `ran` meets its contract.
 use mathlib.Core.Path.{sym, ap, subst, _∙_}
-use Rattle.reduction.specs.declared.RunAnswer.{RunAnswer}
-use Rattle.reduction.specs.Runs.{run-reported}
+use Rattle.evaluation.specs.declared.RunAnswer.{RunAnswer}
+use Rattle.evaluation.specs.Runs.{run-reported}
 use Rattle.packing.specs.Packed.{packed, run-ended, Run-counted}
 use Rattle.wigneld.specs.Exported.{steps-told}
 use Rattle.packing.proofs.Exported.{count-fits, place-counted}

@@ -1,0 +1,304 @@
+-- What a plan's contractum is: counted, and as bytes.
+use mathlib.Core.Path.{_≡_, refl, sym, ap, ap₂, _∙_}
+use mathlib.Core.Path.{subst as transport}
+use mathlib.Core.Bool.{So, cond, true, false, Bool, false≢true}
+use mathlib.Core.List.{[], _∷_, _++_}
+use Prim.Native.Nat.{ℕ, suc, _+_, _*_, _/_, _%_, _≤_}
+use native.Mathlib.Omega.{arith}
+use lib.ListN.{length, take, drop, length-append}
+use lib.Seq.{take-at}
+use types.Run.{OneOf}
+use denote.Enum.Declared.{tagOf}
+use Rattle.calculus.specs.Security.{Property, Indirect, Security}
+use Rattle.calculus.specs.Types.{Ty, top}
+use Rattle.calculus.specs.Terms.{first, second, Term, var, unit, lam, pair, inj, app, proj, case, protect, mu, is-value, subst, raise-value}
+use Rattle.calculus.specs.Reduction.{unrolled}
+use Rattle.rules.specs.Answer.{Bytes, byte}
+use Rattle.rules.specs.Limits.{script-width, script-limit}
+use Rattle.rules.specs.Groups.{join, readers}
+use Rattle.rules.specs.Types.{type-r, type-ir, type-at}
+use Rattle.rules.specs.Script.{kind, r, ir, number, script-record, encode, size, depth}
+use Rattle.rules.proofs.Prefix.{joined}
+use Rattle.rules.proofs.PrefixLaws.{after-head, record-is}
+use Rattle.rules.proofs.TermCode.{term-code, term-head, term-head-length, term-operands, term-encode-is, two-bytes}
+use Rattle.rules.proofs.RecordFields.{ir-is}
+use Rattle.records.specs.Place.{At}
+use Rattle.records.proofs.Stands.{kind-of, operands, op1, room, stands-kind, at-op1}
+use Rattle.redex.specs.Fates.{property-of, is-function, goes, misfit, fate, contractum}
+use Rattle.redex.proofs.Places.{number-of, reader-at, number-at}
+use Rattle.redex.proofs.Answers.{function-top}
+use Rattle.memory.specs.Splice.{splice}
+use Rattle.substitution.specs.Substituted.{value-limit}
+use Rattle.substitution.proofs.Nodes.{subst-bound}
+use Rattle.memory.proofs.Laws.{join-after}
+use Rattle.substitution.proofs.Reading.{term-length, size-from}
+use Rattle.contraction.specs.declared.Plan.{Plan}
+use Rattle.contraction.specs.declared.Plan.the-variants.{Part, Body, Raised, Unrolled}
+use Rattle.contraction.specs.declared.Size.{Size}
+use Rattle.contraction.proofs.Plan.{the-type}
+use Rattle.contraction.specs.Plans.{Planned, applied, projected, branched, lifted, unrolled-one, Measures}
+
+-- what the protection of a destructor's contractum is
+abbrev pub influence-of : Security → Term → Indirect
+influence-of S e = S .influence (property-of (op1 e)) (property-of e .r)
+
+pub record PartPlan (s : Bytes) (e : Term) (x : ℕ) : Type 0 where
+  pub part : Term
+  pub stands : At s x part
+  pub small : size part ≤ size e
+  pub shallow : depth part ≤ depth e
+  pub operand : 1 ≤ operands e
+  pub is : (S : Security) (tab : ℕ → Ty) → contractum S tab e ≡ protect (influence-of S e) part
+
+pub part-plan : {s : Bytes} {e : Term} {x : ℕ} → Planned s e (Part x) → PartPlan s e x
+unfolding contractum size depth
+part-plan (projected {d = first} {a = a} h) =
+    record { part = a; stands = h; small = omega arith; shallow = omega arith; operand = omega arith; is = λ S tab. refl }
+part-plan (projected {d = second} {b = b} h) =
+    record { part = b; stands = h; small = omega arith; shallow = omega arith; operand = omega arith; is = λ S tab. refl }
+
+pub record BodyPlan (s : Bytes) (e : Term) (x y : ℕ) : Type 0 where
+  pub body : Term
+  pub value : Term
+  pub at-body : At s x body
+  pub at-value : At s y value
+  pub small : size body + size value ≤ size e
+  pub shallow-body : depth body ≤ depth e
+  pub shallow-value : depth value ≤ depth e
+  pub operand : 1 ≤ operands e
+  pub is : (S : Security) (tab : ℕ → Ty) → contractum S tab e ≡ protect (influence-of S e) (subst 0 value body)
+
+pub body-plan : {s : Bytes} {e : Term} {x y : ℕ} → Planned s e (Body x y) → BodyPlan s e x y
+unfolding contractum size depth
+body-plan (applied {b = b} {v = v} h k) =
+    record {
+      body = b;
+      value = v;
+      at-body = h;
+      at-value = k;
+      small = omega arith;
+      shallow-body = omega arith;
+      shallow-value = omega arith;
+      operand = omega arith;
+      is = λ S tab. refl;
+    }
+body-plan (branched {d = first} {v = v} {a = a} h k) =
+    record {
+      body = a;
+      value = v;
+      at-body = h;
+      at-value = k;
+      small = omega arith;
+      shallow-body = omega arith;
+      shallow-value = omega arith;
+      operand = omega arith;
+      is = λ S tab. refl;
+    }
+body-plan (branched {d = second} {v = v} {b = b} h k) =
+    record {
+      body = b;
+      value = v;
+      at-body = h;
+      at-value = k;
+      small = omega arith;
+      shallow-body = omega arith;
+      shallow-value = omega arith;
+      operand = omega arith;
+      is = λ S tab. refl;
+    }
+
+pub record LiftPlan (s : Bytes) (at : ℕ) (e : Term) : Type 0 where
+  pub value : Term
+  pub stands : At s (at + 1) value
+  pub is-one : So (is-value value)
+  pub small : size value ≤ size e
+  pub shallow : depth value ≤ depth e
+  pub is : (S : Security) (tab : ℕ → Ty) → contractum S tab e ≡ raise-value S value (property-of e .ir)
+
+pub lift-plan : {s : Bytes} {at : ℕ} {e : Term} → At s at e → Planned s e Raised → LiftPlan s at e
+unfolding contractum size depth
+lift-plan {s} {at} a (lifted {v = v} h) =
+    record {
+      value = v;
+      stands = at-op1 s at _ a (omega arith);
+      is-one = h;
+      small = omega arith;
+      shallow = omega arith;
+      is = λ S tab. refl;
+    }
+
+pub record RollPlan (e : Term) : Type 0 where
+  pub type : ℕ
+  pub body : Term
+  pub is : e ≡ mu type body
+
+pub roll-plan : {s : Bytes} {e : Term} → Planned s e Unrolled → RollPlan e
+roll-plan (unrolled-one {i = i} {b = b}) = record { type = i; body = b; is = refl }
+
+-- Raising changes neither the records nor the depth.
+pub raise-size : (S : Security) (v : Term) (m : Indirect) → (size (raise-value S v m) ≡ size v) × (depth (raise-value S v m) ≡ depth v)
+unfolding size depth raise-value
+raise-size S (var n) m = (refl, refl)
+raise-size S (unit k) m = (refl, refl)
+raise-size S (lam k i e) m = (refl, refl)
+raise-size S (pair k a b) m = (refl, refl)
+raise-size S (inj d k i e) m = (refl, refl)
+raise-size S (app w f a) m = (refl, refl)
+raise-size S (proj d w e) m = (refl, refl)
+raise-size S (case w i e a b) m = (refl, refl)
+raise-size S (protect n e) m = (refl, refl)
+raise-size S (mu i e) m = (refl, refl)
+
+pub unrolled-size : (S : Security) (i : ℕ) (k : Property) (b : Term)
+    → (size (unrolled S i k b) ≡ size (mu i b) + 3) × (depth (unrolled S i k b) ≡ depth (mu i b) + 2)
+unfolding size depth
+unrolled-size S i k b = (omega arith, omega arith)
+
+pub protect-size : (m : Indirect) (e : Term) → (size (protect m e) ≡ size e + 1) × (depth (protect m e) ≡ depth e + 1)
+unfolding size depth
+protect-size m e = (omega arith, omega arith)
+
+pub body-size : (i : ℕ) (b : Term) → (size (mu i b) ≡ 1 + size b) × (depth (mu i b) ≡ 1 + depth b)
+unfolding size depth
+body-size i b = (refl, refl)
+
+-- a substitution's records are few enough to be counted
+pub few : (v b : Term) → size v ≤ value-limit → size b ≤ script-limit → size (subst 0 v b) ≤ 134217728
+few v b l h = omega (arith, subst-bound v l b 0)
+
+-- Bytes. A term's own, and those of its operands.
+module _ {s : Bytes} {x : ℕ} {e : Term} (a : At s x e) where
+  pub own-bytes : (n : ℕ) → n ≡ script-width * size e → take n (drop (script-width * x) s) ≡ encode e
+  own-bytes n h = ap (take n) (a .stands) ∙ take-at (encode e) (a .rest) n (term-length e ∙ sym h)
+
+  pub operand-bytes : (from n : ℕ) → from ≡ script-width * x + 6 → n + 6 ≡ script-width * size e
+      → take n (drop from s) ≡ joined encode (term-operands e)
+  operand-bytes from n p h =
+      let z : from ≡ script-width * suc x = omega arith in
+      ap (λ m. take n (drop m s)) z ∙ ap (take n) (after-head term-code s x e (a .rest) (a .stands))
+      ∙ take-at (joined encode (term-operands e)) (a .rest) n
+      (omega (arith, term-length e, ap length (term-encode-is e), head-and-rest))
+    where
+      head-and-rest : length (term-head e ++ joined encode (term-operands e)) ≡ 6 + length (joined encode (term-operands e))
+      head-and-rest = simp (length-append, term-head-length)
+
+  pub indirect-at : ir s x ≡ property-of e .ir
+  indirect-at = sym (ir-is s x) ∙ ap (λ b. ir b 0) (record-is term-code s x e (a .rest) (a .stands)) ∙ own-ir e
+    where
+      own-ir : (d : Term) → byte (term-head d) 2 ≡ property-of d .ir
+      own-ir (var n) = refl
+      own-ir (unit k) = refl
+      own-ir (lam k i d) = refl
+      own-ir (pair k b c) = refl
+      own-ir (inj d k i b) = refl
+      own-ir (app w f b) = refl
+      own-ir (proj d w b) = refl
+      own-ir (case w i d b c) = refl
+      own-ir (protect m d) = refl
+      own-ir (mu i d) = refl
+
+-- a raised value: its own record with other groups, and its operands as they are
+pub raised-bytes : (g : Bytes) (v : Term) (m : Indirect) → So (is-value v)
+    → script-record (kind-of v) (join g (property-of v .r) m) (join g (property-of v .ir) m) (number-of v) ++ joined encode (term-operands v)
+    ≡ encode (raise-value (readers g) v m)
+unfolding raise-value is-value
+raised-bytes g (var n) m h = absurd (false≢true h)
+raised-bytes g (unit k) m h = sym (term-encode-is (unit _))
+raised-bytes g (lam k i e) m h = rw (two-bytes i) (sym (term-encode-is (lam _ i e)))
+raised-bytes g (pair k a b) m h = sym (term-encode-is (pair _ a b))
+raised-bytes g (inj first k i e) m h = rw (two-bytes i) (sym (term-encode-is (inj first _ i e)))
+raised-bytes g (inj second k i e) m h = rw (two-bytes i) (sym (term-encode-is (inj second _ i e)))
+raised-bytes g (app w f a) m h = absurd (false≢true h)
+raised-bytes g (proj d w e) m h = absurd (false≢true h)
+raised-bytes g (case w i e a b) m h = absurd (false≢true h)
+raised-bytes g (protect n e) m h = absurd (false≢true h)
+raised-bytes g (mu i e) m h = absurd (false≢true h)
+
+-- the unrolled function: two records, the recursion, a variable
+pub rolled-bytes : (g : Bytes) (i : ℕ) (k : Property) (b : Term) (r₁ ir₁ lo hi : ℕ) (mid : Bytes) → r₁ ≡ k .r → ir₁ ≡ k .ir → lo ≡ (i + 1) % 256
+    → hi ≡ (i + 1) / 256 → mid ≡ encode (mu i b)
+    → (2 ∷ r₁ ∷ ir₁ ∷ 0 ∷ lo ∷ hi ∷ 6 ∷ r₁ ∷ 0 ∷ 0 ∷ 0 ∷ 0 ∷ []) ++ (mid ++ (0 ∷ 0 ∷ 0 ∷ 0 ∷ 0 ∷ 0 ∷ [])) ≡ encode (unrolled (readers g) i k b)
+unfolding encode
+rolled-bytes g i k b r₁ ir₁ lo hi mid e1 e2 e3 e4 e5 = let z : i + 1 ≡ suc i = omega arith in rw (e1, e2, e3, e4, e5, z)
+
+-- one record, as it is copied from an array
+pub record-placed : (k r₁ ir₁ n lo hi start : ℕ) (w w′ : Bytes) → lo ≡ n % 256 → hi ≡ n / 256
+    → w′ ≡ splice start (k ∷ r₁ ∷ ir₁ ∷ 0 ∷ lo ∷ hi ∷ []) w → w′ ≡ splice start (script-record k r₁ ir₁ n) w
+record-placed k r₁ ir₁ n lo hi start w w′ e1 e2 e = e ∙ ap₂ (λ a b. splice start (k ∷ r₁ ∷ ir₁ ∷ 0 ∷ a ∷ b ∷ []) w) e1 e2
+
+-- a record and what follows it
+pub record-then : (k r₁ ir₁ n start : ℕ) (b w w1 w2 : Bytes) → start + 6 ≤ length w → w1 ≡ splice start (script-record k r₁ ir₁ n) w
+    → w2 ≡ splice (start + 6) b w1 → w2 ≡ splice start (script-record k r₁ ir₁ n ++ b) w
+record-then k r₁ ir₁ n start b w w1 w2 l e1 e2 =
+    e2 ∙ ap (splice (start + 6) b) e1 ∙ join-after start (start + 6) (script-record k r₁ ir₁ n) b w refl l
+
+pub protect-bytes : (m : Indirect) (e : Term) → script-record 10 0 m 0 ++ encode e ≡ encode (protect m e)
+unfolding encode
+protect-bytes m e = refl
+
+-- a recursion goes when its type is a function
+pub goes-function : (S : Security) (tab : ℕ → Ty) (i : ℕ) (b : Term) → fate S tab (mu i b) ≡ goes → So (is-function (tab i))
+unfolding fate
+goes-function S tab i b h = by (is-function (tab i)) refl h
+  where
+    by : (x : Bool) → is-function (tab i) ≡ x → cond x goes misfit ≡ goes → So (is-function (tab i))
+    by true e h = e
+    by false e h = let z : _≡_ {A = ℕ} 0 1 = cc in absurd (omega arith)
+
+-- the records of an operand
+pub two-records : {s : Bytes} {at : ℕ} {e : Term} → At s at e → 1 ≤ operands e → script-width * at + 12 ≤ length s
+two-records {s} {at} {e} a h = omega (arith, room s (at + 1) (op1 e) (at-op1 s at e a h), size-from (op1 e))
+
+pub counted : {e f : Term} {m : Size} → f ≡ e → Measures e m → Measures f m
+counted {m = m} h q = transport (λ (d : Term). Measures d m) (sym h) q
+
+-- the plans without a place
+pub is-raised : (p : Plan) → OneOf (2 ∷ []) (tagOf the-type p) → p ≡ Raised
+is-raised (Part x) k = absurd (omega arith)
+is-raised (Body x y) k = absurd (omega arith)
+is-raised Raised k = refl
+is-raised Unrolled k = absurd (omega arith)
+
+pub is-unrolled : (p : Plan) → OneOf (3 ∷ []) (tagOf the-type p) → p ≡ Unrolled
+is-unrolled (Part x) k = absurd (omega arith)
+is-unrolled (Body x y) k = absurd (omega arith)
+is-unrolled Raised k = absurd (omega arith)
+is-unrolled Unrolled k = refl
+
+-- a protect record, and a term after it
+pub protect-placed : (m m′ start : ℕ) (e : Term) (b w w1 w2 : Bytes) → m ≡ m′ → b ≡ encode e → start + 6 ≤ length w
+    → w1 ≡ splice start (script-record 10 0 m 0) w → w2 ≡ splice (start + 6) b w1 → w2 ≡ splice start (encode (protect m′ e)) w
+protect-placed m m′ start e b w w1 w2 p h l e1 e2 =
+    record-then 10 0 m 0 start b w w1 w2 l e1 e2
+    ∙ ap (λ x. splice start x w) (ap₂ (λ n x. script-record 10 0 n 0 ++ x) p h ∙ protect-bytes m′ e)
+
+-- a raised record, and the operands after it
+pub raise-placed : (g : Bytes) {s : Bytes} {x : ℕ} {v : Term} (a : At s x v) (m k₁ r₁ ir₁ n₁ start : ℕ) (b w w1 w2 : Bytes) → So (is-value v)
+    → k₁ ≡ kind s x → r₁ ≡ join g (r s x) m → ir₁ ≡ join g (ir s x) m → n₁ ≡ number s x → b ≡ joined encode (term-operands v)
+    → start + 6 ≤ length w → w1 ≡ splice start (script-record k₁ r₁ ir₁ n₁) w → w2 ≡ splice (start + 6) b w1
+    → w2 ≡ splice start (encode (raise-value (readers g) v m)) w
+raise-placed g {s} {x} {v} a m k₁ r₁ ir₁ n₁ start b w w1 w2 h ek er ei en eb l e1 e2 =
+    let pk : k₁ ≡ kind-of v = ek ∙ stands-kind s x v a in
+    let pr : r₁ ≡ join g (property-of v .r) m = er ∙ ap (λ y. join g y m) (reader-at a) in
+    let pi : ir₁ ≡ join g (property-of v .ir) m = ei ∙ ap (λ y. join g y m) (indirect-at a) in
+    let pn : n₁ ≡ number-of v = en ∙ number-at a in
+    record-then k₁ r₁ ir₁ n₁ start b w w1 w2 l e1 e2
+    ∙ ap (λ y. splice start y w)
+    (ap₂ (λ y z. script-record y z ir₁ n₁ ++ b) pk pr
+    ∙ ap₂ (λ y z. script-record (kind-of v) (join g (property-of v .r) m) y z ++ b) pi pn
+    ∙ ap (λ y. script-record (kind-of v) (join g (property-of v .r) m) (join g (property-of v .ir) m) (number-of v) ++ y) eb
+    ∙ raised-bytes g v m h)
+
+-- the groups of a recursion's type, as they stand in its first record
+pub type-groups : (t : Bytes) (i n : ℕ) → So (is-function (type-at t i)) → n ≡ i
+    → (type-r t n ≡ top (type-at t i) .r) × (type-ir t n ≡ top (type-at t i) .ir)
+type-groups t i n h e =
+    let z = function-top t i h in
+    (ap (type-r t) e ∙ sym (ap (λ k. k .r) z), ap (type-ir t) e ∙ sym (ap (λ k. k .ir) z))
+
+pub recursion-number : {s : Bytes} {at i : ℕ} {b : Term} → At s at (mu i b) → number s at ≡ i
+recursion-number {i = i} a = number-at a ∙ two-bytes i
+
+pub unroll-is : (S : Security) (tab : ℕ → Ty) (i : ℕ) (b : Term) → contractum S tab (mu i b) ≡ subst 0 (unrolled S i (top (tab i)) b) b
+unfolding contractum
+unroll-is S tab i b = refl

@@ -1,0 +1,156 @@
+-- A node whose turn it is and that goes is a left side of table 1, and what its plan is by the kinds of its records.
+use mathlib.Core.Path.{_≡_, refl, subst}
+use mathlib.Core.Bool.{Bool, true, false, So, false≢true}
+use Prim.Native.Nat.{ℕ, _+_, _≤_}
+use native.Mathlib.Omega.{arith}
+use Rattle.calculus.specs.Security.{Reader, Security}
+use Rattle.calculus.specs.Types.{sum, product, function, Ty}
+use Rattle.calculus.specs.Terms.{Side, first, second, Term, var, unit, lam, pair, inj, app, proj, case, protect, mu}
+use Rattle.calculus.specs.Stuck.{built-by}
+use Rattle.rules.specs.Answer.{Bytes}
+use Rattle.rules.specs.Script.{size}
+use Rattle.records.specs.Place.{At}
+use Rattle.records.proofs.Stands.{kind-of, operands, op1, op2, at-op1, at-op2, at-op3}
+use Rattle.redex.specs.Fates.{property-of, goes, reading-fate, ready, fate}
+use Rattle.contraction.specs.declared.Plan.the-variants.{Part, Body, Raised, Unrolled}
+use Rattle.contraction.specs.Plans.{Left, applies, projects, branches, lifts, unrolls, Planned, applied, projected, branched, lifted, unrolled-one}
+
+fits-it : (fits may : Bool) → reading-fate fits may ≡ goes → So fits
+fits-it true may h = refl
+fits-it false may h = let z : _≡_ {A = ℕ} 0 1 = cc in absurd (omega arith)
+
+application : (w : Reader) (f v : Term) → So (built-by function f) → Left (app w f v)
+unfolding built-by
+application w (var n) v h = absurd (false≢true h)
+application w (unit k) v h = absurd (false≢true h)
+application w (lam k i e) v h = applies
+application w (pair k a b) v h = absurd (false≢true h)
+application w (inj d k i e) v h = absurd (false≢true h)
+application w (app u f a) v h = absurd (false≢true h)
+application w (proj d u e) v h = absurd (false≢true h)
+application w (case u i e a b) v h = absurd (false≢true h)
+application w (protect m e) v h = absurd (false≢true h)
+application w (mu i e) v h = absurd (false≢true h)
+
+projection : (d : Side) (w : Reader) (e : Term) → So (built-by product e) → Left (proj d w e)
+unfolding built-by
+projection d w (var n) h = absurd (false≢true h)
+projection d w (unit k) h = absurd (false≢true h)
+projection d w (lam k i e) h = absurd (false≢true h)
+projection d w (pair k a b) h = projects d
+projection d w (inj c k i e) h = absurd (false≢true h)
+projection d w (app u f a) h = absurd (false≢true h)
+projection d w (proj c u e) h = absurd (false≢true h)
+projection d w (case u i e a b) h = absurd (false≢true h)
+projection d w (protect m e) h = absurd (false≢true h)
+projection d w (mu i e) h = absurd (false≢true h)
+
+choice : (w : Reader) (j : ℕ) (e a b : Term) → So (built-by sum e) → Left (case w j e a b)
+unfolding built-by
+choice w j (var n) a b h = absurd (false≢true h)
+choice w j (unit k) a b h = absurd (false≢true h)
+choice w j (lam k i e) a b h = absurd (false≢true h)
+choice w j (pair k c e) a b h = absurd (false≢true h)
+choice w j (inj d k i e) a b h = branches d
+choice w j (app u f e) a b h = absurd (false≢true h)
+choice w j (proj d u e) a b h = absurd (false≢true h)
+choice w j (case u i e c f) a b h = absurd (false≢true h)
+choice w j (protect m e) a b h = absurd (false≢true h)
+choice w j (mu i e) a b h = absurd (false≢true h)
+
+pub left-side : (S : Security) (tab : ℕ → Ty) (e : Term) → So (ready e) → fate S tab e ≡ goes → Left e
+unfolding ready fate
+left-side S tab (var n) h g = let z : _≡_ {A = ℕ} 0 1 = cc in absurd (omega arith)
+left-side S tab (unit k) h g = absurd (false≢true h)
+left-side S tab (lam k i e) h g = absurd (false≢true h)
+left-side S tab (pair k a b) h g = absurd (false≢true h)
+left-side S tab (inj d k i e) h g = absurd (false≢true h)
+left-side S tab (app w f a) h g = application w f a (fits-it (built-by function f) (S .permits (property-of f) w) g)
+left-side S tab (proj d w e) h g = projection d w e (fits-it (built-by product e) (S .permits (property-of e) w) g)
+left-side S tab (case w i e a b) h g = choice w i e a b (fits-it (built-by sum e) (S .permits (property-of e) w) g)
+left-side S tab (protect m e) h g = lifts h
+left-side S tab (mu i e) h g = unrolls
+
+-- what a destructor takes apart has an operand, which stands two records on
+destructs : {e : Term} → Left e → (kind-of e ≡ 11 → ⊥) → (kind-of e ≡ 10 → ⊥) → (1 ≤ operands e) × (1 ≤ operands (op1 e))
+destructs applies n m = (omega arith, omega arith)
+destructs (projects d) n m = (omega arith, omega arith)
+destructs (branches d) n m = (omega arith, omega arith)
+destructs (lifts v) n m = absurd (m refl)
+destructs unrolls n m = absurd (n refl)
+
+module _ (s : Bytes) (at : ℕ) where
+  pub taken-at : {e : Term} → At s at e → Left e → (kind-of e ≡ 11 → ⊥) → (kind-of e ≡ 10 → ⊥) → At s (at + 1) (op1 e)
+  taken-at {e} a l n m = at-op1 s at e a (destructs l n m .0)
+
+  pub inner-at : {e : Term} → At s at e → Left e → (kind-of e ≡ 11 → ⊥) → (kind-of e ≡ 10 → ⊥) → At s (at + 2) (op1 (op1 e))
+  inner-at {e} a l n m =
+      let z : at + 1 + 1 ≡ at + 2 = omega arith in
+      subst (λ (j : ℕ). At s j (op1 (op1 e))) z (at-op1 s (at + 1) (op1 e) (taken-at a l n m) (destructs l n m .1))
+
+  pub plan-unrolled : {e : Term} → Left e → kind-of e ≡ 11 → Planned s e Unrolled
+  plan-unrolled applies h = absurd (omega arith)
+  plan-unrolled (projects first) h = absurd (omega arith)
+  plan-unrolled (projects second) h = absurd (omega arith)
+  plan-unrolled (branches d) h = absurd (omega arith)
+  plan-unrolled (lifts v) h = absurd (omega arith)
+  plan-unrolled unrolls h = unrolled-one
+
+  pub plan-raised : {e : Term} → Left e → kind-of e ≡ 10 → Planned s e Raised
+  plan-raised applies h = absurd (omega arith)
+  plan-raised (projects first) h = absurd (omega arith)
+  plan-raised (projects second) h = absurd (omega arith)
+  plan-raised (branches d) h = absurd (omega arith)
+  plan-raised (lifts v) h = lifted v
+  plan-raised unrolls h = absurd (omega arith)
+
+  pub plan-first : {e : Term} → Left e → kind-of e ≡ 7 → At s (at + 2) (op1 (op1 e)) → Planned s e (Part (at + 2))
+  plan-first applies h x = absurd (omega arith)
+  plan-first (projects first) h x = projected x
+  plan-first (projects second) h x = absurd (omega arith)
+  plan-first (branches d) h x = absurd (omega arith)
+  plan-first (lifts v) h x = absurd (omega arith)
+  plan-first unrolls h x = absurd (omega arith)
+
+  -- `next` is the record after the first inner operand
+  pub plan-second : {e : Term} (next : ℕ) → Left e → kind-of e ≡ 8 → At s (at + 1) (op1 e) → next ≡ at + 2 + size (op1 (op1 e)) → Planned s e (Part next)
+  plan-second next applies h y p = absurd (omega arith)
+  plan-second next (projects first) h y p = absurd (omega arith)
+  plan-second next (projects second) h y p = projected (at-op2 s (at + 1) _ y next (omega arith) (omega arith))
+  plan-second next (branches d) h y p = absurd (omega arith)
+  plan-second next (lifts v) h y p = absurd (omega arith)
+  plan-second next unrolls h y p = absurd (omega arith)
+
+  pub plan-applied : {e : Term} (next : ℕ) → Left e → kind-of e ≡ 6 → At s at e → At s (at + 2) (op1 (op1 e)) → next ≡ at + 2 + size (op1 (op1 e))
+      → Planned s e (Body (at + 2) next)
+  unfolding size
+  plan-applied next applies h a x p = applied x (at-op2 s at _ a next (omega arith) (omega arith))
+  plan-applied next (projects first) h a x p = absurd (omega arith)
+  plan-applied next (projects second) h a x p = absurd (omega arith)
+  plan-applied next (branches d) h a x p = absurd (omega arith)
+  plan-applied next (lifts v) h a x p = absurd (omega arith)
+  plan-applied next unrolls h a x p = absurd (omega arith)
+
+  -- a case: its first branch stands at `next`
+  pub record Cased (e : Term) (next : ℕ) : Type 0 where
+    pub branch : At s next (op2 e)
+    pub to-first : kind-of (op1 e) ≡ 4 → Planned s e (Body next (at + 2))
+    pub to-second : (kind-of (op1 e) ≡ 4 → ⊥) → (third : ℕ) → third ≡ next + size (op2 e) → Planned s e (Body third (at + 2))
+
+  pub cased : {e : Term} (next : ℕ) → Left e → At s at e → At s (at + 2) (op1 (op1 e)) → next ≡ at + 2 + size (op1 (op1 e))
+      → (kind-of e ≡ 11 → ⊥) → (kind-of e ≡ 10 → ⊥) → (kind-of e ≡ 7 → ⊥) → (kind-of e ≡ 8 → ⊥) → (kind-of e ≡ 6 → ⊥) → Cased e next
+  unfolding size
+  cased next applies a x p n11 n10 n7 n8 n6 = absurd (n6 refl)
+  cased next (projects first) a x p n11 n10 n7 n8 n6 = absurd (n7 refl)
+  cased next (projects second) a x p n11 n10 n7 n8 n6 = absurd (n8 refl)
+  cased next (branches first) a x p n11 n10 n7 n8 n6 =
+      let b = at-op2 s at _ a next (omega arith) (omega arith) in
+      record { branch = b; to-first = λ h. branched b x; to-second = λ h third q. absurd (h refl) }
+  cased next (branches second) a x p n11 n10 n7 n8 n6 =
+      record {
+        branch = at-op2 s at _ a next (omega arith) (omega arith);
+        to-first = λ h. absurd (omega arith);
+        to-second = λ h third q. branched (at-op3 s at _ a third (omega arith) (omega arith)) x;
+      }
+  cased next (lifts v) a x p n11 n10 n7 n8 n6 = absurd (n10 refl)
+  cased next unrolls a x p n11 n10 n7 n8 n6 = absurd (n11 refl)

@@ -1,0 +1,113 @@
+-- How a redex's contractum is made from parts of its script, and what counting and writing it are given.
+use mathlib.Core.Path.{_≡_}
+use mathlib.Core.Bool.{So}
+use Prim.Native.Nat.{ℕ, _+_, _*_, _≤_}
+use lib.ListN.{length}
+use Rattle.calculus.specs.Security.{Property, Reader, Indirect}
+use Rattle.calculus.specs.Types.{top}
+use Rattle.calculus.specs.Terms.{Side, choose, Term, lam, pair, inj, app, proj, case, protect, mu, is-value, subst}
+use Rattle.calculus.specs.Reduction.{unrolled}
+use Rattle.rules.specs.Answer.{Bytes}
+use Rattle.rules.specs.Limits.{script-width, script-limit, depth-limit, table-limit}
+use Rattle.rules.specs.Groups.{readers}
+use Rattle.rules.specs.Types.{type-count, type-at}
+use Rattle.rules.specs.Script.{size, depth}
+use Rattle.records.specs.Place.{At}
+use Rattle.redex.specs.Fates.{is-function, goes, fate, contractum}
+use Rattle.contraction.specs.declared.Plan.{Plan}
+use Rattle.contraction.specs.declared.Plan.the-variants.{Part, Body, Raised, Unrolled}
+use Rattle.contraction.specs.declared.Size.{Size}
+
+-- the left sides of table 1, apart from who may read
+pub data Left : Term → Type 0 where
+  applies : {w : Reader} {k : Property} {i : ℕ} {b v : Term} → Left (app w (lam k i b) v)
+  projects : (d : Side) {w : Reader} {k : Property} {a b : Term} → Left (proj d w (pair k a b))
+  branches : (d : Side) {w : Reader} {j : ℕ} {k : Property} {i : ℕ} {v a b : Term} → Left (case w j (inj d k i v) a b)
+  lifts : {m : Indirect} {v : Term} → So (is-value v) → Left (protect m v)
+  unrolls : {i : ℕ} {b : Term} → Left (mu i b)
+
+-- a left side stands at record `at`
+pub record Fires (s : Bytes) (at : ℕ) : Type 0 where
+  pub tree : Term
+  pub stands : At s at tree
+  pub left : Left tree
+
+-- the plan of a redex: which parts of the script its contractum is made of
+pub data Planned (s : Bytes) : Term → Plan → Type 0 where
+  applied : {x y : ℕ} {w : Reader} {k : Property} {i : ℕ} {b v : Term} → At s x b → At s y v → Planned s (app w (lam k i b) v) (Body x y)
+  projected : {x : ℕ} {d : Side} {w : Reader} {k : Property} {a b : Term} → At s x (choose d a b) → Planned s (proj d w (pair k a b)) (Part x)
+  branched : {x y : ℕ} {d : Side} {w : Reader} {j : ℕ} {k : Property} {i : ℕ} {v a b : Term} → At s x (choose d a b) → At s y v
+      → Planned s (case w j (inj d k i v) a b) (Body x y)
+  lifted : {m : Indirect} {v : Term} → So (is-value v) → Planned s (protect m v) Raised
+  unrolled-one : {i : ℕ} {b : Term} → Planned s (mu i b) Unrolled
+
+-- a planned redex, within the limits
+pub record Ready (s : Bytes) (at : ℕ) (p : Plan) : Type 0 where
+  pub tree : Term
+  pub stands : At s at tree
+  pub planned : Planned s tree p
+  pub small : size tree ≤ script-limit
+  pub shallow : depth tree ≤ depth-limit
+
+-- m counts e
+pub record Measures (e : Term) (m : Size) : Type 0 where
+  pub records : m .records ≡ size e
+  pub deep : m .depth ≡ depth e
+
+-- a body and a value, of one script
+pub record Both (s : Bytes) (x y : ℕ) : Type 0 where
+  pub body : Term
+  pub value : Term
+  pub at-body : At s x body
+  pub at-value : At s y value
+  pub small : size body + size value ≤ script-limit
+  pub shallow-body : depth body ≤ depth-limit
+  pub shallow-value : depth value ≤ depth-limit
+
+pub record Recursive (s : Bytes) (at : ℕ) : Type 0 where
+  pub type : ℕ
+  pub body : Term
+  pub stands : At s at (mu type body)
+  pub small : size (mu type body) ≤ script-limit
+  pub shallow : depth (mu type body) ≤ depth-limit
+
+-- Room in w from byte `start` on: for a protected part, for a protected body with a value put in, for a raised value, for an
+-- unrolled recursion. A destructor at record `at` has at least one operand, and so two records.
+pub record PartRoom (s : Bytes) (at x : ℕ) (w : Bytes) (start : ℕ) : Type 0 where
+  pub part : Term
+  pub stands : At s x part
+  pub operand : script-width * at + 12 ≤ length s
+  pub fits : start + script-width * (1 + size part) ≤ length w
+
+pub record BodyRoom (s : Bytes) (at x y : ℕ) (w : Bytes) (start : ℕ) : Type 0 where
+  pub body : Term
+  pub value : Term
+  pub at-body : At s x body
+  pub at-value : At s y value
+  pub shallow : depth body ≤ depth-limit
+  pub operand : script-width * at + 12 ≤ length s
+  pub fits : start + script-width * (1 + size (subst 0 value body)) ≤ length w
+
+pub record RaisedRoom (s : Bytes) (at : ℕ) (w : Bytes) (start : ℕ) : Type 0 where
+  pub value : Term
+  pub stands : At s (at + 1) value
+  pub is-one : So (is-value value)
+  pub fits : start + script-width * size value ≤ length w
+
+pub record UnrolledRoom (t s : Bytes) (at : ℕ) (w : Bytes) (start : ℕ) : Type 0 where
+  pub type : ℕ
+  pub body : Term
+  pub stands : At s at (mu type body)
+  pub shallow : depth body ≤ depth-limit
+  pub function : So (is-function (type-at t type))
+  pub table : type-count t ≤ table-limit
+  -- no group is joined, so the groups table doesn't matter
+  pub groups : Bytes
+  pub fits : start + script-width * size (subst 0 (unrolled (readers groups) type (top (type-at t type)) body) body) ≤ length w
+
+-- a planned redex whose contractum has room
+pub record Fit (g t s : Bytes) (at : ℕ) (p : Plan) (w : Bytes) (start : ℕ) : Type 0 where
+  pub ready : Ready s at p
+  pub contracts : fate (readers g) (type-at t) (ready .tree) ≡ goes
+  pub table : type-count t ≤ table-limit
+  pub fits : start + script-width * size (contractum (readers g) (type-at t) (ready .tree)) ≤ length w

@@ -1,0 +1,3 @@
+pub mod Buffers
+pub mod Runs
+pub mod Answers
