@@ -161,7 +161,7 @@ pub fn run(
     let Checked::Passed = tables else {
         return refused_run(tables);
     };
-    let terms = script::terms_check_in_run(groups, types, script, first.len(), scratch.len());
+    let terms = syntax::terms_check_in_run(groups, types, script, first.len(), scratch.len());
     let Checked::Passed = terms else {
         return refused_run(terms);
     };

@@ -100,7 +100,7 @@ pub extern "C" fn probe_subterm(script: &[u8], index: u64, copy: &mut [u8]) -> u
         × (now (copy .exit) ≡ fill-front (take (length (now (copy .entry))) (subterm (now (script .entry)) index))
         (now (copy .entry))) ⌝ }
 {
-    let part = script::subterm(script, index as usize);
+    let part = syntax::subterm(script, index as usize);
     let n = shorter(part.len(), copy.len());
     memory::copy(part, n, copy, 0);
     part.len() as u64

@@ -146,7 +146,7 @@ pub fn step(groups: &[u8], types: &[u8], script: &[u8], written: &mut [u8]) -> S
     let Checked::Passed = tables else {
         return refused_step(tables);
     };
-    let terms = script::terms_check(groups, types, script);
+    let terms = syntax::terms_check(groups, types, script);
     let Checked::Passed = terms else {
         return refused_step(terms);
     };

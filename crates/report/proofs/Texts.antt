@@ -23,9 +23,9 @@ use Rattle.rules.proofs.Asked.{ask-true, and-then}
 use Rattle.substitution.proofs.Reading.{term-length}
 use Rattle.packing.proofs.Exported.{run-ends}
 use Rattle.text.specs.Written.{Written}
-use Rattle.text.specs.Lines.{run-words, sheet-line}
+use Rattle.lines.specs.Lines.{run-words, sheet-line}
 use Rattle.text.proofs.Placed.{keeps}
-use Rattle.text.proofs.Lines.{refusal-length, accepted-length, run-length, sheet-length, sheet-lines-first, no-lines}
+use Rattle.lines.proofs.Lines.{refusal-length, accepted-length, run-length, sheet-length, sheet-lines-first, no-lines}
 use Rattle.report.specs.Room.{value-room, run-room, report-room}
 
 -- no answer is both

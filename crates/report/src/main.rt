@@ -17,11 +17,10 @@ ghost use Rattle.report.specs.Room.{value-room, run-room, report-room};
 use evaluation::RunAnswer;
 use inference::Found;
 use libc::STDOUT_FILENO;
+use sheet::SHEET_WIDTH;
 use sheet::Sheet;
 
 const WIDTH: usize = 6;
-
-const SHEET_WIDTH: usize = 4;
 
 const BUDGET: u64 = 1000;
 
@@ -60,9 +59,9 @@ fn value_text(
     match a {
         Sheet::Written(count) => {
             let bytes = SHEET_WIDTH * count;
-            text::sheet_lines(&sheet[..bytes], out, at)
+            lines::sheet_lines(&sheet[..bytes], out, at)
         }
-        Sheet::Refused(question, place) => text::refusal_line(
+        Sheet::Refused(question, place) => lines::refusal_line(
             question as u64,
             place as u64,
             out,
@@ -84,11 +83,11 @@ fn run_text(groups: &[u8], types: &[u8], script: &[u8], out: &mut [u8], at: usiz
     let a = evaluation::run(groups, types, script, BUDGET, &mut first, &mut scratch);
     match a {
         RunAnswer::Ended(end, steps, records) => {
-            let after = text::run_line(end as u64, steps, records as u64, out, at);
+            let after = lines::run_line(end as u64, steps, records as u64, out, at);
             let bytes = WIDTH * records;
             value_text(groups, types, &first[..bytes], end, out, after)
         }
-        RunAnswer::Refused(question, place) => text::refusal_line(
+        RunAnswer::Refused(question, place) => lines::refusal_line(
             question as u64,
             place as u64,
             out,
@@ -108,10 +107,10 @@ fn write_report(groups: &[u8], types: &[u8], script: &[u8], out: &mut [u8]) -> u
     let a = typing::checking(groups, types, script, &mut work, &mut answer);
     match a {
         Found::Typed(records) => {
-            let at = text::accepted_line(records as u64, out, 0);
+            let at = lines::accepted_line(records as u64, out, 0);
             run_text(groups, types, script, out, at)
         }
-        Found::Refused(question, place) => text::refusal_line(
+        Found::Refused(question, place) => lines::refusal_line(
             question as u64,
             place as u64,
             out,

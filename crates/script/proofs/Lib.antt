@@ -1,3 +1,2 @@
 pub mod Rooms
 pub mod Fields
-pub mod Asked

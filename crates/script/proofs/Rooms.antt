@@ -9,7 +9,7 @@ use lib.ListN.{length}
 use Rattle.rules.specs.Answer.{Bytes, ask, accepted, first-from, is-none}
 use Rattle.rules.specs.Script.{records, q13}
 use Rattle.rules.proofs.Asked.{ask-true}
-use Rattle.script.specs.Check.{whole-records}
+use Rattle.script.specs.Lengths.{whole-records}
 
 and-true : (a b c : Bool) → (a && (b && c)) ≡ (a && (b && (c && true)))
 and-true true true true = refl

@@ -8,12 +8,12 @@ ghost use mathlib.Core.List.{[], _∷_};
 ghost use Prim.Native.Nat.{_+_, _*_, _≤_};
 ghost use lib.Dec.{eqb};
 ghost use lib.ListN.{length};
-ghost use Rattle.rules.specs.Answer.{_⇒_, accepted};
+ghost use Rattle.rules.specs.Answer.{_⇒_};
 ghost use Rattle.rules.specs.Limits.{script-width};
 ghost use Rattle.rules.specs.Types.{type-kind};
-ghost use Rattle.rules.specs.Script.{ok14, ok15, ok16, q13, q14, q15, q16, q17, subterm};
+ghost use Rattle.rules.specs.Script.{ok14, ok15, ok16, q13, q14, q15, q16, q17};
 ghost use Rattle.answer.specs.Said.{said};
-ghost use Rattle.script.specs.Check.{whole-records, shape-check, later-check, terms-check};
+ghost use Rattle.script.specs.Lengths.{whole-records};
 
 pub const SCRIPT_LIMIT: usize = 8192;
 
@@ -160,94 +160,4 @@ pub fn question_17(script: &[u8]) -> Checked
         return Checked::Refused(17, n);
     };
     answer::ask(17, end, end == n)
-}
-
-// Questions 13, 14 and 17: is the script a whole term?
-pub fn shape_check(script: &[u8]) -> Checked
-    ensures { λ a. ⌜ said a ≡ shape-check (now (script .entry)) ⌝ }
-{
-    let whole = question_13(script);
-    let Checked::Passed = whole else {
-        return whole;
-    };
-    let right = question_14(script);
-    let Checked::Passed = right else {
-        return right;
-    };
-    question_17(script)
-}
-
-// Questions 14 to 19, in order.
-fn later_check(groups: &[u8], types: &[u8], script: &[u8]) -> Checked
-    requires { ⌜ q13 [] (now script) ≡ accepted tt ⌝ }
-    ensures { λ a. ⌜ said a ≡ later-check (now (groups .entry)) (now (types .entry)) (now (script .entry)) ⌝ }
-{
-    let a14 = question_14(script);
-    let Checked::Passed = a14 else {
-        return a14;
-    };
-    let a15 = question_15(groups, script);
-    let Checked::Passed = a15 else {
-        return a15;
-    };
-    let a16 = question_16(types, script);
-    let Checked::Passed = a16 else {
-        return a16;
-    };
-    let a17 = question_17(script);
-    let Checked::Passed = a17 else {
-        return a17;
-    };
-    let a18 = scope::question_18(script);
-    let Checked::Passed = a18 else {
-        return a18;
-    };
-    scope::question_19(script)
-}
-
-// Questions 13 to 19, in order.
-pub fn terms_check(groups: &[u8], types: &[u8], script: &[u8]) -> Checked
-    ensures { λ a. ⌜ said a ≡ terms-check [] (now (groups .entry)) (now (types .entry)) (now (script .entry)) ⌝ }
-{
-    let a13 = question_13(script);
-    let Checked::Passed = a13 else {
-        return a13;
-    };
-    later_check(groups, types, script)
-}
-
-// Questions 13 to 19, in order, of a run, whose two buffers have these lengths.
-pub fn terms_check_in_run(
-    groups: &[u8],
-    types: &[u8],
-    script: &[u8],
-    first: usize,
-    scratch: usize,
-) -> Checked
-    ensures { λ a. ⌜ said a ≡ terms-check (first ∷ scratch ∷ []) (now (groups .entry)) (now (types .entry))
-        (now (script .entry)) ⌝ }
-{
-    let fits = question_13_in_run(script, first, scratch);
-    let Checked::Passed = fits else {
-        return fits;
-    };
-    later_check(groups, types, script)
-}
-
-// The part of the script from its record `index` to the end of that record's last operand; the empty part where question 13,
-// 14 or 17 is answered no or the index is past the end. It has no recursion: 8,192 levels are possible.
-pub fn subterm(script: &[u8], index: usize) -> &[u8]
-    ensures { λ a. ⌜ now a ≡ subterm (now (script .entry)) index ⌝ }
-{
-    let asked = shape_check(script);
-    let Checked::Passed = asked else {
-        return &script[0..0];
-    };
-    let e = records::term_end(script, index);
-    let Ended::Before(end) = e else {
-        return &script[0..0];
-    };
-    let from = SCRIPT_WIDTH * index;
-    let to = SCRIPT_WIDTH * end;
-    &script[from..to]
 }

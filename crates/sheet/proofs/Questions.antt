@@ -19,9 +19,9 @@ use Rattle.answer.specs.declared.Checked.{Checked}
 use Rattle.answer.specs.declared.Checked.the-variants.{Passed, Refused}
 use Rattle.answer.specs.Said.{said}
 use Rattle.answer.proofs.Passed.{No}
-use Rattle.script.specs.Check.{terms-check}
+use Rattle.syntax.specs.Check.{terms-check}
 use Rattle.types_table.proofs.Questions.{all-yes}
-use Rattle.script.proofs.Asked.{script-check-is, Terms-pass, terms-pass}
+use Rattle.syntax.proofs.Asked.{script-check-is, Terms-pass, terms-pass}
 use Rattle.memory.specs.Splice.{splice}
 use Rattle.memory.proofs.Laws.{splice-front}
 use Rattle.sheet.specs.Value.{lines}

@@ -178,7 +178,7 @@ fn asked(groups: &[u8], types: &[u8], value: &[u8], group: u64) -> Checked
     let Checked::Passed = a12 else {
         return a12;
     };
-    let a19 = script::terms_check(groups, types, value);
+    let a19 = syntax::terms_check(groups, types, value);
     let Checked::Passed = a19 else {
         return a19;
     };

@@ -1,3 +1,3 @@
 pub mod Placed
 pub mod Digits
-pub mod Lines
+pub mod Words

@@ -23,8 +23,8 @@ use Rattle.answer.specs.Said.{said}
 use Rattle.answer.specs.declared.Checked.{Checked}
 use Rattle.answer.specs.declared.Checked.the-variants as checked
 use Rattle.answer.proofs.Checked.{the-type as checked-type}
-use Rattle.script.specs.Check.{terms-check}
-use Rattle.script.proofs.Asked.{script-check-is}
+use Rattle.syntax.specs.Check.{terms-check}
+use Rattle.syntax.proofs.Asked.{script-check-is}
 use Rattle.inference.specs.Memory.{Meets, finds, refuses}
 use Rattle.typing.specs.Answered.{answered, refusal}
 use Rattle.inference.specs.declared.Found.{Found}

@@ -180,7 +180,7 @@ pub fn checking(
     let Checked::Passed = a else {
         return refused(a);
     };
-    let b = script::terms_check(groups, types, script);
+    let b = syntax::terms_check(groups, types, script);
     let Checked::Passed = b else {
         return refused(b);
     };

@@ -6,7 +6,7 @@ use Rattle.rules.specs.Answer.{Answer, _>>_}
 use Rattle.rules.specs.Groups.{rows}
 use Rattle.rules.specs.Calls.{types-check, q25}
 use Rattle.answer.proofs.Passed.{stops, goes}
-use Rattle.script.specs.Check.{terms-check}
+use Rattle.syntax.specs.Check.{terms-check}
 use Rattle.sheet.specs.Said.{before-26}
 use Rattle.sheet.proofs.Questions.{before-26-is, outside, inside}
 use borrow.Author.Needs.{needs}

@@ -6,7 +6,7 @@ use Rattle.rules.specs.Answer.{Bytes}
 use Rattle.rules.specs.Report.{text, word}
 use Rattle.text.specs.Written.{Written}
 use Rattle.text.proofs.Placed.{nothing}
-use Rattle.text.proofs.Lines.{no-word, past-last}
+use Rattle.text.proofs.Words.{no-word, past-last}
 use borrow.Author.Needs.{needs}
 use Rattle.text.proofs.word.Statement.{statement}
 use Rattle.text.proofs.word.Tie as tie

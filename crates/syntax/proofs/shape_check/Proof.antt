@@ -5,9 +5,9 @@ use borrow.Author.Needs.{needs}
 use Rattle.rules.specs.Answer.{Bytes, Answer, _>>_}
 use Rattle.rules.specs.Script.{q13, q14, q17}
 use Rattle.answer.proofs.Passed.{stops, goes}
-use Rattle.script.specs.Check.{shape-check}
-use Rattle.script.proofs.shape_check.Statement.{statement}
-use Rattle.script.proofs.shape_check.Tie as tie
+use Rattle.syntax.specs.Check.{shape-check}
+use Rattle.syntax.proofs.shape_check.Statement.{statement}
+use Rattle.syntax.proofs.shape_check.Tie as tie
 
 abbrev script : tie.Start → Bytes
 script s = s .args .script .now

@@ -5,13 +5,13 @@ use Prim.Native.Nat.{_+_, _≤_}
 use lib.ListN.{length}
 use Rattle.rules.specs.Answer.{Bytes}
 use Rattle.rules.specs.Report.{text, decimal}
-use Rattle.text.specs.Lines.{run-words}
-use Rattle.text.proofs.Lines.{run-line-of}
+use Rattle.lines.specs.Lines.{run-words}
+use Rattle.lines.proofs.Lines.{run-line-of}
 use Rattle.text.specs.Written.{Written}
 use Rattle.text.proofs.Placed.{room-first, room-next, both}
 use borrow.Author.Needs.{needs}
-use Rattle.text.proofs.run_line.Statement.{statement}
-use Rattle.text.proofs.run_line.Tie as tie
+use Rattle.lines.proofs.run_line.Statement.{statement}
+use Rattle.lines.proofs.run_line.Tie as tie
 
 -- back from each piece to the one before
 abbrev back-1 : tie.After-put → tie.Start

@@ -1,16 +1,8 @@
 -- The questions of a script, in order.
-use mathlib.Core.Bool.{Bool, _&&_}
 use mathlib.Core.List.{List, []}
-use Prim.Native.Nat.{ℕ, _%_}
-use lib.Dec.{eqb, leb}
-use lib.ListN.{length}
+use Prim.Native.Nat.{ℕ}
 use Rattle.rules.specs.Answer.{Bytes, Answer, first-from, _>>_}
-use Rattle.rules.specs.Limits.{script-width, script-limit}
-use Rattle.rules.specs.Script.{records, ok14, ok15, ok16, term-end, ok18, ok19, counts, term, q13, q14, q15, q16, q17, q18, q19}
-
--- whole records, 1 to 8,192: question 13 of a script alone
-abbrev pub whole-records : Bytes → Bool
-whole-records s = eqb (length s % script-width) 0 && (leb 1 (records s) && leb (records s) script-limit)
+use Rattle.rules.specs.Script.{ok14, ok15, ok16, term-end, ok18, ok19, counts, term, q13, q14, q15, q16, q17, q18, q19}
 
 -- 13, 14 and 17: what the look-up of a subterm asks
 unfoldable pub shape-check : Bytes → Answer (Unit {0})

@@ -5,12 +5,12 @@ use Prim.Native.Nat.{ℕ, _*_, _≤_}
 use mathlib.Core.Option.{some}
 use lib.ListN.{length}
 use Rattle.rules.specs.Script.{slice, subterm, term-end}
-use Rattle.script.specs.Check.{shape-check}
+use Rattle.syntax.specs.Check.{shape-check}
 use Rattle.records.proofs.Ends.{is-short, is-before, end-inside}
-use Rattle.script.proofs.Asked.{no-part, whole-part, slice-is}
+use Rattle.syntax.proofs.Asked.{no-part, whole-part, slice-is}
 use borrow.Author.Needs.{needs}
-use Rattle.script.proofs.subterm.Statement.{statement}
-use Rattle.script.proofs.subterm.Tie as tie
+use Rattle.syntax.proofs.subterm.Statement.{statement}
+use Rattle.syntax.proofs.subterm.Tie as tie
 
 -- where the subterm ends, and that it ends within the script
 abbrev start : tie.After-known-told → tie.Start

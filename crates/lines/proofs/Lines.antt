@@ -9,9 +9,10 @@ use Rattle.rules.specs.Answer.{Bytes}
 use Rattle.rules.specs.Script.{size}
 use Rattle.rules.specs.Run.{Ran}
 use Rattle.rules.specs.Report.{text, word, refusal-line, accepted-line, run-line, sheet-lines}
 use Rattle.text.specs.Written.{Written}
-use Rattle.text.specs.Lines.{run-words, sheet-line}
+use Rattle.lines.specs.Lines.{run-words, sheet-line}
 use Rattle.text.proofs.Digits.{decimal-length}
+use Rattle.text.proofs.Words.{word-length}
 
 run-line-is : (x : Ran) → run-line x ≡ run-words (x .end) (x .steps) (size (x .last))
 unfolding run-line run-words
@@ -36,36 +37,6 @@ accepted-length n = simp length-append (omega (arith, decimal-length n))
 pub run-length : (end steps records : ℕ) → length (run-words end steps records) ≤ 81
 unfolding run-words text
 run-length a b c = simp length-append (omega (arith, decimal-length a, decimal-length b, decimal-length c))
-
-word-length : (k : ℕ) → length (word k) ≤ 8
-unfolding word text
-word-length zero = omega arith
-word-length (suc zero) = omega arith
-word-length (suc (suc zero)) = omega arith
-word-length (suc (suc (suc zero))) = omega arith
-word-length (suc (suc (suc (suc zero)))) = omega arith
-word-length (suc (suc (suc (suc (suc zero))))) = omega arith
-word-length (suc (suc (suc (suc (suc (suc k)))))) = omega arith
-
-pub past-last : (k : ℕ) → (k ≡ 0 → ⊥) → (k ≡ 1 → ⊥) → (k ≡ 2 → ⊥) → (k ≡ 3 → ⊥) → (k ≡ 4 → ⊥) → (k ≡ 5 → ⊥) → 6 ≤ k
-past-last zero a b c d e f = absurd (a refl)
-past-last (suc zero) a b c d e f = absurd (b refl)
-past-last (suc (suc zero)) a b c d e f = absurd (c refl)
-past-last (suc (suc (suc zero))) a b c d e f = absurd (d refl)
-past-last (suc (suc (suc (suc zero)))) a b c d e f = absurd (e refl)
-past-last (suc (suc (suc (suc (suc zero))))) a b c d e f = absurd (f refl)
-past-last (suc (suc (suc (suc (suc (suc k)))))) a b c d e f = omega arith
-
--- a kind past the last has no word
-pub no-word : (k : ℕ) → 6 ≤ k → word k ≡ []
-unfolding word text
-no-word zero l = absurd (omega arith)
-no-word (suc zero) l = absurd (omega arith)
-no-word (suc (suc zero)) l = absurd (omega arith)
-no-word (suc (suc (suc zero))) l = absurd (omega arith)
-no-word (suc (suc (suc (suc zero)))) l = absurd (omega arith)
-no-word (suc (suc (suc (suc (suc zero))))) l = absurd (omega arith)
-no-word (suc (suc (suc (suc (suc (suc k)))))) l = refl
 
 line-length : (k r ir : ℕ) → length (sheet-line k r ir) ≤ 51
 unfolding sheet-line text

@@ -8,9 +8,9 @@ use Rattle.rules.specs.Answer.{Bytes, Answer, accepted, _>>_}
 use Rattle.rules.specs.Script.{encode, term, q14, q15, q16, q17, q18, q19}
 use Rattle.rules.proofs.Scripts.{whole}
 use Rattle.answer.proofs.Passed.{accepts, stops, goes}
-use Rattle.script.specs.Check.{later-check}
-use Rattle.script.proofs.later_check.Statement.{statement}
-use Rattle.script.proofs.later_check.Tie as tie
+use Rattle.syntax.specs.Check.{later-check}
+use Rattle.syntax.proofs.later_check.Statement.{statement}
+use Rattle.syntax.proofs.later_check.Tie as tie
 
 abbrev script : tie.Start → Bytes
 script s = s .args .script .now

@@ -6,12 +6,12 @@ use native.Mathlib.Omega.{arith}
 use lib.ListN.{length, drop, getD, length-append}
 use Rattle.rules.specs.Answer.{Bytes}
 use Rattle.rules.specs.Report.{sheet-lines}
 use Rattle.text.specs.Written.{Written}
-use Rattle.text.specs.Lines.{sheet-line}
+use Rattle.lines.specs.Lines.{sheet-line}
 use Rattle.text.proofs.Placed.{nothing, then, keeps}
-use Rattle.text.proofs.Lines.{no-lines, one-line}
-use Rattle.text.proofs.sheet_lines.Statement.{statement}
-use Rattle.text.proofs.sheet_lines.Tie as tie
+use Rattle.lines.proofs.Lines.{no-lines, one-line}
+use Rattle.lines.proofs.sheet_lines.Statement.{statement}
+use Rattle.lines.proofs.sheet_lines.Tie as tie
 
 -- the lines so far, and that the others follow
 record So-far (s : Bytes) (i at : ℕ) (w : Bytes) (end : ℕ) (w′ : Bytes) : Type 0 where

@@ -4,9 +4,9 @@ use borrow.Author.Needs.{needs}
 use Rattle.rules.specs.Answer.{Answer}
 use Rattle.rules.specs.Script.{q13}
 use Rattle.answer.proofs.Passed.{accepts, stops, goes}
-use Rattle.script.specs.Check.{later-check, terms-check}
-use Rattle.script.proofs.terms_check.Statement.{statement}
-use Rattle.script.proofs.terms_check.Tie as tie
+use Rattle.syntax.specs.Check.{later-check, terms-check}
+use Rattle.syntax.proofs.terms_check.Statement.{statement}
+use Rattle.syntax.proofs.terms_check.Tie as tie
 
 abbrev own : tie.Start → Answer (Unit {0})
 own s = q13 [] (s .args .script .now)

@@ -12,7 +12,7 @@ use Rattle.answer.specs.declared.Checked.{Checked}
 use Rattle.answer.specs.declared.Checked.the-variants.{Passed, Refused}
 use Rattle.answer.specs.Said.{said}
 use Rattle.answer.proofs.Passed.{Yes, No, accepts}
-use Rattle.script.specs.Check.{terms-check}
+use Rattle.syntax.specs.Check.{terms-check}
 use Rattle.rules.proofs.Asked.{and-then}
 
 pub no-part : (x : Checked) (o : Answer (Unit {0})) (part : Bytes) → No x → said x ≡ o → part-if o part ≡ []
