@@ -1,5 +1,5 @@
 -- What an accepted call says of its questions, one after another.
-use mathlib.Core.Path.{_≡_, refl, ap}
+use mathlib.Core.Path.{_≡_, refl, sym, ap}
 use mathlib.Core.Bool.{Bool, true, false, _&&_, false≢true}
 use Prim.Native.Nat.{ℕ}
 use Rattle.rules.specs.Answer.{Answer, accepted, refused, _>>_, ask}
@@ -10,6 +10,12 @@ is-accepted (refused q p) = false
 
 pub refused≢accepted : {P : Type 1} {A : Type 0} {q p : ℕ} {a : A} → refused q p ≡ accepted a → P
 refused≢accepted e = absurd (false≢true (ap is-accepted e))
+
+pub accepted≢refused : {P : Type 0} {A : Type 0} {q p : ℕ} {a : A} → accepted a ≡ refused q p → P
+accepted≢refused e = absurd (false≢true (ap is-accepted (sym e)))
+
+pub number-inj : {A : Type 0} {q q′ p p′ : ℕ} → _≡_ {A = Answer A} (refused q p) (refused q′ p′) → q ≡ q′
+number-inj e = cc
 
 pub accepted-inj : {A : Type 0} {a b : A} → accepted a ≡ accepted b → a ≡ b
 accepted-inj e = cc

@@ -1,12 +1,13 @@
 -- A call that asks its questions one after another answers its yes, or by the first no.
-use mathlib.Core.Path.{refl}
+use mathlib.Core.Path.{_≡_, refl}
 use mathlib.Core.Bool.{Bool, true, false, not}
 use mathlib.Core.List.{List, [], _∷_, _++_}
 use mathlib.Core.Option.{Option, none, some}
-use Prim.Native.Nat.{ℕ}
+use Prim.Native.Nat.{ℕ, _<_}
 use lib.Dec.{eqb}
 use Rattle.rules.specs.Answer.{Answer, accepted, refused, _>>_, ask, refused-at, each, first-below}
 use Rattle.rules.specs.Script.{exactly}
+use Rattle.demands.proofs.Answers.{accepted≢refused, number-inj}
 use Rattle.demands.specs.Questions.{Question, question, AllYes, none-left, yes, FirstNo, this-one, a-later, Decides, says-yes, refuses, Checks, refuses-before, goes-on}
 
 -- one question, which refuses with its own number
@@ -62,3 +63,17 @@ pub checks-more : {A : Type 0} {qs rs : List Question} (l m : Answer (Unit {0}))
 checks-more l m n (says-yes Y) (says-yes Z) = goes-on (all-yes Y Z)
 checks-more l m n (says-yes Y) (refuses F) = refuses-before (after-yes Y F)
 checks-more l m n (refuses F) D = refuses-before (before-more _ F)
+
+-- a refusal has the number of one of the questions
+unfoldable pub Below : ℕ → List Question → Type 0
+Below n [] = Unit {0}
+Below n (x ∷ qs) = (x .number < n) × Below n qs
+
+first-no-below : {n : ℕ} {qs : List Question} {q place : ℕ} → Below n qs → FirstNo qs q place → q < n
+unfolding Below
+first-no-below b (this-one h) = b .0
+first-no-below b (a-later h F) = first-no-below (b .1) F
+
+pub refusal-below : {A : Type 0} {n : ℕ} {qs : List Question} {a : Answer A} {q place : ℕ} → Below n qs → Decides qs a → a ≡ refused q place → q < n
+refusal-below b (says-yes Y) e = accepted≢refused e
+refusal-below {n = n} b (refuses F) e = rw (← number-inj e) (first-no-below b F)

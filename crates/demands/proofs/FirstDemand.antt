@@ -9,7 +9,7 @@ use lib.Dec.{eqb, leb, ltb}
 use lib.ListN.{length, getD}
 use Rattle.calculus.specs.Types.{Ty}
 use Rattle.calculus.specs.Terms.{is-value}
-use Rattle.rules.specs.Answer.{Bytes, Answer, all-below}
+use Rattle.rules.specs.Answer.{Bytes, Answer, refused, all-below}
 use Rattle.rules.specs.Limits.{row-width, type-width, script-width, group-limit, table-limit, script-limit, work-length, answer-length}
 use Rattle.rules.specs.Groups.{rows, readers, ok3, ok4, ok5, ok6, ok7, q2, q3, q4, q5, q6, q7}
 use Rattle.rules.specs.Types.{type-count, type-at, ok9, ok10, ok11, ok12, q8, q9, q10, q11, q12}
@@ -21,7 +21,7 @@ use Rattle.rules.specs.Sheet.{sheet}
 use Rattle.rules.specs.Calls.{zeros, q1, q25, q26, q27, groups-check, types-check, at-or-below, script-check, checking, answer-after, work-after, stepping, written-after, running, first-after, scratch-after, sheeting, sheet-after}
 use Rattle.demands.specs.Questions.{question, of-groups, of-types, of-script, Decides, Checks}
 use Rattle.demands.specs.Demands.{Demand1}
-use Rattle.demands.proofs.Deciding.{Own, ask-own, each-own, exactly-own, decides-one, decides-then, decides-yes, checks-more}
+use Rattle.demands.proofs.Deciding.{Own, ask-own, each-own, exactly-own, decides-one, decides-then, decides-yes, checks-more, Below, refusal-below}
 use Rattle.demands.proofs.Places.{typing-placed, placed-refusal}
 
 -- Each question refuses with its own number.
@@ -69,6 +69,20 @@ script-decide rooms g t s =
     (decides-then (q17 s) _ (decides-one (exactly-own (records s) (term-end s 0)))
     (decides-then (q18 s) (q19 s) (decides-one (each-own 18 (records s) (ok18 (depths (term s)))))
     (decides-one (each-own 19 (records s) (ok19 (binders (term s)) s)))))))))
+
+-- 2 to 19 are below 20
+pub script-below : (rooms : List ℕ) (g t s : Bytes) (q place : ℕ) → script-check rooms g t s ≡ refused q place → q < 20
+unfolding Below
+script-below rooms g t s q place e = refusal-below numbers (script-decide rooms g t s) e
+  where
+    of-19 : Below 20 (of-script rooms g t s)
+    of-19 = (omega arith, (omega arith, (omega arith, (omega arith, (omega arith, (omega arith, (omega arith, tt)))))))
+
+    of-12 : Below 20 (of-types g t ++ of-script rooms g t s)
+    of-12 = (omega arith, (omega arith, (omega arith, (omega arith, (omega arith, of-19)))))
+
+    numbers : Below 20 (of-groups g ++ of-types g t ++ of-script rooms g t s)
+    numbers = (omega arith, (omega arith, (omega arith, (omega arith, (omega arith, (omega arith, of-12))))))
 
 comparison-decides : (g t : Bytes) (i j : ℕ)
     → Decides (of-groups g ++ of-types g t ++ (question 25 (q25 0 i (type-count t)) ∷ question 25 (q25 1 j (type-count t)) ∷ [])) (at-or-below g t i j)

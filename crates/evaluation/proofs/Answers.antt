@@ -13,33 +13,22 @@ use Rattle.rules.specs.Types.{type-at}
 use Rattle.rules.specs.Script.{term, encode, size}
 use Rattle.rules.specs.Run.{Ran, run}
 use Rattle.rules.specs.Reach.{Accepted}
-use Rattle.rules.specs.Calls.{zeros, types-check, script-check, running, Report, run-report, first-after, scratch-after}
+use Rattle.rules.specs.Calls.{zeros, script-check, running, Report, run-report, first-after, scratch-after}
 use Rattle.answer.specs.declared.Checked.{Checked}
 use Rattle.answer.specs.declared.Checked.the-variants.{Passed, Refused}
 use Rattle.answer.specs.Said.{said}
-use Rattle.answer.proofs.Passed.{Yes, No, accepts}
-use Rattle.syntax.specs.Check.{terms-check}
-use Rattle.syntax.proofs.Asked.{script-check-is}
+use Rattle.answer.proofs.Passed.{No}
 use Rattle.demands.proofs.Answers.{accepted-inj}
 use Rattle.demands.proofs.ThirdDemand.{third-demand}
 use Rattle.evaluation.specs.declared.Halt.{Halt}
 use Rattle.evaluation.specs.declared.RunAnswer.{RunAnswer}
 use Rattle.evaluation.specs.declared.RunAnswer.the-variants as answer
 use Rattle.evaluation.specs.Runs.{Told, Ends, refused-run, run-reported, Demanded}
-use Rattle.rules.proofs.Asked.{regroup}
 
 -- the answer and both buffers are those of o
 abbrev pub Says : Bytes → Bytes → Answer Ran → RunAnswer → Bytes → Bytes → Type 0
 Says first scratch o a first′ scratch′ =
     (run-reported a ≡ run-report o) × (first′ ≡ first-after o first) × (scratch′ ≡ scratch-after o scratch)
-
--- "A refusal leaves all lent memory unchanged."
-refuses : (first scratch : Bytes) (x : Checked) (a : Answer (Unit {0})) (o : Answer Ran) → No x → said x ≡ a
-    → Says first scratch (_>>_ a o) (refused-run x) first scratch
-unfolding run-report
-refuses first scratch Passed a o k e = absurd (omega arith)
-refuses first scratch (Refused q p) a o k e =
-    transport (λ (c : Answer (Unit {0})). Says first scratch (_>>_ c o) (refused-run (Refused q p)) first scratch) e (refl, refl, refl)
 
 module _ (g t s : Bytes) (budget : ℕ) (first scratch : Bytes) where
   abbrev rooms : List ℕ
@@ -51,23 +40,12 @@ module _ (g t s : Bytes) (budget : ℕ) (first scratch : Bytes) where
   abbrev pub ran : Ran
   ran = run (readers g) (type-at t) (min (length first) (length scratch)) budget (term s)
 
-  running-is : running g t s budget (length first) (length scratch) ≡ _>>_ (types-check g t) (_>>_ (terms-check rooms g t s) (accepted ran))
-  unfolding running
-  running-is =
-      ap (λ (o : Answer (Unit {0})). _>>_ o (accepted ran)) (script-check-is rooms g t s)
-      ∙ regroup (types-check g t) (terms-check rooms g t s) (accepted ran)
-
-  pub refused-tables : (x : Checked) → No x → said x ≡ types-check g t → Says first scratch answered (refused-run x) first scratch
-  refused-tables x k e =
-      transport (λ (o : Answer Ran). Says first scratch o (refused-run x) first scratch) (sym running-is)
-      (refuses first scratch x (types-check g t) (_>>_ (terms-check rooms g t s) (accepted ran)) k e)
-
-  pub refused-script : (x y : Checked) → Yes x → said x ≡ types-check g t → No y → said y ≡ terms-check rooms g t s
-      → Says first scratch answered (refused-run y) first scratch
-  refused-script x y k e m f =
-      transport (λ (o : Answer Ran). Says first scratch o (refused-run y) first scratch)
-      (ap (λ (a : Answer (Unit {0})). _>>_ a (_>>_ (terms-check rooms g t s) (accepted ran))) (sym (accepts x (types-check g t) k e)) ∙ sym running-is)
-      (refuses first scratch y (terms-check rooms g t s) (accepted ran) m f)
+  -- "A refusal leaves all lent memory unchanged."
+  pub refused-keeps : (x : Checked) → No x → said x ≡ script-check rooms g t s → Says first scratch answered (refused-run x) first scratch
+  unfolding running run-report
+  refused-keeps Passed k e = absurd (omega arith)
+  refused-keeps (Refused q p) k e =
+      transport (λ (c : Answer (Unit {0})). Says first scratch (_>>_ c (accepted ran)) (refused-run (Refused q p)) first scratch) e (refl, refl, refl)
 
   -- the run of the script's term, where it stands in the first buffer
   pub ran-so : script-check rooms g t s ≡ accepted tt → (first₁ first′ scratch′ : Bytes) (e : Term) (a : Halt) → length first₁ ≡ length first → e ≡ term s

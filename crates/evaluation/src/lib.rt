@@ -157,13 +157,9 @@ pub fn run(
         → Demanded (now (groups .entry)) (now (types .entry)) (now (script .entry)) type budget (now (first .entry))
         (now (scratch .entry)) a (now (first .exit)) (now (scratch .exit))) ⌝ }
 {
-    let tables = types_table::types_check(groups, types);
-    let Checked::Passed = tables else {
-        return refused_run(tables);
-    };
-    let terms = syntax::terms_check_in_run(groups, types, script, first.len(), scratch.len());
-    let Checked::Passed = terms else {
-        return refused_run(terms);
+    let asked = syntax::script_check_in_run(groups, types, script, first.len(), scratch.len());
+    let Checked::Passed = asked else {
+        return refused_run(asked);
     };
     memory::copy_part(script, 0, script.len(), first, 0);
     let records = records::record_count(script);

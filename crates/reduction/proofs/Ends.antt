@@ -21,10 +21,7 @@ use Rattle.rules.specs.Calls.{step-report, types-check, groups-check, script-ch
 use Rattle.answer.specs.declared.Checked.{Checked}
 use Rattle.answer.specs.declared.Checked.the-variants.{Passed, Refused}
 use Rattle.answer.specs.Said.{said}
-use Rattle.answer.proofs.Passed.{Yes, No, accepts}
-use Rattle.syntax.specs.Check.{terms-check}
-use Rattle.syntax.proofs.Asked.{script-check-is}
-use Rattle.demands.proofs.Answers.{go-on}
+use Rattle.answer.proofs.Passed.{No}
 use Rattle.rules.proofs.Asked.{and-then, few-types}
 use Rattle.demands.proofs.Checked.{script-passed}
 use Rattle.redex.specs.Found.{Site, Finds, finds-redex}
@@ -76,44 +73,15 @@ made-report s may-not = refl
 made-report s wrong-kind = refl
 made-report s too-big = refl
 
--- a step's questions: those of the tables, then those of the script
-stepping-is : (g t s : Bytes) (room : ℕ)
-    → stepping g t s room
-    ≡ _>>_ (_>>_ (types-check g t) (terms-check [] g t s)) (accepted (step-in (readers g) (type-at t) room (term s)))
-unfolding stepping
-stepping-is g t s room = ap (λ o. _>>_ o (accepted (step-in (readers g) (type-at t) room (term s)))) (script-check-is [] g t s)
-
 -- a refusal, and the buffer as it was
 abbrev pub Keeps : Bytes → Bytes → Checked → Answer End → Type 0
 Keeps s old x o = (reported (refused-step x) ≡ step-report s o) × (old ≡ written-after o old)
 
-first-no : (s old : Bytes) (x : Checked) (a b : Answer (Unit {0})) (o : Answer End) → No x → said x ≡ a → Keeps s old x (_>>_ (_>>_ a b) o)
-first-no s old Passed a b o k e = absurd (omega arith)
-first-no s old (Refused q p) a b o k e =
-    transport (λ (c : Answer (Unit {0})). Keeps s old (Refused q p) (_>>_ (_>>_ c b) o)) e (refl, refl)
-
-pub refused-tables : (g t s old : Bytes) (room : ℕ) (x : Checked) → No x → said x ≡ types-check g t → Keeps s old x (stepping g t s room)
-refused-tables g t s old room x k e =
-    transport (Keeps s old x) (sym (stepping-is g t s room)) (first-no s old x (types-check g t) (terms-check [] g t s) _ k e)
-
-pub refused-script : (g t s old : Bytes) (room : ℕ) (x y : Checked) → Yes x → said x ≡ types-check g t → No y → said y ≡ terms-check [] g t s
-    → Keeps s old y (stepping g t s room)
-refused-script g t s old room x y k e m f =
-    transport (Keeps s old y)
-    (ap (λ (a : Answer (Unit {0})). _>>_ (_>>_ a (terms-check [] g t s)) (accepted (step-in (readers g) (type-at t) room (term s))))
-    (sym (accepts x (types-check g t) k e))
-    ∙ sym (stepping-is g t s room)) (second-no s old y (terms-check [] g t s) _ m f)
-  where
-    second-no : (s old : Bytes) (y : Checked) (b : Answer (Unit {0})) (o : Answer End) → No y → said y ≡ b → Keeps s old y (_>>_ b o)
-    second-no s old Passed b o k e = absurd (omega arith)
-    second-no s old (Refused q p) b o k e =
-        transport (λ (c : Answer (Unit {0})). Keeps s old (Refused q p) (_>>_ c o)) e (refl, refl)
-
--- all questions answered yes
-pub passed : (rooms : List ℕ) (g t s : Bytes) (x y : Checked) → Yes x → said x ≡ types-check g t → Yes y → said y ≡ terms-check rooms g t s
-    → script-check rooms g t s ≡ accepted tt
-passed rooms g t s x y k e m f =
-    script-check-is rooms g t s ∙ go-on (accepts x (types-check g t) k e) (accepts y (terms-check rooms g t s) m f)
+pub refused-keeps : (g t s old : Bytes) (room : ℕ) (x : Checked) → No x → said x ≡ script-check [] g t s → Keeps s old x (stepping g t s room)
+unfolding stepping
+refused-keeps g t s old room Passed k e = absurd (omega arith)
+refused-keeps g t s old room (Refused q p) k e =
+    transport (λ (c : Answer (Unit {0})). Keeps s old (Refused q p) (_>>_ c (accepted (step-in (readers g) (type-at t) room (term s))))) e (refl, refl)
 
 pub passed-step : (g t s : Bytes) (room : ℕ) → script-check [] g t s ≡ accepted tt
     → stepping g t s room ≡ accepted (step-in (readers g) (type-at t) room (term s))

@@ -142,13 +142,9 @@ pub fn step(groups: &[u8], types: &[u8], script: &[u8], written: &mut [u8]) -> S
         ≡ written-after (stepping (now (groups .entry)) (now (types .entry)) (now (script .entry))
         (length (now (written .entry)))) (now (written .entry))) ⌝ }
 {
-    let tables = types_table::types_check(groups, types);
-    let Checked::Passed = tables else {
-        return refused_step(tables);
-    };
-    let terms = syntax::terms_check(groups, types, script);
-    let Checked::Passed = terms else {
-        return refused_step(terms);
+    let asked = syntax::script_check(groups, types, script);
+    let Checked::Passed = asked else {
+        return refused_step(asked);
     };
     let own = records::record_count(script);
     let room = written.len();

@@ -9,19 +9,17 @@ use lib.Dec.{ltb}
 use lib.ListN.{length}
 use Rattle.calculus.specs.Terms.{is-value}
 use Rattle.rules.specs.Answer.{Bytes, Octets, Answer, accepted, refused, _>>_}
+use Rattle.rules.specs.Limits.{group-limit}
 use Rattle.rules.specs.Groups.{rows, q2}
 use Rattle.rules.specs.Script.{encode, term}
 use Rattle.rules.specs.Sheet.{sheet}
 use Rattle.rules.specs.Calls.{groups-check, types-check, script-check, q25, q26, q27, sheeting, sheet-records, sheet-after}
 use Rattle.rules.proofs.Asked.{ask-true, and-then, regroup, few-rows}
-use Rattle.rules.proofs.Scripts.{whole}
+use Rattle.demands.proofs.Checked.{script-passed}
 use Rattle.answer.specs.declared.Checked.{Checked}
 use Rattle.answer.specs.declared.Checked.the-variants.{Passed, Refused}
 use Rattle.answer.specs.Said.{said}
 use Rattle.answer.proofs.Passed.{No}
-use Rattle.syntax.specs.Check.{terms-check}
-use Rattle.types_table.proofs.Questions.{all-yes}
-use Rattle.syntax.proofs.Asked.{script-check-is, Terms-pass, terms-pass}
 use Rattle.memory.specs.Splice.{splice}
 use Rattle.memory.proofs.Laws.{splice-front}
 use Rattle.sheet.specs.Value.{lines}
@@ -30,12 +28,6 @@ use Rattle.sheet.specs.declared.Sheet.{Sheet}
 use Rattle.sheet.specs.declared.Sheet.the-variants as the
 use Rattle.sheet.proofs.Sheets.{sheet-length}
 
-pub before-26-is : (g t s : Bytes) (group : ℕ) → _>>_ (types-check g t) (_>>_ (terms-check [] g t s) (q25 0 group (rows g))) ≡ before-26 g t s group
-unfolding before-26
-before-26-is g t s group =
-    sym (regroup (types-check g t) (terms-check [] g t s) (q25 0 group (rows g)))
-    ∙ ap (λ (a : Answer (Unit {0})). _>>_ a (q25 0 group (rows g))) (sym (script-check-is [] g t s))
-
 pub outside : (n group : ℕ) → n ≤ group → refused 25 0 ≡ q25 0 group n
 outside n group l = rw (le-ltb group n l)
 
@@ -43,24 +35,15 @@ pub inside : (n group : ℕ) → group < n → accepted tt ≡ q25 0 group n
 inside n group l = rw (lt-ltb group n l)
 
 -- what a yes to all of them says
-record All (g t s : Bytes) (group : ℕ) : Type 0 where
-  few : rows g ≤ 32
-  terms : Terms-pass [] g t s
-  in-table : group < rows g
+few-of : (g t : Bytes) → types-check g t ≡ accepted tt → rows g ≤ group-limit
+unfolding types-check groups-check
+few-of g t e = few-rows g (and-then (q2 g) _ (and-then (groups-check g) _ e .0) .0)
 
-few-of : (g : Bytes) → groups-check g ≡ accepted tt → rows g ≤ 32
-unfolding groups-check
-few-of g e = few-rows g (and-then (q2 g) _ e .0)
-
-all-of : (g t s : Bytes) (group : ℕ) → before-26 g t s group ≡ accepted tt → All g t s group
+all-of : (g t s : Bytes) (group : ℕ) → before-26 g t s group ≡ accepted tt → (script-check [] g t s ≡ accepted tt) × (group < rows g)
+unfolding before-26
 all-of g t s group e =
-    let a = and-then (types-check g t) (_>>_ (terms-check [] g t s) (q25 0 group (rows g))) (before-26-is g t s group ∙ e) in
-    let b = and-then (terms-check [] g t s) (q25 0 group (rows g)) (a .1) in
-    record {
-      few = few-of g (all-yes g t (a .0) .to-7);
-      terms = terms-pass [] g t s (b .0);
-      in-table = ltb-true group (rows g) (ask-true 25 0 (ltb group (rows g)) (b .1));
-    }
+    let a = and-then (script-check [] g t s) (q25 0 group (rows g)) e in
+    (a .0, ltb-true group (rows g) (ask-true 25 0 (ltb group (rows g)) (a .1)))
 
 -- the questions after 25, and the sheet
 abbrev pub from-26 : Bytes → Bytes → ℕ → ℕ → Answer Bytes
@@ -115,13 +98,12 @@ module _ (g t s : Bytes) (group : ℕ) (old : Bytes) where
         (after-25 ∙ rw (v, le-leb (length (sheet g group (term s))) (length old) (omega (arith, sheet-length g group (term s)))))
         (sheet-length g group (term s) ∙ ap (λ x. 4 * x) (sym h)) e
 
-    passed : All g t s group
-    passed = all-of g t s group yes
-
-    -- a group of the table is a byte
-    pub narrow : group < 256
-    narrow = omega (arith, passed .in-table, passed .few)
-
     -- the script is the encoding of its term
     pub encoded : Octets s → encode (term s) ≡ s
-    encoded o = let p = passed .terms in whole [] s o (p .q13-yes) (p .q14-yes) (p .q17-yes) .encoded
+    encoded o = script-passed [] g t s o (all-of g t s group yes .0) .encoded
+
+    -- a group of the table is a byte
+    pub narrow : Octets s → group < 256
+    narrow o =
+        let a = all-of g t s group yes in
+        omega (arith, a .1, few-of g t (script-passed [] g t s o (a .0) .types))

@@ -174,11 +174,7 @@ fn write(
 fn asked(groups: &[u8], types: &[u8], value: &[u8], group: u64) -> Checked
     ensures { λ a. ⌜ said a ≡ before-26 (now (groups .entry)) (now (types .entry)) (now (value .entry)) group ⌝ }
 {
-    let a12 = types_table::types_check(groups, types);
-    let Checked::Passed = a12 else {
-        return a12;
-    };
-    let a19 = syntax::terms_check(groups, types, value);
+    let a19 = syntax::script_check(groups, types, value);
     let Checked::Passed = a19 else {
         return a19;
     };

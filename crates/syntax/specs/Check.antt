@@ -22,15 +22,3 @@ later-check g t s = do
   q17 s
   q18 s
   q19 s
-
--- 13 to 19; `rooms` are the lengths of a run's buffers
-unfoldable pub terms-check : List ℕ → Bytes → Bytes → Bytes → Answer (Unit {0})
-unfolding first-from ok14 ok15 ok16 term-end ok18 ok19 counts term
-terms-check rooms g t s = do
-  q13 rooms s
-  q14 s
-  q15 g s
-  q16 t s
-  q17 s
-  q18 s
-  q19 s

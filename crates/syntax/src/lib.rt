@@ -5,8 +5,9 @@ ghost use mathlib.Core.Path.{_≡_};
 ghost use mathlib.Core.List.{[], _∷_};
 ghost use Rattle.rules.specs.Answer.{accepted};
 ghost use Rattle.rules.specs.Script.{q13, subterm};
+ghost use Rattle.rules.specs.Calls.{script-check};
 ghost use Rattle.answer.specs.Said.{said};
-ghost use Rattle.syntax.specs.Check.{shape-check, later-check, terms-check};
+ghost use Rattle.syntax.specs.Check.{shape-check, later-check};
 
 // Questions 13, 14 and 17: is the script a whole term?
 pub fn shape_check(script: &[u8]) -> Checked
@@ -51,28 +52,36 @@ fn later_check(groups: &[u8], types: &[u8], script: &[u8]) -> Checked
     scope::question_19(script)
 }
 
-// Questions 13 to 19, in order.
-pub fn terms_check(groups: &[u8], types: &[u8], script: &[u8]) -> Checked
-    ensures { λ a. ⌜ said a ≡ terms-check [] (now (groups .entry)) (now (types .entry)) (now (script .entry)) ⌝ }
+// Questions 2 to 19, in order.
+pub fn script_check(groups: &[u8], types: &[u8], script: &[u8]) -> Checked
+    ensures { λ a. ⌜ said a ≡ script-check [] (now (groups .entry)) (now (types .entry)) (now (script .entry)) ⌝ }
 {
-    let a13 = script::question_13(script);
-    let Checked::Passed = a13 else {
-        return a13;
+    let tables = types_table::types_check(groups, types);
+    let Checked::Passed = tables else {
+        return tables;
+    };
+    let whole = script::question_13(script);
+    let Checked::Passed = whole else {
+        return whole;
     };
     later_check(groups, types, script)
 }
 
-// Questions 13 to 19, in order, of a run, whose two buffers have these lengths.
-pub fn terms_check_in_run(
+// Questions 2 to 19, in order, of a run, whose two buffers have these lengths.
+pub fn script_check_in_run(
     groups: &[u8],
     types: &[u8],
     script: &[u8],
     first: usize,
     scratch: usize,
 ) -> Checked
-    ensures { λ a. ⌜ said a ≡ terms-check (first ∷ scratch ∷ []) (now (groups .entry)) (now (types .entry))
+    ensures { λ a. ⌜ said a ≡ script-check (first ∷ scratch ∷ []) (now (groups .entry)) (now (types .entry))
         (now (script .entry)) ⌝ }
 {
+    let tables = types_table::types_check(groups, types);
+    let Checked::Passed = tables else {
+        return tables;
+    };
     let fits = script::question_13_in_run(script, first, scratch);
     let Checked::Passed = fits else {
         return fits;

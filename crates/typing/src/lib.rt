@@ -176,13 +176,9 @@ pub fn checking(
     if answer.len() < SLOT {
         return Found::Refused(1, 0);
     }
-    let a = types_table::types_check(groups, types);
-    let Checked::Passed = a else {
-        return refused(a);
-    };
-    let b = syntax::terms_check(groups, types, script);
-    let Checked::Passed = b else {
-        return refused(b);
+    let asked = syntax::script_check(groups, types, script);
+    let Checked::Passed = asked else {
+        return refused(asked);
     };
     let x = type_script(groups, types, script, work);
     hand_over(x, work, answer);

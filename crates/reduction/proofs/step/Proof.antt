@@ -11,9 +11,10 @@ use Rattle.rules.specs.Types.{type-at}
 use Rattle.rules.specs.Script.{term, records}
 use Rattle.rules.specs.Step.{End, step-in}
 use Rattle.rules.specs.Calls.{step-report, script-check, stepping, written-after}
+use Rattle.answer.proofs.Passed.{accepts}
 use Rattle.reduction.specs.declared.StepAnswer.{StepAnswer}
 use Rattle.reduction.specs.Steps.{as-step, reported}
-use Rattle.reduction.proofs.Ends.{made-report, refused-tables, refused-script, passed, passed-step, startable}
+use Rattle.reduction.proofs.Ends.{made-report, refused-keeps, passed-step, startable}
 use Rattle.reduction.proofs.step.Statement.{statement}
 use Rattle.reduction.proofs.step.Tie as tie
 
@@ -27,14 +28,15 @@ answer s = stepping (s .args .groups .now) (s .args .types .now) (s .args .scrip
 abbrev end : tie.Start → End
 end s = step-in (readers (s .args .groups .now)) (type-at (s .args .types .now)) (length (s .args .written .now)) (term (s .args .script .now))
 
-yes : (c : tie.After-enum-told3) → script-check [] (c .before .before .before .before .before .before .before .before .before .before .args .groups .now) (c .before .before .before .before .before .before .before .before .before .before .args .types .now) (c .before .before .before .before .before .before .before .before .before .before .args .script .now) ≡ accepted tt
-yes c =
-    let s = c .before .before .before .before .before .before .before .before .before .before in
-    passed [] (s .args .groups .now) (s .args .types .now) (s .args .script .now) (c .before .before .before .before .before .types-check .result) (c .before .before .terms-check .result) (c .before .before .before .before .match .keys1)
-    (c .before .before .before .before .before .types-check .ensures) (c .before .match2 .keys1) (c .before .before .terms-check .ensures)
+-- past question 19
+abbrev start : tie.After-enum-told → tie.Start
+start c = c .before .before .before .before .before .before .before
 
-types-check-requires : tie.Need-types-check-requires
-types-check-requires c κs = search needs
+yes : (c : tie.After-enum-told) → script-check [] (start c .args .groups .now) (start c .args .types .now) (start c .args .script .now) ≡ accepted tt
+yes c = accepts (c .before .before .script-check .result) _ (c .before .match .keys1) (c .before .before .script-check .ensures)
+
+script-check-requires : tie.Need-script-check-requires
+script-check-requires c κs = search needs
 
 enum-told : tie.Need-enum-told
 enum-told c = search needs
@@ -47,37 +49,20 @@ refused-step-requires c κs = search needs
 
 returns : tie.Need-returns
 returns c =
-    let s = c .before .before .before .before .before .before .before .before in
+    let q = c .before .before .before in
+    let s = q .before .before .before .before .before in
     transport (λ (a : StepAnswer). Says s (answer s) a (s .args .written .now)) (sym (c .refused-step .ensures))
-    (refused-tables (s .args .groups .now) (s .args .types .now) (s .args .script .now) (s .args .written .now) (length (s .args .written .now))
-    (c .before .before .before .types-check .result) (c .before .before .match .keys2) (c .before .before .before .types-check .ensures))
-
-terms-check-requires : tie.Need-terms-check-requires
-terms-check-requires c κs = search needs
-
-enum-told-3 : tie.Need-enum-told-3
-enum-told-3 c = search needs
-
-enum-told-4 : tie.Need-enum-told-4
-enum-told-4 c = search needs
-
-refused-step-requires-2 : tie.Need-refused-step-requires-2
-refused-step-requires-2 c κs = search needs
-
-returns-2 : tie.Need-returns-2
-returns-2 c =
-    let s = c .before .before .before .before .before .before .before .before .before .before .before in
-    transport (λ (a : StepAnswer). Says s (answer s) a (s .args .written .now)) (sym (c .refused-step2 .ensures))
-    (refused-script (s .args .groups .now) (s .args .types .now) (s .args .script .now) (s .args .written .now) (length (s .args .written .now))
-    (c .before .before .before .before .before .before .types-check .result) (c .before .before .before .terms-check .result) (c .before .before .before .before .before .match .keys1) (c .before .before .before .before .before .before .types-check .ensures) (c .before .before .match2 .keys2) (c .before .before .before .terms-check .ensures))
+    (refused-keeps (s .args .groups .now) (s .args .types .now) (s .args .script .now) (s .args .written .now) (length (s .args .written .now))
+    (q .script-check .result) (c .before .before .match .keys2) (q .script-check .ensures))
 
 record-count-requires : tie.Need-record-count-requires
 record-count-requires c κs = search needs
 
 step-term-requires : tie.Need-step-term-requires
 step-term-requires c κs =
-    let s = c .before .before .before .before .before .before .before .before .before .before .before .before in (
-      startable [] (s .args .groups .now) (s .args .types .now) (s .args .script .now) (λ k. omega (arith, c .before .before .before .before .before .before .before .before .before .shared-slice-known3 .given k)) (yes (c .before .before)),
+    let d = c .before .before in
+    let s = start d in (
+      startable [] (s .args .groups .now) (s .args .types .now) (s .args .script .now) (λ k. omega (arith, d .before .before .before .before .shared-slice-known3 .given k)) (yes d),
       omega arith,
     )
 
@@ -87,34 +72,30 @@ ended-requires c κs = search needs
 same-length : tie.Need-same-length
 same-length c = search needs
 
-returns-3 : tie.Need-returns-3
-returns-3 c =
-    let s = c .before .before .before .before .before .before .before .before .before .before .before .before .before .before .before .before in
-    let x = c .before .before .before .step-term .ensures in
-    let h = passed-step (s .args .groups .now) (s .args .types .now) (s .args .script .now) (length (s .args .written .now)) (yes (c .before .before .before .before .before .before)) in
-    let a = c .ended .ensures ∙ ap (λ n. as-step n (c .before .before .before .step-term .result)) (c .before .before .before .before .before .record-count .ensures) in (
-      ap reported (a ∙ ap (as-step (records (s .args .script .now))) (x .0))
+returns-2 : tie.Need-returns-2
+returns-2 c =
+    let x = c .before .before .before in
+    let d = x .before .before .before in
+    let s = start d in
+    let h = passed-step (s .args .groups .now) (s .args .types .now) (s .args .script .now) (length (s .args .written .now)) (yes d) in
+    let a = c .ended .ensures ∙ ap (λ n. as-step n (x .step-term .result)) (x .before .before .record-count .ensures) in (
+      ap reported (a ∙ ap (as-step (records (s .args .script .now))) (x .step-term .ensures .0))
           ∙ made-report (s .args .script .now) (end s)
           ∙ sym (ap (step-report (s .args .script .now)) h),
-      x .1 ∙ sym (ap (λ (o : Answer End). written-after o (s .args .written .now)) h),
+      x .step-term .ensures .1 ∙ sym (ap (λ (o : Answer End). written-after o (s .args .written .now)) h),
     )
 
 pub step-spec : {M : Type 1} → statement M
 step-spec =
     tie.close
     (tie.spec
-    types-check-requires
+    script-check-requires
     enum-told
     enum-told-2
     refused-step-requires
     returns
-    terms-check-requires
-    enum-told-3
-    enum-told-4
-    refused-step-requires-2
-    returns-2
     record-count-requires
     step-term-requires
     ended-requires
     same-length
-    returns-3)
+    returns-2)

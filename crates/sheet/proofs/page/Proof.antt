@@ -111,7 +111,7 @@ cast-t13 : tie.Need-cast-t13
 cast-t13 c =
     let d = c .before in
     let s = begin d in
-    omega (arith, narrow (groups-of s) (types-of s) (value-of s) (s .args .group) (old s) (yes (told d)))
+    omega (arith, narrow (groups-of s) (types-of s) (value-of s) (s .args .group) (old s) (yes (told d)) (octets (told d)))
 
 write-requires : tie.Need-write-requires
 write-requires c κs =
