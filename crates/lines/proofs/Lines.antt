@@ -1,4 +1,4 @@
--- The lines of the report, from their numbers, and how long they can be. Assumes nothing.
+-- The lines of the report, from their numbers, and how long they can be.
 use mathlib.Core.Path.{_≡_, refl, sym, ap, subst, _∙_}
 use mathlib.Core.List.{[], _∷_, _++_}
 use Prim.Native.Nat.{ℕ, zero, suc, _+_, _*_, _/_, _≤_, _<_}

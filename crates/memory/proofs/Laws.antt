@@ -1,4 +1,4 @@
--- Laws of writing over a piece. Assumes nothing.
+-- Laws of writing over a piece.
 use mathlib.Core.Path.{_≡_, refl, sym, ap, _∙_}
 use mathlib.Core.List.{List, [], _∷_, _++_, append-assoc}
 use Prim.Native.Nat.{ℕ, zero, suc, _+_, _-_, _≤_}

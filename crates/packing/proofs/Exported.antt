@@ -1,4 +1,4 @@
--- Every exported answer is bounded, and one number holds it: `unpack` gives it back. Assumes nothing.
+-- Every exported answer is bounded, and one number holds it: `unpack` gives it back.
 use mathlib.Core.Path.{_≡_, refl, ap, subst}
 use mathlib.Core.Bool.{Bool, true, false}
 use mathlib.Core.List.{[], _∷_}

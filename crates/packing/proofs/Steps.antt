@@ -1,4 +1,4 @@
--- The bytes of a step count, one after the other. Assumes nothing.
+-- The bytes of a step count, one after the other.
 use mathlib.Core.Path.{_≡_, refl, sym, ap, _∙_}
 use mathlib.Core.Bool.{Bool, true, false}
 use mathlib.Core.List.{[], _∷_, _++_, append-assoc, append-nil}

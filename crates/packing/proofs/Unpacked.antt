@@ -1,4 +1,4 @@
--- A caller reads off an exported number the answer that was packed. Assumes nothing.
+-- A caller reads off an exported number the answer that was packed.
 use mathlib.Core.Path.{_≡_, ap, ap₂}
 use Prim.Native.Nat.{ℕ, _+_, _*_, _/_, _%_, _<_}
 use native.Mathlib.Omega.{arith}

@@ -1,4 +1,4 @@
--- What the exports pass on. Assumes nothing.
+-- What the exports pass on.
 use mathlib.Core.Path.{_≡_, refl, sym, ap, _∙_}
 use mathlib.Core.Bool.{Bool, true, false}
 use mathlib.Core.List.{[]}

@@ -3,14 +3,7 @@ use mathlib.Core.Bool.{_||_, cond}
 use Prim.Native.Nat.{ℕ, zero, suc}
 use lib.Dec.{eqb}
 
--- over the first operand of a record of this kind, and over a later one
-abbrev pub binds-first : ℕ → ℕ
-binds-first kind = cond (eqb kind 2 || eqb kind 11) 1 0
-
-abbrev pub binds-later : ℕ → ℕ
-binds-later kind = cond (eqb kind 9) 1 0
-
--- over operand j, counted from 0
+-- how many stand over operand j, counted from 0, of a record of this kind
 unfoldable pub binds : ℕ → ℕ → ℕ
-binds kind zero = binds-first kind
-binds kind (suc j) = binds-later kind
+binds kind zero = cond (eqb kind 2 || eqb kind 11) 1 0
+binds kind (suc j) = cond (eqb kind 9) 1 0

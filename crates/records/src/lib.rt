@@ -9,7 +9,7 @@ ghost use Rattle.rules.specs.Script.{records, kind, r, ir, zero-byte, number, s
 ghost use Rattle.rules.specs.Script.{size, term-end};
 ghost use Rattle.records.specs.Place.{At, Here};
 ghost use Rattle.records.specs.Said.{line, ended};
-ghost use Rattle.records.specs.Binders.{binds, binds-first, binds-later};
+ghost use Rattle.records.specs.Binders.{binds};
 
 pub const SCRIPT_WIDTH: usize = 6;
 
@@ -125,8 +125,8 @@ pub fn arity(kind: u8) -> usize
     wide(f.operands)
 }
 
-// How many binders stand over operand j of a record of this kind.
-pub fn binders(kind: u8, j: usize) -> u16
+// How many binders stand over operand j, counted from 0, of a record of this kind.
+pub fn binders(kind: u8, j: usize) -> usize
     ensures { λ a. ⌜ (a ≡ binds kind j) × (a ≤ 1) ⌝ }
 {
     if j == 0 {
@@ -142,20 +142,6 @@ pub fn binders(kind: u8, j: usize) -> u16
         return 1;
     }
     0
-}
-
-// How many binders stand over the first operand of a record: functions and recursions bind one.
-pub fn binds_first(kind: u8) -> usize
-    ensures { λ a. ⌜ a ≡ binds-first kind ⌝ }
-{
-    if (kind == 2) | (kind == 11) { 1 } else { 0 }
-}
-
-// And over a later operand: a case binds one in each branch.
-pub fn binds_later(kind: u8) -> usize
-    ensures { λ a. ⌜ a ≡ binds-later kind ⌝ }
-{
-    if kind == 9 { 1 } else { 0 }
 }
 
 // Where a term ends: before a record, or not before the script does.

@@ -1,4 +1,4 @@
--- What came of a file is its bytes or an error, and not both. Assumes nothing.
+-- What came of a file is its bytes or an error, and not both.
 use mathlib.Core.Path.{_≡_}
 use Prim.Native.Nat.{ℕ}
 use native.Mathlib.Omega.{arith}

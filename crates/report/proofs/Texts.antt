@@ -1,4 +1,4 @@
--- The report's texts from what the calls answer, and how long they can be. Assumes nothing.
+-- The report's texts from what the calls answer, and how long they can be.
 use mathlib.Core.Path.{_≡_, refl, sym, ap, _∙_}
 use mathlib.Core.Bool.{Bool, true, false}
 use mathlib.Core.List.{[], _∷_, _++_}

@@ -16,24 +16,33 @@ ghost use Rattle.report.specs.declared.Loaded.the-variants.{Bytes};
 ghost use Rattle.report.specs.Room.{value-room, run-room, report-room};
 use evaluation::RunAnswer;
 use inference::Found;
+use inference::SLOT;
+use lattice::GROUP_LIMIT;
+use lattice::ROW_WIDTH;
 use libc::STDOUT_FILENO;
+use records::SCRIPT_WIDTH;
+use script::SCRIPT_LIMIT;
 use sheet::SHEET_WIDTH;
 use sheet::Sheet;
-
-const WIDTH: usize = 6;
+use types::TYPE_WIDTH;
+use types_table::TABLE_LIMIT;
+use typing::WORK_LENGTH;
 
 const BUDGET: u64 = 1000;
 
 // The reader group of the sheet.
 const READER: u64 = 0;
 
-const WORK_LENGTH: usize = 64512;
+// A buffer takes one byte more than the longest valid file, so that a longer one is refused for its length.
+const GROUPS_LENGTH: usize = GROUP_LIMIT * ROW_WIDTH + 1;
 
-const ANSWER_LENGTH: usize = 252;
+const TYPES_LENGTH: usize = TABLE_LIMIT * TYPE_WIDTH + 1;
 
-const RUN_LENGTH: usize = 49152;
+const SCRIPT_LENGTH: usize = SCRIPT_LIMIT * SCRIPT_WIDTH + 1;
 
-const SHEET_LENGTH: usize = 32768;
+const RUN_LENGTH: usize = SCRIPT_LIMIT * SCRIPT_WIDTH;
+
+const SHEET_LENGTH: usize = SCRIPT_LIMIT * SHEET_WIDTH;
 
 // No report is longer (`report-room`).
 const REPORT_LENGTH: usize = 417903;
@@ -84,7 +93,7 @@ fn run_text(groups: &[u8], types: &[u8], script: &[u8], out: &mut [u8], at: usiz
     match a {
         RunAnswer::Ended(end, steps, records) => {
             let after = lines::run_line(end as u64, steps, records as u64, out, at);
-            let bytes = WIDTH * records;
+            let bytes = SCRIPT_WIDTH * records;
             value_text(groups, types, &first[..bytes], end, out, after)
         }
         RunAnswer::Refused(question, place) => lines::refusal_line(
@@ -103,7 +112,7 @@ fn write_report(groups: &[u8], types: &[u8], script: &[u8], out: &mut [u8]) -> u
         (now (out .entry)) end (now (out .exit)) ⌝ }
 {
     let mut work = [0u8; WORK_LENGTH];
-    let mut answer = [0u8; ANSWER_LENGTH];
+    let mut answer = [0u8; SLOT];
     let a = typing::checking(groups, types, script, &mut work, &mut answer);
     match a {
         Found::Typed(records) => {
@@ -169,19 +178,19 @@ fn print_report(groups: &[u8], types: &[u8], script: &[u8]) {
     }
 }
 
-// A buffer takes one byte more than the longest valid file, so that a longer one is refused for its length.
+// Reads the files and prints their report.
 fn main() {
-    let mut groups = [0u8; 129];
+    let mut groups = [0u8; GROUPS_LENGTH];
     let g = load(b"groups", &mut groups);
     let Loaded::Bytes(rows) = g else {
         return;
     };
-    let mut types = [0u8; 16385];
+    let mut types = [0u8; TYPES_LENGTH];
     let t = load(b"types", &mut types);
     let Loaded::Bytes(named) = t else {
         return;
     };
-    let mut script = [0u8; 49153];
+    let mut script = [0u8; SCRIPT_LENGTH];
     let s = load(b"script", &mut script);
     let Loaded::Bytes(written) = s else {
         return;

@@ -9,7 +9,7 @@ use Rattle.calculus.specs.Terms.{first, second, Term, var, unit, lam, pair, inj
 use Rattle.rules.specs.Answer.{accepted, refused}
 use Rattle.rules.specs.Script.{counts}
 use Rattle.scope.specs.Walk.{scan, same, more}
-use Rattle.records.specs.Binders.{binds-first, binds-later}
+use Rattle.records.specs.Binders.{binds}
 use Rattle.records.proofs.Stands.{op1, op2, op3, operands, kind-of}
 use Rattle.scope.proofs.Scans.{then, scan-yes, scan-no, scan-nothing, scan-append}
 
@@ -211,7 +211,8 @@ deeper-later (protect m e) n = omega arith
 deeper-later (mu i e) n = omega arith
 
 -- under a kind's binders
-pub bound-first : (e : Term) (n : ℕ) → n + binds-first (kind-of e) ≡ first-number same more e n
+pub bound-first : (e : Term) (n : ℕ) → n + binds (kind-of e) 0 ≡ first-number same more e n
+unfolding binds
 bound-first (var m) n = omega arith
 bound-first (unit k) n = omega arith
 bound-first (lam k i e) n = omega arith
@@ -225,7 +226,8 @@ bound-first (case w i e a b) n = omega arith
 bound-first (protect m e) n = omega arith
 bound-first (mu i e) n = omega arith
 
-pub bound-later : (e : Term) (n : ℕ) → n + binds-later (kind-of e) ≡ later-number same more e n
+pub bound-later : (e : Term) (n : ℕ) → n + binds (kind-of e) 1 ≡ later-number same more e n
+unfolding binds
 bound-later (var m) n = omega arith
 bound-later (unit k) n = omega arith
 bound-later (lam k i e) n = omega arith
@@ -250,13 +252,3 @@ at-most-three (proj d w e) = omega arith
 at-most-three (case w i e a b) = omega arith
 at-most-three (protect m e) = omega arith
 at-most-three (mu i e) = omega arith
-
-at-most-one : (b : Bool) → cond b 1 0 ≤ 1
-at-most-one true = omega arith
-at-most-one false = omega arith
-
-pub binds-first-small : (k : ℕ) → binds-first k ≤ 1
-binds-first-small k = at-most-one (eqb k 2 || eqb k 11)
-
-pub binds-later-small : (k : ℕ) → binds-later k ≤ 1
-binds-later-small k = at-most-one (eqb k 9)

@@ -92,21 +92,21 @@ fn scope_walk(script: &[u8], i: usize, binders: usize) -> Walked
     if n == 0 {
         return Walked::Past(i + 1);
     }
-    let a = scope_walk(script, i + 1, binders + records::binds_first(k));
+    let a = scope_walk(script, i + 1, binders + records::binders(k, 0));
     let Walked::Past(second) = a else {
         return a;
     };
     if n == 1 {
         return a;
     }
-    let b = scope_walk(script, second, binders + records::binds_later(k));
+    let b = scope_walk(script, second, binders + records::binders(k, 1));
     let Walked::Past(third) = b else {
         return b;
     };
     if n == 2 {
         return b;
     }
-    scope_walk(script, third, binders + records::binds_later(k))
+    scope_walk(script, third, binders + records::binders(k, 1))
 }
 
 // 19. Variable's number below its count of binders?

@@ -1,4 +1,4 @@
--- A node from its operands, as a walk passes them one after the other, counted. Assumes nothing.
+-- A node from its operands, as a walk passes them one after the other, counted.
 use mathlib.Core.Path.{_≡_, refl, sym, ap, _∙_}
 use mathlib.Core.Bool.{Bool, true, false, cond}
 use mathlib.Core.List.{List, [], _∷_, _++_, append-assoc, append-nil}

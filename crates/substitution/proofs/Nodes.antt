@@ -1,4 +1,4 @@
--- Substitution, records and depth of a node by its operands, whatever its kind. Assumes nothing.
+-- Substitution, records and depth of a node by its operands, whatever its kind.
 use mathlib.Core.Path.{_≡_, refl, ap, _∙_}
 use mathlib.Core.Bool.{Bool, true, false, cond}
 use mathlib.Core.List.{List, [], _∷_, _++_}

@@ -1,4 +1,4 @@
--- Three pieces written one after the other. Assumes nothing.
+-- Three pieces written one after the other.
 use mathlib.Core.Path.{_≡_, refl, ap, _∙_}
 use mathlib.Core.List.{[], _++_, append-assoc}
 use Prim.Native.Nat.{ℕ, _+_, _≤_}

@@ -1,4 +1,4 @@
--- What a term at a record tells of the bytes there. Assumes nothing.
+-- What a term at a record tells of the bytes there.
 use mathlib.Core.Path.{_≡_, ap, _∙_}
 use mathlib.Core.List.{List, _∷_, _++_}
 use Prim.Native.Nat.{ℕ, suc, _+_, _*_, _≤_}

@@ -1,4 +1,4 @@
--- A node from its operands, as a walk passes them one after the other, written. Assumes nothing.
+-- A node from its operands, as a walk passes them one after the other, written.
 use mathlib.Core.Path.{_≡_, refl, sym, ap, _∙_}
 use mathlib.Core.List.{List, [], _∷_, _++_, append-assoc, append-nil}
 use Prim.Native.Nat.{ℕ, suc, _+_, _*_, _≤_}

@@ -80,7 +80,7 @@ pub fn measure(script: &[u8], i: usize, n: u16, records: usize, deep: usize) -> 
     let mut below: usize = 0;
     let mut j: usize = 0;
     while j < count {
-        let level = n + records::binders(k, j);
+        let level = n + (records::binders(k, j) as u16);
         let x = measure(script, next, level, records, deep);
         next = x.next;
         sum += x.records;
@@ -170,7 +170,7 @@ pub fn write(
     let mut end = at + SCRIPT_WIDTH;
     let mut j: usize = 0;
     while j < count {
-        let level = n + records::binders(k, j);
+        let level = n + (records::binders(k, j) as u16);
         let x = write(script, next, front, mid, back, level, to, end);
         next = x.next;
         end = x.end;

@@ -1,4 +1,4 @@
--- The digits of a number, the last one apart. Assumes nothing.
+-- The digits of a number, the last one apart.
 use mathlib.Core.Path.{_≡_, refl, sym, ap, _∙_}
 use mathlib.Core.Bool.{Bool, true, false}
 use mathlib.Core.List.{[], _∷_, _++_, append-assoc}

@@ -1,4 +1,4 @@
--- Pieces written over a buffer one after the other. Assumes nothing.
+-- Pieces written over a buffer one after the other.
 use mathlib.Core.Path.{_≡_, refl, sym, ap, _∙_}
 use mathlib.Core.List.{[], _∷_, _++_}
 use Prim.Native.Nat.{ℕ, zero, suc, _+_, _≤_}

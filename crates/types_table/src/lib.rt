@@ -13,7 +13,7 @@ ghost use Rattle.rules.specs.Calls.{types-check, at-or-below};
 ghost use Rattle.answer.specs.Said.{said};
 ghost use Rattle.types_table.specs.Ordered.{answered, refusal};
 
-const TABLE_LIMIT: usize = 4096;
+pub const TABLE_LIMIT: usize = 4096;
 
 // The answer of 'at or below': whether it is so, or the number of the first question answered no and the place.
 pub enum Ordered {

@@ -21,7 +21,7 @@ ghost use Rattle.inference.specs.Memory.{Meets, Ready};
 ghost use Rattle.typing.specs.Parts.{Operand-at, Part-of, kept-between};
 ghost use Rattle.typing.specs.Answered.{answered, refusal, Answers};
 
-const WORK_LENGTH: usize = DEPTH_LIMIT * SLOT;
+pub const WORK_LENGTH: usize = DEPTH_LIMIT * SLOT;
 
 // The number of operands of the first record.
 fn operands(s: &[u8]) -> usize

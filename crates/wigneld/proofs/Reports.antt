@@ -1,4 +1,4 @@
--- What the exported run passes on. Assumes nothing.
+-- What the exported run passes on.
 use mathlib.Core.Path.{_≡_, refl}
 use Prim.Native.Nat.{ℕ}
 use Rattle.rules.specs.Answer.{Bytes, Octets, Answer, accepted, refused}

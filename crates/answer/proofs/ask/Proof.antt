@@ -1,4 +1,4 @@
--- `script::ask` meets its contract: by the test.
+-- `answer::ask` meets its contract: by the test.
 use borrow.Author.Needs.{needs}
 use Rattle.answer.proofs.ask.Statement.{statement}
 use Rattle.answer.proofs.ask.Tie as tie

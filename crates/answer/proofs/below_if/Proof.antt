@@ -1,4 +1,4 @@
--- `script::below_if` meets its contract: an implication is an or.
+-- `answer::below_if` meets its contract: an implication is an or.
 use lib.Dec.{ltb}
 use Rattle.answer.proofs.Implications.{not-or-implies}
 use Rattle.answer.proofs.below_if.Statement.{statement}

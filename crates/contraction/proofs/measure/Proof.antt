@@ -1,4 +1,4 @@
--- `reduction::measure` meets its contract, plan by plan.
+-- `contraction::measure` meets its contract, plan by plan.
 use mathlib.Core.Path.{_≡_, sym, _∙_}
 use mathlib.Core.Path.{subst as transport}
 use native.Mathlib.Omega.{arith}

@@ -1,4 +1,4 @@
--- `reduction::measure_body` meets its contract: the value is counted once, and then the body with it put in.
+-- `contraction::measure_body` meets its contract: the value is counted once, and then the body with it put in.
 use native.Mathlib.Omega.{arith}
 use Rattle.calculus.specs.Terms.{subst}
 use Rattle.substitution.specs.Substituted.{Measured}

@@ -1,4 +1,4 @@
--- `reduction::measure_part` meets its contract.
+-- `contraction::measure_part` meets its contract.
 use native.Mathlib.Omega.{arith}
 use borrow.Author.Needs.{needs}
 use Rattle.contraction.proofs.Plans.{protect-size}

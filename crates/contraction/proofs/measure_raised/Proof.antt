@@ -1,4 +1,4 @@
--- `reduction::measure_raised` meets its contract.
+-- `contraction::measure_raised` meets its contract.
 use borrow.Author.Needs.{needs}
 use Rattle.contraction.proofs.measure_raised.Statement.{statement}
 use Rattle.contraction.proofs.measure_raised.Tie as tie

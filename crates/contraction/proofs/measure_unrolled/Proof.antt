@@ -1,4 +1,4 @@
--- `reduction::measure_unrolled` meets its contract: what stands for the variable has three records and two levels more than the recursion.
+-- `contraction::measure_unrolled` meets its contract: what stands for the variable has three records and two levels more than the recursion.
 use native.Mathlib.Omega.{arith}
 use Prim.Native.Nat.{_+_}
 use mathlib.Core.List.{[]}

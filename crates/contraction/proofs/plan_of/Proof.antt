@@ -1,4 +1,4 @@
--- `reduction::plan_of` meets its contract: the kinds of two records tell the left side and where its parts stand.
+-- `contraction::plan_of` meets its contract: the kinds of two records tell the left side and where its parts stand.
 use mathlib.Core.Path.{_≡_, sym, _∙_}
 use Prim.Native.Nat.{_+_}
 use native.Mathlib.Omega.{arith}

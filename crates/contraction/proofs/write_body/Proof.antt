@@ -1,4 +1,4 @@
--- `reduction::write_body` meets its contract: a protect record, and the body with the value put in.
+-- `contraction::write_body` meets its contract: a protect record, and the body with the value put in.
 use mathlib.Core.Path.{_≡_, refl, _∙_}
 use mathlib.Core.List.{[], _++_, append-nil}
 use Prim.Native.Nat.{_+_, _*_, _-_, _≤_}

@@ -1,4 +1,4 @@
--- `reduction::write_contractum` meets its contract, plan by plan.
+-- `contraction::write_contractum` meets its contract, plan by plan.
 use borrow.Author.Needs.{needs}
 use Rattle.contraction.proofs.Plans.{is-raised, is-unrolled}
 use Rattle.contraction.proofs.Rooms.{part-room, part-written, body-room, body-written, raised-room, raised-written, unrolled-room, unrolled-written}

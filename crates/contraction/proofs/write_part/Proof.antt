@@ -1,4 +1,4 @@
--- `reduction::write_part` meets its contract: a protect record, and the part's own bytes.
+-- `contraction::write_part` meets its contract: a protect record, and the part's own bytes.
 use mathlib.Core.Path.{_≡_}
 use Prim.Native.Nat.{_+_, _*_, _-_, _≤_}
 use native.Mathlib.Omega.{arith}

@@ -1,4 +1,4 @@
--- `reduction::write_raised` meets its contract: the value's own record with other groups, and its operands' bytes.
+-- `contraction::write_raised` meets its contract: the value's own record with other groups, and its operands' bytes.
 use mathlib.Core.Path.{_≡_, ap₂, _∙_}
 use Prim.Native.Nat.{_+_, _*_, _-_, _≤_}
 use native.Mathlib.Omega.{arith}

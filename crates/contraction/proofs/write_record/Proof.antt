@@ -1,4 +1,4 @@
--- `reduction::write_record` meets its contract.
+-- `contraction::write_record` meets its contract.
 use borrow.Author.Needs.{needs}
 use Rattle.contraction.proofs.Plans.{record-placed}
 use Rattle.contraction.proofs.write_record.Statement.{statement}

@@ -1,4 +1,4 @@
--- `reduction::write_unrolled` meets its contract: the bytes of the recursion stand between those of the function and the application
+-- `contraction::write_unrolled` meets its contract: the bytes of the recursion stand between those of the function and the application
 -- around it and those of the variable.
 use mathlib.Core.Path.{_≡_, ap, _∙_}
 use mathlib.Core.List.{[], _∷_, _++_}

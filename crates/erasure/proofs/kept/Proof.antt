@@ -1,4 +1,4 @@
--- `script::kept` meets its contract: by the test.
+-- `erasure::kept` meets its contract: by the test.
 use mathlib.Core.Path.{sym, ap}
 use mathlib.Core.Bool.{cond}
 use Rattle.erasure.proofs.kept.Statement.{statement}

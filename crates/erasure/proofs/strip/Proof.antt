@@ -1,4 +1,4 @@
--- `script::strip` meets its contract. The invariant: the bytes before i are stripped, the others are as they were.
+-- `erasure::strip` meets its contract. The invariant: the bytes before i are stripped, the others are as they were.
 use mathlib.Core.Path.{_≡_, refl}
 use native.Mathlib.Omega.{arith}
 use Prim.Native.Nat.{_≤_, _-_}

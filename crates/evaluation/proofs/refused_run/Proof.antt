@@ -1,4 +1,4 @@
--- `reduction::refused_run` meets its contract.
+-- `evaluation::refused_run` meets its contract.
 use mathlib.Core.Path.{sym, ap}
 use Rattle.evaluation.specs.Runs.{refused-run}
 use borrow.Author.Needs.{needs}

@@ -1,4 +1,4 @@
--- `reduction::run_term` meets its contract: the walk, and then both buffers cleared.
+-- `evaluation::run_term` meets its contract: the walk, and then both buffers cleared.
 use mathlib.Core.Path.{sym}
 use mathlib.Core.Path.{subst as transport}
 use Prim.Native.Nat.{ℕ, _*_, min}

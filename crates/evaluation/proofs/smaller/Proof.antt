@@ -1,4 +1,4 @@
--- `reduction::smaller` meets its contract.
+-- `evaluation::smaller` meets its contract.
 use borrow.Author.Needs.{needs}
 use Rattle.evaluation.proofs.smaller.Statement.{statement}
 use Rattle.evaluation.proofs.smaller.Tie as tie

@@ -1,4 +1,4 @@
--- `reduction::spent_on` meets its contract.
+-- `evaluation::spent_on` meets its contract.
 use borrow.Author.Needs.{needs}
 use Rattle.evaluation.proofs.spent_on.Statement.{statement}
 use Rattle.evaluation.proofs.spent_on.Tie as tie

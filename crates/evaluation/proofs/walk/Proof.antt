@@ -1,4 +1,4 @@
--- `reduction::walk` meets its contract: after each turn the run that is left is the run of the term at the first buffer's front.
+-- `evaluation::walk` meets its contract: after each turn the run that is left is the run of the term at the first buffer's front.
 use mathlib.Core.Path.{_≡_, refl, sym, ap, _∙_}
 use mathlib.Core.Path.{subst as transport}
 use Prim.Native.Nat.{ℕ, _+_, _*_, _-_, _≤_}

@@ -1,4 +1,4 @@
--- `lattice::groups_check` meets its contract: the questions in order, each asked after a yes to those before it.
+-- `groups_table::groups_check` meets its contract: the questions in order, each asked after a yes to those before it.
 use mathlib.Core.Path.{_≡_}
 use Prim.Native.Nat.{_≤_}
 use borrow.Author.Needs.{needs}

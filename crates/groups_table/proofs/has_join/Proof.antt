@@ -1,4 +1,4 @@
--- `lattice::has_join` meets its contract: the common bits as one word, and the row of the lowest as another.
+-- `groups_table::has_join` meets its contract: the common bits as one word, and the row of the lowest as another.
 use mathlib.Core.Path.{ap, _∙_}
 use mathlib.Core.Bool.{not}
 use native.Mathlib.Omega.{arith}

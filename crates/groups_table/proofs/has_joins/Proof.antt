@@ -1,4 +1,4 @@
--- `lattice::has_joins` meets its contract. The invariant: row g passes with each group before `other`.
+-- `groups_table::has_joins` meets its contract. The invariant: row g passes with each group before `other`.
 use mathlib.Core.Path.{_≡_, sym}
 use mathlib.Core.Bool.{true}
 use Prim.Native.Nat.{ℕ, _≤_, _<_, _-_}

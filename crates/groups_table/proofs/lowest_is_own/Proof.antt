@@ -1,4 +1,4 @@
--- `lattice::lowest_is_own` meets its contract.
+-- `groups_table::lowest_is_own` meets its contract.
 use mathlib.Core.Path.{ap, _∙_}
 use Prim.Native.Nat.{ℕ}
 use native.Mathlib.Omega.{arith}

@@ -1,4 +1,4 @@
--- `lattice::question_2` meets its contract: each test's answer goes into the question.
+-- `groups_table::question_2` meets its contract: each test's answer goes into the question.
 use native.Mathlib.Omega.{arith}
 use borrow.Author.Tests.{eq-eqb, ne-eqb, le-leb, lt-leb}
 use Rattle.rules.specs.Groups.{rows}

@@ -1,4 +1,4 @@
--- `lattice::question_5` meets its contract. The invariant: each row before g passes.
+-- `groups_table::question_5` meets its contract. The invariant: each row before g passes.
 use mathlib.Core.Path.{_≡_, sym}
 use mathlib.Core.Bool.{true}
 use Prim.Native.Nat.{ℕ, _≤_, _<_, _-_}

@@ -1,4 +1,4 @@
--- `lattice::question_7` meets its contract. The invariant: row 0 has each bit before h.
+-- `groups_table::question_7` meets its contract. The invariant: row 0 has each bit before h.
 use mathlib.Core.Path.{_≡_, sym, ap}
 use mathlib.Core.Bool.{Bool, true}
 use Prim.Native.Nat.{ℕ, _≤_, _<_, _-_}

@@ -1,4 +1,4 @@
--- `lattice::transitive` meets its contract. The invariant: row g passes with each group before `above`.
+-- `groups_table::transitive` meets its contract. The invariant: row g passes with each group before `above`.
 use mathlib.Core.Path.{_≡_, sym}
 use mathlib.Core.Bool.{true}
 use Prim.Native.Nat.{ℕ, _≤_, _<_, _-_}

@@ -1,4 +1,4 @@
--- `lattice::transitive_through` meets its contract: a word is within another where their common bits are the word.
+-- `groups_table::transitive_through` meets its contract: a word is within another where their common bits are the word.
 use mathlib.Core.Path.{refl}
 use native.Mathlib.Omega.{arith}
 use Rattle.groups_table.proofs.Rows.{failed, held, pair5-off, pair5-on}

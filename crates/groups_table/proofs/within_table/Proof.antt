@@ -1,4 +1,4 @@
--- `lattice::within_table` meets its contract.
+-- `groups_table::within_table` meets its contract.
 use native.Mathlib.Omega.{arith}
 use Rattle.rules.specs.Answer.{first-from}
 use Rattle.rules.specs.Groups.{rows, row, ok3}

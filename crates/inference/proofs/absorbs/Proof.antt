@@ -1,4 +1,4 @@
--- `typing::absorbs` meets its contract.
+-- `inference::absorbs` meets its contract.
 use mathlib.Core.Path.{ap, _∙_}
 use Rattle.calculus.specs.Types.{top}
 use Rattle.rules.specs.Groups.{leq}

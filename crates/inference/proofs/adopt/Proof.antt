@@ -1,4 +1,4 @@
--- `typing::adopt` meets its contract.
+-- `inference::adopt` meets its contract.
 use mathlib.Core.Path.{_≡_, sym, ap, _∙_}
 use Prim.Native.Nat.{_*_}
 use native.Mathlib.Omega.{arith}

@@ -1,4 +1,4 @@
--- `typing::apply` meets its contract.
+-- `inference::apply` meets its contract.
 use mathlib.Core.Path.{_≡_, sym, _∙_}
 use Prim.Native.Nat.{_+_, _-_, _*_, _≤_}
 use native.Mathlib.Omega.{arith}

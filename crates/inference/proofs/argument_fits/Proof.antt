@@ -1,4 +1,4 @@
--- `typing::argument_fits` meets its contract.
+-- `inference::argument_fits` meets its contract.
 use Rattle.types.specs.Held.{left-of}
 use Rattle.types.proofs.Parts.{to-end}
 use borrow.Author.Needs.{needs}

@@ -1,4 +1,4 @@
--- `typing::asks` meets its contract.
+-- `inference::asks` meets its contract.
 use mathlib.Core.Path.{refl, sym, ap, _∙_}
 use Rattle.rules.specs.Groups.{readers, leq}
 use Rattle.inference.proofs.Rules.{reads-20, reads-yes, reads-no, says, says-no}

@@ -1,4 +1,4 @@
--- `typing::bind` meets its contract.
+-- `inference::bind` meets its contract.
 use mathlib.Core.Path.{_≡_, ap, _∙_}
 use Prim.Native.Nat.{_*_}
 use native.Mathlib.Omega.{arith}

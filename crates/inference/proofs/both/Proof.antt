@@ -1,4 +1,4 @@
--- `typing::both` meets its contract.
+-- `inference::both` meets its contract.
 use mathlib.Core.Path.{_≡_, ap, _∙_}
 use Prim.Native.Nat.{_+_, _*_, _≤_}
 use native.Mathlib.Omega.{arith}

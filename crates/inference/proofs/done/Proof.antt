@@ -1,4 +1,4 @@
--- `typing::done` meets its contract.
+-- `inference::done` meets its contract.
 use mathlib.Core.Path.{ap, _∙_}
 use native.Mathlib.Omega.{arith}
 use Rattle.calculus.specs.Types.{raiseT}

@@ -1,4 +1,4 @@
--- `typing::ends` meets its contract.
+-- `inference::ends` meets its contract.
 use mathlib.Core.Path.{_≡_, refl, sym, ap, _∙_}
 use Prim.Native.Nat.{ℕ}
 use Rattle.calculus.specs.Security.{Property, Security}

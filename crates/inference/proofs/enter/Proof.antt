@@ -1,4 +1,4 @@
--- `typing::enter` meets its contract.
+-- `inference::enter` meets its contract.
 use mathlib.Core.Path.{_≡_, refl, sym, ap, _∙_}
 use mathlib.Core.List.{List, _∷_}
 use Prim.Native.Nat.{ℕ, _+_, _*_, _≤_}

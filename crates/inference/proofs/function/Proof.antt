@@ -1,4 +1,4 @@
--- `typing::function` meets its contract.
+-- `inference::function` meets its contract.
 use mathlib.Core.Path.{_≡_, ap, _∙_}
 use Prim.Native.Nat.{_*_}
 use native.Mathlib.Omega.{arith}

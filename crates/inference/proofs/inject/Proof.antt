@@ -1,4 +1,4 @@
--- `typing::inject` meets its contract.
+-- `inference::inject` meets its contract.
 use mathlib.Core.Path.{_≡_, refl, sym, ap, _∙_}
 use mathlib.Core.List.{[], _∷_}
 use Prim.Native.Nat.{_*_}

@@ -1,4 +1,4 @@
--- `typing::kept_front` meets its contract.
+-- `inference::kept_front` meets its contract.
 use mathlib.Core.Path.{sym, ap, _∙_}
 use Rattle.inference.specs.Stages.{kept-front}
 use Rattle.inference.proofs.Shapes.{of-kind, front-plain}

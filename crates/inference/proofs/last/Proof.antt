@@ -1,4 +1,4 @@
--- `typing::last` meets its contract.
+-- `inference::last` meets its contract.
 use mathlib.Core.Path.{_≡_, sym, ap, _∙_, subst}
 use mathlib.Core.Bool.{true, false}
 use Prim.Native.Nat.{ℕ, _<_}

@@ -1,4 +1,4 @@
--- `typing::leaf` meets its contract.
+-- `inference::leaf` meets its contract.
 use mathlib.Core.Path.{_≡_, refl, sym, ap, _∙_, subst}
 use mathlib.Core.List.{List, [], _∷_}
 use Prim.Native.Nat.{ℕ, _<_}

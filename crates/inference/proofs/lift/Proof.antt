@@ -1,4 +1,4 @@
--- `typing::lift` meets its contract.
+-- `inference::lift` meets its contract.
 use mathlib.Core.Path.{_≡_, subst}
 use Prim.Native.Nat.{ℕ, _+_, _*_, _≤_}
 use native.Mathlib.Omega.{arith}

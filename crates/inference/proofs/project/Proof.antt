@@ -1,4 +1,4 @@
--- `typing::project` meets its contract.
+-- `inference::project` meets its contract.
 use mathlib.Core.Path.{_≡_, refl, ap, _∙_}
 use Prim.Native.Nat.{_+_, _-_, _*_, _≤_}
 use native.Mathlib.Omega.{arith}

@@ -1,4 +1,4 @@
--- `typing::protect` meets its contract.
+-- `inference::protect` meets its contract.
 use Rattle.rules.specs.Groups.{readers}
 use Rattle.inference.specs.Memory.{finds}
 use Rattle.inference.proofs.Rules.{raise-wrote, unchanged}

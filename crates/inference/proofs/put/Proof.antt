@@ -1,4 +1,4 @@
--- `typing::put` meets its contract.
+-- `inference::put` meets its contract.
 use native.Mathlib.Omega.{arith}
 use lib.ListN.{length-set}
 use Rattle.memory.proofs.Laws.{four}

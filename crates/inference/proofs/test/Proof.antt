@@ -1,4 +1,4 @@
--- `typing::test` meets its contract.
+-- `inference::test` meets its contract.
 use mathlib.Core.Path.{refl, sym, ap, _∙_, subst}
 use Prim.Native.Nat.{_+_, _-_, _*_, _≤_}
 use native.Mathlib.Omega.{arith}

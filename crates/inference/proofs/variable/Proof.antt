@@ -1,4 +1,4 @@
--- `typing::variable` meets its contract.
+-- `inference::variable` meets its contract.
 use mathlib.Core.Path.{_≡_}
 use Prim.Native.Nat.{_-_, _*_}
 use native.Mathlib.Omega.{arith}

@@ -1,4 +1,4 @@
--- `typing::wanted` meets its contract.
+-- `inference::wanted` meets its contract.
 use Rattle.types.proofs.Parts.{to-end}
 use borrow.Author.Needs.{needs}
 use Rattle.inference.proofs.wanted.Statement.{statement}

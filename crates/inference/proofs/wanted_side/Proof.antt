@@ -1,4 +1,4 @@
--- `typing::wanted_side` meets its contract.
+-- `inference::wanted_side` meets its contract.
 use mathlib.Core.Path.{sym, ap, _∙_}
 use Rattle.calculus.specs.Subtyping.{subtype, below}
 use Rattle.rules.specs.Groups.{readers}

@@ -1,4 +1,4 @@
--- `sheet_lines` meets its contract: the lines of the first i records are written, and the rest are still to come.
+-- `lines::sheet_lines` meets its contract: the lines of the first i records are written, and the rest are still to come.
 use mathlib.Core.Path.{_≡_, refl, sym, ap, subst, _∙_}
 use mathlib.Core.List.{[], _++_, append-nil, append-assoc}
 use Prim.Native.Nat.{ℕ, _+_, _*_, _-_, _/_, _≤_, _<_}

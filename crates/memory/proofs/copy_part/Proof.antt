@@ -1,4 +1,4 @@
--- `copy_part`: the first j bytes are copied. Assumes nothing.
+-- `memory::copy_part`: the first j bytes are copied.
 use mathlib.Core.Path.{_≡_, refl, sym, _∙_}
 use Prim.Native.Nat.{_-_, _≤_}
 use native.Mathlib.Omega.{arith}

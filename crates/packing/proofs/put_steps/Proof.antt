@@ -1,4 +1,4 @@
--- `put_steps` meets its contract: the first i bytes are written.
+-- `packing::put_steps` meets its contract: the first i bytes are written.
 use Prim.Native.Nat.{_-_}
 use native.Mathlib.Omega.{arith}
 use Rattle.packing.proofs.Steps.{So-far, begins, goes-on, ends}

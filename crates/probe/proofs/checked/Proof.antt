@@ -1,4 +1,4 @@
--- `checked` meets its contract.
+-- `probe::checked` meets its contract.
 use mathlib.Core.Path.{sym, ap, subst, _∙_}
 use Rattle.answer.specs.declared.Checked.{Checked}
 use Rattle.answer.specs.Said.{said}

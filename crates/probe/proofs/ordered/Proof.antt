@@ -1,4 +1,4 @@
--- `ordered` meets its contract.
+-- `probe::ordered` meets its contract.
 use mathlib.Core.Path.{sym, ap, subst, _∙_}
 use Rattle.types_table.specs.declared.Ordered.{Ordered}
 use Rattle.types_table.specs.Ordered.{answered}

@@ -1,4 +1,4 @@
--- `probe_at_or_below` meets its contract.
+-- `probe::probe_at_or_below` meets its contract.
 use mathlib.Core.Path.{sym, ap, subst, _∙_}
 use mathlib.Core.Bool.{Bool}
 use Rattle.rules.specs.Answer.{Answer}

@@ -1,4 +1,4 @@
--- `probe_step` meets its contract.
+-- `probe::probe_step` meets its contract.
 use mathlib.Core.Path.{sym, ap, subst, _∙_}
 use Rattle.rules.specs.Answer.{Answer}
 use Rattle.rules.specs.Calls.{StepReport}

@@ -1,4 +1,4 @@
--- `probe_subterm` meets its contract.
+-- `probe::probe_subterm` meets its contract.
 use mathlib.Core.Path.{ap, _∙_}
 use lib.ListN.{length, take}
 use Rattle.rules.specs.Answer.{Bytes}

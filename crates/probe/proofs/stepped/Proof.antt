@@ -1,4 +1,4 @@
--- `stepped` meets its contract.
+-- `probe::stepped` meets its contract.
 use mathlib.Core.Path.{sym, ap, subst, _∙_}
 use Rattle.reduction.specs.declared.StepAnswer.{StepAnswer}
 use Rattle.reduction.specs.Steps.{reported}

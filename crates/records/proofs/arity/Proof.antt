@@ -1,4 +1,4 @@
--- `script::arity` meets its contract: the table's column.
+-- `records::arity` meets its contract: the table's column.
 use mathlib.Core.Path.{ap, _∙_}
 use native.Mathlib.Omega.{arith}
 use Rattle.rules.specs.Script.{arity}

@@ -1,4 +1,4 @@
--- `binders` meets its contract. Assumes nothing.
+-- `records::binders` meets its contract.
 use mathlib.Core.Path.{_≡_, refl}
 use Prim.Native.Nat.{ℕ, zero, suc}
 use native.Mathlib.Omega.{arith}

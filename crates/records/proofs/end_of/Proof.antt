@@ -1,4 +1,4 @@
--- `script::end_of` meets its contract: a term that stands there ends there.
+-- `records::end_of` meets its contract: a term that stands there ends there.
 use Rattle.records.proofs.Ends.{not-short, is-before, before-inj}
 use Rattle.records.proofs.Stands.{stands-end}
 use borrow.Author.Needs.{needs}

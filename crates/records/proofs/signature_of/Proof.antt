@@ -1,4 +1,4 @@
--- `script::signature_of` meets its contract: each line is the rules' line of that kind, and past the table nothing is named.
+-- `records::signature_of` meets its contract: each line is the rules' line of that kind, and past the table nothing is named.
 use mathlib.Core.Path.{sym, ap, _∙_}
 use Rattle.rules.specs.Script.{signature-of}
 use Rattle.records.proofs.Table.{past-table, past-twelve}

@@ -1,4 +1,4 @@
--- `script::term_end` meets its contract. The invariant: the pending count goes on at i as it began at `start`, and has grown by at most 2 a record.
+-- `records::term_end` meets its contract. The invariant: the pending count goes on at i as it began at `start`, and has grown by at most 2 a record.
 use mathlib.Core.Path.{_≡_, refl, sym, ap, _∙_}
 use native.Mathlib.Omega.{arith}
 use Prim.Native.Nat.{_≤_, _+_, _-_, _*_}

@@ -1,4 +1,4 @@
--- `load` meets its contract.
+-- `report::load` meets its contract.
 use native.Mathlib.Omega.{arith}
 use Rattle.report.proofs.Loads.{bytes, failed}
 use borrow.Author.Needs.{needs}

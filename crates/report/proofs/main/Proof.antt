@@ -1,4 +1,4 @@
--- `main` is safe: each part of a buffer is within it.
+-- `report::main` is safe: each part of a buffer is within it.
 use mathlib.Core.Path.{sym}
 use lib.Seq.{length-take-le}
 use borrow.Author.Needs.{needs}

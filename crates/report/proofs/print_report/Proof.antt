@@ -1,4 +1,4 @@
--- `print_report` is safe: every report fits its buffer.
+-- `report::print_report` is safe: every report fits its buffer.
 use mathlib.Core.Path.{sym}
 use Prim.Native.Nat.{_≤_}
 use native.Mathlib.Omega.{arith}

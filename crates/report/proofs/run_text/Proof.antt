@@ -1,4 +1,4 @@
--- `run_text` meets its contract: the run's line, and then the value's text.
+-- `report::run_text` meets its contract: the run's line, and then the value's text.
 use mathlib.Core.Path.{_≡_, sym, ap, subst, _∙_}
 use Prim.Native.Nat.{ℕ, _+_, _*_, _≤_}
 use native.Mathlib.Omega.{arith}

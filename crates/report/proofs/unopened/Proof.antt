@@ -1,4 +1,4 @@
--- `unopened` meets its contract.
+-- `report::unopened` meets its contract.
 use mathlib.Core.Path.{sym}
 use Rattle.report.proofs.Loads.{bytes, failed}
 use borrow.Author.Needs.{needs}

@@ -1,4 +1,4 @@
--- `value_text` meets its contract: the lines of the counted sheet records, or the refusal, or nothing.
+-- `report::value_text` meets its contract: the lines of the counted sheet records, or the refusal, or nothing.
 use mathlib.Core.Path.{_≡_, sym, ap, subst, _∙_}
 use Prim.Native.Nat.{ℕ, _*_, _≤_}
 use native.Mathlib.Omega.{arith}

@@ -1,4 +1,4 @@
--- `write_report` meets its contract: the first line, and then the run's text.
+-- `report::write_report` meets its contract: the first line, and then the run's text.
 use mathlib.Core.Path.{sym, ap, subst, _∙_}
 use native.Mathlib.Omega.{arith}
 use Rattle.rules.specs.Answer.{Bytes}

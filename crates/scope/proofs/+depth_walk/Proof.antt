@@ -1,4 +1,4 @@
--- `script::depth_walk` meets its contract: operand by operand, the scan of the records' depths goes on where the operand before ended. The measure is what is left of the script.
+-- `scope::depth_walk` meets its contract: operand by operand, the scan of the records' depths goes on where the operand before ended. The measure is what is left of the script.
 use mathlib.Core.Path.{_≡_, sym, ap, _∙_}
 use native.Mathlib.Omega.{arith}
 use mathlib.Core.Bool.{true}

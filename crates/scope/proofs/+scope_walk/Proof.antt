@@ -1,4 +1,4 @@
--- `script::scope_walk` meets its contract: operand by operand, the scan of the records' binders goes on where the operand before ended. The measure is what is left of the script.
+-- `scope::scope_walk` meets its contract: operand by operand, the scan of the records' binders goes on where the operand before ended. The measure is what is left of the script.
 use mathlib.Core.Path.{_≡_, sym, ap, _∙_}
 use native.Mathlib.Omega.{arith}
 use mathlib.Core.Bool.{Bool, true}
@@ -12,10 +12,10 @@ use Rattle.rules.proofs.Counts.{counts-length}
 use Rattle.records.specs.Place.{At}
 use Rattle.scope.specs.Stops.{walked}
 use Rattle.scope.specs.Walk.{scan, in-scope, same, more}
-use Rattle.records.specs.Binders.{binds-first, binds-later}
+use Rattle.records.specs.Binders.{binds}
 use Rattle.records.proofs.Stands.{op1, op2, op3, operands, kind-of, here, room-one, stands-arity, stands-kind, at-op1, at-op2, at-op3}
 use Rattle.scope.proofs.Scans.{then, past-then, is-past, stopped-then, scan-end}
-use Rattle.scope.proofs.Walks.{first-number, later-number, after-first, after-second, refuse, leaf, enter, no-second, go-on, no-third, last, bound-first, bound-later, binds-first-small, binds-later-small}
+use Rattle.scope.proofs.Walks.{first-number, later-number, after-first, after-second, refuse, leaf, enter, no-second, go-on, no-third, last, bound-first, bound-later}
 use Prim.Native.Nat.{ℕ, _<_, _≤_, _+_, _-_}
 use borrow.Fn.Kinds.{In}
 use borrow.Fn.PlainCycle.{Measures, is, falls, and}
@@ -23,8 +23,7 @@ use Rattle.scope.proofs.scope_walk.Reads as scope-walk
 use Rattle.scope.proofs.scope_walk.Kinds as scope-walk-kinds
 use Rattle.scope.proofs.+scope_walk.Lts-scope_walk as scope-walk-lts
 use Rattle.records.proofs.arity.Reads as arity-reads
-use Rattle.records.proofs.binds_first.Reads as binds-first-reads
-use Rattle.records.proofs.binds_later.Reads as binds-later-reads
+use Rattle.records.proofs.binders.Reads as binders-reads
 use Rattle.scope.proofs.bound_below.Reads as bound-below-reads
 use Rattle.records.proofs.kind.Reads as kind-reads
 use Rattle.scope.proofs.+scope_walk.{statement}
@@ -50,12 +49,10 @@ scope-walk-claims t = (
   kind-reads.Learnt,
   arity-reads.Asked,
   arity-reads.Learnt,
-  binds-first-reads.Asked,
-  binds-first-reads.Learnt,
+  binders-reads.Asked,
+  binders-reads.Learnt,
   scope-walk-below t,
   scope-walk.Post,
-  binds-later-reads.Asked,
-  binds-later-reads.Learnt,
 )
 
 module _ (t : ℕ) where
@@ -69,8 +66,8 @@ module _ (t : ℕ) where
   abbrev Else2 : Type 0
   Else2 = scope-walk-lts.Else2 (scope-walk-claims t) (scope-walk-at t) scope-walk.Post
 
-  abbrev After-binds-first : Type 0
-  After-binds-first = scope-walk-lts.After-binds-first (scope-walk-claims t) (scope-walk-at t) scope-walk.Post
+  abbrev After-binders : Type 0
+  After-binders = scope-walk-lts.After-binders (scope-walk-claims t) (scope-walk-at t) scope-walk.Post
 
   abbrev After-scope-walk : Type 0
   After-scope-walk = scope-walk-lts.After-scope-walk (scope-walk-claims t) (scope-walk-at t) scope-walk.Post
@@ -81,8 +78,8 @@ module _ (t : ℕ) where
   abbrev Else3 : Type 0
   Else3 = scope-walk-lts.Else3 (scope-walk-claims t) (scope-walk-at t) scope-walk.Post
 
-  abbrev After-binds-later : Type 0
-  After-binds-later = scope-walk-lts.After-binds-later (scope-walk-claims t) (scope-walk-at t) scope-walk.Post
+  abbrev After-binders2 : Type 0
+  After-binders2 = scope-walk-lts.After-binders2 (scope-walk-claims t) (scope-walk-at t) scope-walk.Post
 
   abbrev After-scope-walk2 : Type 0
   After-scope-walk2 = scope-walk-lts.After-scope-walk2 (scope-walk-claims t) (scope-walk-at t) scope-walk.Post
@@ -93,8 +90,8 @@ module _ (t : ℕ) where
   abbrev Else4 : Type 0
   Else4 = scope-walk-lts.Else4 (scope-walk-claims t) (scope-walk-at t) scope-walk.Post
 
-  abbrev After-binds-later2 : Type 0
-  After-binds-later2 = scope-walk-lts.After-binds-later2 (scope-walk-claims t) (scope-walk-at t) scope-walk.Post
+  abbrev After-binders3 : Type 0
+  After-binders3 = scope-walk-lts.After-binders3 (scope-walk-claims t) (scope-walk-at t) scope-walk.Post
 
   -- u is the term at the start
   abbrev U : Start → Term → Type 0
@@ -123,24 +120,24 @@ module _ (t : ℕ) where
   first : (c : Else2) (u : Term) → U (st (c .before)) u → At (st (c .before) .args .script .now) (st (c .before) .args .i + 1) (op1 u)
   first c u w = at-op1 _ _ u w (one c u w)
 
-  abbrev sb : After-binds-first → Start
+  abbrev sb : After-binders → Start
   sb c = st (c .before .before)
 
-  abbrev m1 : After-binds-first → ℕ
-  m1 c = sb c .args .binders + c .binds-first .result
+  abbrev m1 : After-binders → ℕ
+  m1 c = sb c .args .binders + c .binders .result
 
-  m1-is : (c : After-binds-first) (u : Term) → U (sb c) u → m1 c ≡ first-number same more u (sb c .args .binders)
+  m1-is : (c : After-binders) (u : Term) → U (sb c) u → m1 c ≡ first-number same more u (sb c .args .binders)
   m1-is c u w =
-      ap (λ x. sb c .args .binders + x) (c .binds-first .ensures ∙ ap binds-first (kind-is (c .before .before) u w)) ∙ bound-first u (sb c .args .binders)
+      ap (λ x. sb c .args .binders + x) (c .binders .ensures .0 ∙ ap (λ k. binds k 0) (kind-is (c .before .before) u w)) ∙ bound-first u (sb c .args .binders)
 
-  m1-small : (c : After-binds-first) → c .binds-first .result ≤ 1
-  m1-small c = omega (arith, c .binds-first .ensures, binds-first-small (c .before .before .before .kind .result))
+  m1-small : (c : After-binders) → c .binders .result ≤ 1
+  m1-small c = c .binders .ensures .1
 
   first-scan : (c : After-scope-walk) (u : Term) → U (sb (c .before)) u
       → walked (c .scope-walk .result) ≡ scan 19 (ok (sb (c .before))) (sb (c .before) .args .i + 1) (counts same more (m1 (c .before)) (op1 u))
   first-scan c u w = c .scope-walk .ensures (op1 u) (first (c .before .before) u w)
 
-  entered : (c : After-binds-first) (u : Term) → U (sb c) u
+  entered : (c : After-binders) (u : Term) → U (sb c) u
       → scan 19 (ok (sb c)) (sb c .args .i) (counts same more (sb c .args .binders) u)
       ≡ then (scan 19 (ok (sb c)) (sb c .args .i + 1) (counts same more (m1 c) (op1 u))) (λ j. scan 19 (ok (sb c)) j (after-first same more
       u (sb c .args .binders)))
@@ -149,7 +146,7 @@ module _ (t : ℕ) where
       u w)
 
   -- past the first operand
-  abbrev b1 : After-known-told → After-binds-first
+  abbrev b1 : After-known-told → After-binders
   b1 c = c .before .before .before .before
 
   abbrev s1 : After-known-told → Start
@@ -184,23 +181,23 @@ module _ (t : ℕ) where
   next : (c : Else3) (u : Term) → U (s1 (c .before)) u → At (s1 (c .before) .args .script .now) (second (c .before)) (op2 u)
   next c u w = at-op2 _ _ u w (second (c .before)) (two c u w) (second-is (c .before) u w)
 
-  abbrev m2 : After-binds-later → ℕ
-  m2 c = s1 (c .before .before) .args .binders + c .binds-later .result
+  abbrev m2 : After-binders2 → ℕ
+  m2 c = s1 (c .before .before) .args .binders + c .binders2 .result
 
-  m2-is : (c : After-binds-later) (u : Term) → U (s1 (c .before .before)) u → m2 c ≡ later-number same more u (s1 (c .before .before) .args .binders)
+  m2-is : (c : After-binders2) (u : Term) → U (s1 (c .before .before)) u → m2 c ≡ later-number same more u (s1 (c .before .before) .args .binders)
   m2-is c u w =
-      ap (λ x. s1 (c .before .before) .args .binders + x) (c .binds-later .ensures ∙ ap binds-later (kind-is (b1 (c .before .before) .before .before)
+      ap (λ x. s1 (c .before .before) .args .binders + x) (c .binders2 .ensures .0 ∙ ap (λ k. binds k 1) (kind-is (b1 (c .before .before) .before .before)
       u w)) ∙ bound-later u (s1 (c .before .before) .args .binders)
 
-  m2-small : (c : After-binds-later) → c .binds-later .result ≤ 1
-  m2-small c = omega (arith, c .binds-later .ensures, binds-later-small (b1 (c .before .before) .before .before .before .kind .result))
+  m2-small : (c : After-binders2) → c .binders2 .result ≤ 1
+  m2-small c = c .binders2 .ensures .1
 
   second-scan : (c : After-scope-walk2) (u : Term) → U (s1 (c .before .before .before)) u
       → walked (c .scope-walk2 .result) ≡ scan 19 (ok (s1 (c .before .before .before))) (second (c .before .before .before)) (counts same
       more (m2 (c .before)) (op2 u))
   second-scan c u w = c .scope-walk2 .ensures (op2 u) (next (c .before .before) u w)
 
-  went-on : (c : After-binds-later) (u : Term) → U (s1 (c .before .before)) u
+  went-on : (c : After-binders2) (u : Term) → U (s1 (c .before .before)) u
       → scan 19 (ok (s1 (c .before .before))) (s1 (c .before .before) .args .i) (counts same more (s1 (c .before .before) .args .binders) u)
       ≡ then (scan 19 (ok (s1 (c .before .before))) (second (c .before .before)) (counts same more (m2 c) (op2 u))) (λ j. scan 19 (ok (s1 (c .before .before)))
       j (after-second same more u (s1 (c .before .before) .args .binders)))
@@ -209,7 +206,7 @@ module _ (t : ℕ) where
       (m2 c) (m2-is c u w) (two (c .before) u w)
 
   -- past the second operand
-  abbrev b2 : After-known-told2 → After-binds-later
+  abbrev b2 : After-known-told2 → After-binders2
   b2 c = c .before .before .before .before
 
   abbrev k2 : After-known-told2 → After-known-told
@@ -247,19 +244,19 @@ module _ (t : ℕ) where
   at-last : (c : Else4) (u : Term) → U (s2 (c .before)) u → At (s2 (c .before) .args .script .now) (third (c .before)) (op3 u)
   at-last c u w = at-op3 _ _ u w (third (c .before)) (three c u w) (third-is (c .before) u w)
 
-  abbrev s3 : After-binds-later2 → Start
+  abbrev s3 : After-binders3 → Start
   s3 c = s2 (c .before .before)
 
-  abbrev m3 : After-binds-later2 → ℕ
-  m3 c = s3 c .args .binders + c .binds-later2 .result
+  abbrev m3 : After-binders3 → ℕ
+  m3 c = s3 c .args .binders + c .binders3 .result
 
-  m3-is : (c : After-binds-later2) (u : Term) → U (s3 c) u → m3 c ≡ later-number same more u (s3 c .args .binders)
+  m3-is : (c : After-binders3) (u : Term) → U (s3 c) u → m3 c ≡ later-number same more u (s3 c .args .binders)
   m3-is c u w =
-      ap (λ x. s3 c .args .binders + x) (c .binds-later2 .ensures ∙ ap binds-later (kind-is (b1 (k2 (c .before .before)) .before .before) u
+      ap (λ x. s3 c .args .binders + x) (c .binders3 .ensures .0 ∙ ap (λ k. binds k 1) (kind-is (b1 (k2 (c .before .before)) .before .before) u
       w)) ∙ bound-later u (s3 c .args .binders)
 
-  m3-small : (c : After-binds-later2) → c .binds-later2 .result ≤ 1
-  m3-small c = omega (arith, c .binds-later2 .ensures, binds-later-small (b1 (k2 (c .before .before)) .before .before .before .kind .result))
+  m3-small : (c : After-binders3) → c .binders3 .result ≤ 1
+  m3-small c = c .binders3 .ensures .1
 
   scope-walk-bound-below-requires : scope-walk-lts.Need-bound-below-requires (scope-walk-claims t) (scope-walk-at t) scope-walk.Post
   scope-walk-bound-below-requires c κs = room-one _ _ _ (c .before .pre .1 .0 .at)
@@ -286,8 +283,8 @@ module _ (t : ℕ) where
   scope-walk-add-scope-walk : scope-walk-lts.Need-add-scope-walk (scope-walk-claims t) (scope-walk-at t) scope-walk.Post
   scope-walk-add-scope-walk c = let s = st (c .before) in omega (arith, room-one _ _ _ (s .pre .1 .0 .at), s .good)
 
-  scope-walk-binds-first-requires : scope-walk-lts.Need-binds-first-requires (scope-walk-claims t) (scope-walk-at t) scope-walk.Post
-  scope-walk-binds-first-requires c κs = search needs
+  scope-walk-binders-requires : scope-walk-lts.Need-binders-requires (scope-walk-claims t) (scope-walk-at t) scope-walk.Post
+  scope-walk-binders-requires c κs = search needs
 
   scope-walk-add-scope-walk-2 : scope-walk-lts.Need-add-scope-walk-2 (scope-walk-claims t) (scope-walk-at t) scope-walk.Post
   scope-walk-add-scope-walk-2 c = let s = sb c in omega (arith, room-one _ _ _ (s .pre .1 .0 .at), s .good, s .pre .1 .1, m1-small c)
@@ -318,8 +315,8 @@ module _ (t : ℕ) where
       let d = c .before in sym (so-far d u w ∙ no-second same more 19 (ok (s1 d)) u (s1 d .args .binders) (second d) (sym (counted (b1 d .before .before)
       u w) ∙ c .if3 .taken))
 
-  scope-walk-binds-later-requires : scope-walk-lts.Need-binds-later-requires (scope-walk-claims t) (scope-walk-at t) scope-walk.Post
-  scope-walk-binds-later-requires c κs = search needs
+  scope-walk-binders-requires-2 : scope-walk-lts.Need-binders-requires-2 (scope-walk-claims t) (scope-walk-at t) scope-walk.Post
+  scope-walk-binders-requires-2 c κs = search needs
 
   scope-walk-add-scope-walk-3 : scope-walk-lts.Need-add-scope-walk-3 (scope-walk-claims t) (scope-walk-at t) scope-walk.Post
   scope-walk-add-scope-walk-3 c =
@@ -346,8 +343,8 @@ module _ (t : ℕ) where
       let d = c .before in sym (so-far2 d u w ∙ no-third same more 19 (ok (s2 d)) u (s2 d .args .binders) (third d) (sym (counted (b1 (k2 d) .before .before)
       u w) ∙ c .if4 .taken))
 
-  scope-walk-binds-later-requires-2 : scope-walk-lts.Need-binds-later-requires-2 (scope-walk-claims t) (scope-walk-at t) scope-walk.Post
-  scope-walk-binds-later-requires-2 c κs = search needs
+  scope-walk-binders-requires-3 : scope-walk-lts.Need-binders-requires-3 (scope-walk-claims t) (scope-walk-at t) scope-walk.Post
+  scope-walk-binders-requires-3 c κs = search needs
 
   scope-walk-add-scope-walk-4 : scope-walk-lts.Need-add-scope-walk-4 (scope-walk-claims t) (scope-walk-at t) scope-walk.Post
   scope-walk-add-scope-walk-4 c = let s = s3 c in omega (arith, room-one _ _ _ (s .pre .1 .0 .at), s .good, s .pre .1 .1, m3-small c)
@@ -373,21 +370,21 @@ pub +scope-walk-spec : {M : Type 1} → statement M
     (scope-walk-add-t12 t)
     (scope-walk-returns-2 t)
     (scope-walk-add-scope-walk t)
-    (scope-walk-binds-first-requires t)
+    (scope-walk-binders-requires t)
     (scope-walk-add-scope-walk-2 t)
     (scope-walk-scope-walk-requires t)
     (scope-walk-enum-known-a t)
     (scope-walk-enum-told t)
     (scope-walk-returns-3 t)
     (scope-walk-returns-4 t)
-    (scope-walk-binds-later-requires t)
+    (scope-walk-binders-requires-2 t)
     (scope-walk-add-scope-walk-3 t)
     (scope-walk-scope-walk-requires-2 t)
     (scope-walk-enum-known-b t)
     (scope-walk-enum-told-2 t)
     (scope-walk-returns-5 t)
     (scope-walk-returns-6 t)
-    (scope-walk-binds-later-requires-2 t)
+    (scope-walk-binders-requires-3 t)
     (scope-walk-add-scope-walk-4 t)
     (scope-walk-scope-walk-requires-3 t)
     (scope-walk-returns-7 t)

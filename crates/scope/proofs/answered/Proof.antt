@@ -1,4 +1,4 @@
--- `script::answered` meets its contract: by the variant.
+-- `scope::answered` meets its contract: by the variant.
 use mathlib.Core.Path.{sym, ap}
 use Rattle.scope.specs.Stops.{finished}
 use borrow.Author.Needs.{needs}

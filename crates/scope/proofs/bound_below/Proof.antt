@@ -1,4 +1,4 @@
--- `script::bound_below` meets its contract: from the fields that were read.
+-- `scope::bound_below` meets its contract: from the fields that were read.
 use mathlib.Core.Path.{ap₂, _∙_}
 use lib.Dec.{eqb, ltb}
 use Rattle.rules.specs.Answer.{_⇒_}

@@ -1,4 +1,4 @@
--- `script::question_18` meets its contract: the walk over the whole script scans each record.
+-- `scope::question_18` meets its contract: the walk over the whole script scans each record.
 use mathlib.Core.Path.{refl, sym, _∙_}
 use Rattle.rules.specs.Script.{records, term, counts, ok18}
 use Rattle.rules.proofs.Counts.{counts-length}

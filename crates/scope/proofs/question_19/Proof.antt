@@ -1,4 +1,4 @@
--- `script::question_19` meets its contract: the walk over the whole script scans each record.
+-- `scope::question_19` meets its contract: the walk over the whole script scans each record.
 use mathlib.Core.Path.{refl, sym, _∙_}
 use native.Mathlib.Omega.{arith}
 use Rattle.rules.specs.Script.{records, term, counts, ok19}

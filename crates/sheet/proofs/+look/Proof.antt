@@ -1,4 +1,4 @@
--- `look` meets its contract: what it finds at a node follows from what it finds at the operands. A call's record falls to the
+-- `sheet::look` meets its contract: what it finds at a node follows from what it finds at the operands. A call's record falls to the
 -- right in the script.
 use mathlib.Core.Path.{_≡_, sym, _∙_}
 use Prim.Native.Nat.{ℕ, _+_, _-_, _≤_, _<_}

@@ -1,4 +1,4 @@
--- `write` meets its contract: the node's record, then its parts, each where the one before it ends. A call's record falls to the
+-- `sheet::write` meets its contract: the node's record, then its parts, each where the one before it ends. A call's record falls to the
 -- right in the script.
 use mathlib.Core.Path.{_≡_, sym, ap, _∙_}
 use mathlib.Core.Bool.{true}

@@ -1,4 +1,4 @@
--- `line_of` meets its contract.
+-- `sheet::line_of` meets its contract.
 use mathlib.Core.Path.{sym, _∙_}
 use Rattle.sheet.proofs.Sheets.{closed-line, open-line}
 use borrow.Author.Needs.{needs}

@@ -1,4 +1,4 @@
--- `page` meets its contract: a script that passes is the encoding of its term, and a look tells whether that is a value and how
+-- `sheet::page` meets its contract: a script that passes is the encoding of its term, and a look tells whether that is a value and how
 -- many records its sheet has before any is written.
 use mathlib.Core.Path.{_≡_, sym, subst, _∙_}
 use native.Mathlib.Omega.{arith}

@@ -1,4 +1,4 @@
--- `put` meets its contract: four stores are one piece.
+-- `sheet::put` meets its contract: four stores are one piece.
 use native.Mathlib.Omega.{arith}
 use Prim.Native.Nat.{_*_}
 use lib.ListN.{length-set}

@@ -1,4 +1,4 @@
--- `refused` meets its contract.
+-- `sheet::refused` meets its contract.
 use mathlib.Core.Path.{sym, ap}
 use Rattle.sheet.specs.Said.{refusal}
 use borrow.Author.Needs.{needs}

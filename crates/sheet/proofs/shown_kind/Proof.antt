@@ -1,4 +1,4 @@
--- `shown_kind` meets its contract.
+-- `sheet::shown_kind` meets its contract.
 use mathlib.Core.Path.{sym, ap}
 use borrow.Author.Tests.{ne-eqb}
 use Rattle.sheet.specs.Shown.{shown-kind}

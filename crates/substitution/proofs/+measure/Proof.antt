@@ -1,4 +1,4 @@
--- `measure` meets its contract: the loop has counted the first j operands. A call's record falls to the right in the script. Assumes nothing.
+-- `substitution::measure` meets its contract: the loop has counted the first j operands. A call's record falls to the right in the script.
 use mathlib.Core.Path.{_≡_, sym, ap, _∙_}
 use Prim.Native.Nat.{ℕ, _+_, _-_, _≤_, _<_, max}
 use native.Mathlib.Omega.{arith}
@@ -144,6 +144,9 @@ module _ (t : ℕ) where
   binders-requires : lts.Need-binders-requires (claims t) (measure-at t) measure.Post Inv-loop μ-loop
   binders-requires c κs = search needs
 
+  cast-level : lts.Need-cast-level (claims t) (measure-at t) measure.Post Inv-loop μ-loop
+  cast-level c = omega (arith, c .binders .ensures .1)
+
   add-level : lts.Need-add-level (claims t) (measure-at t) measure.Post Inv-loop μ-loop
   add-level c = omega (arith, sizes (start c) .shallow, c .binders .ensures .1)
 
@@ -194,6 +197,7 @@ pub +measure-spec : {M : Type 1} → statement M
     (add-next t)
     (loop-holds t)
     (binders-requires t)
+    (cast-level t)
     (add-level t)
     (measure-requires t)
     (add-sum t)

@@ -1,4 +1,4 @@
--- `write` meets its contract: the loop has written the first j operands. A call's record falls to the right in the script. Assumes nothing.
+-- `substitution::write` meets its contract: the loop has written the first j operands. A call's record falls to the right in the script.
 use mathlib.Core.Path.{_≡_, refl, sym, ap, _∙_}
 use mathlib.Core.List.{_++_}
 use Prim.Native.Nat.{ℕ, _+_, _-_, _≤_, _<_}
@@ -183,6 +183,9 @@ module _ (t : ℕ) where
   binders-requires : lts.Need-binders-requires (claims t) (write-at t) write.Post Inv-loop μ-loop
   binders-requires c κs = search needs
 
+  cast-level : lts.Need-cast-level (claims t) (write-at t) write.Post Inv-loop μ-loop
+  cast-level c = omega (arith, c .binders .ensures .1)
+
   add-level : lts.Need-add-level (claims t) (write-at t) write.Post Inv-loop μ-loop
   add-level c = omega (arith, room (start c) .shallow, c .binders .ensures .1)
 
@@ -235,6 +238,7 @@ pub +write-spec : {M : Type 1} → statement M
     (add-end t)
     (loop-holds t)
     (binders-requires t)
+    (cast-level t)
     (add-level t)
     (write-requires t)
     (add-j t)

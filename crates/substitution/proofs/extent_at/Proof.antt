@@ -1,4 +1,4 @@
--- `extent_at` meets its contract: a variable in the place of a variable changes neither count. Assumes nothing.
+-- `substitution::extent_at` meets its contract: a variable in the place of a variable changes neither count.
 use mathlib.Core.Path.{refl, _∙_}
 use native.Mathlib.Omega.{arith}
 use Rattle.calculus.specs.Terms.{var}

@@ -1,4 +1,4 @@
--- `is_variable` meets its contract. Assumes nothing.
+-- `substitution::is_variable` meets its contract.
 use mathlib.Core.Path.{ap}
 use Prim.Native.Nat.{ℕ}
 use borrow.Author.Needs.{needs}

@@ -1,4 +1,4 @@
--- `measure_variable` meets its contract. Assumes nothing.
+-- `substitution::measure_variable` meets its contract.
 use mathlib.Core.Path.{refl, sym, _∙_}
 use borrow.Author.Needs.{needs}
 use Rattle.substitution.proofs.measure_variable.Statement.{statement}

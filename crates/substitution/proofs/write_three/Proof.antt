@@ -1,4 +1,4 @@
--- `write_three` meets its contract. Assumes nothing.
+-- `substitution::write_three` meets its contract.
 use mathlib.Core.Path.{_≡_}
 use mathlib.Core.List.{_++_}
 use Prim.Native.Nat.{_+_}

@@ -1,4 +1,4 @@
--- `write_variable` meets its contract. Assumes nothing.
+-- `substitution::write_variable` meets its contract.
 use mathlib.Core.Path.{_≡_, sym, ap, _∙_}
 use mathlib.Core.Bool.{Bool, false}
 use Prim.Native.Nat.{_+_, _≤_}

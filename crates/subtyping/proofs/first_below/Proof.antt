@@ -1,4 +1,4 @@
--- `types::first_below` meets its contract: the three tests in order.
+-- `subtyping::first_below` meets its contract: the three tests in order.
 use mathlib.Core.Path.{sym, ap₂, _∙_}
 use lib.Dec.{eqb}
 use borrow.Author.Tests.{eq-eqb, ne-eqb}

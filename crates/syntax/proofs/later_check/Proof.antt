@@ -1,4 +1,4 @@
--- `script::later_check` meets its contract: each question is asked after a yes to those before it. 13, 14 and 17 give the term
+-- `syntax::later_check` meets its contract: each question is asked after a yes to those before it. 13, 14 and 17 give the term
 -- that 18 and 19 walk over.
 use mathlib.Core.Path.{_≡_}
 use mathlib.Core.List.{[]}

@@ -1,4 +1,4 @@
--- `script::shape_check` meets its contract: each question is asked after a yes to those before it.
+-- `syntax::shape_check` meets its contract: each question is asked after a yes to those before it.
 use mathlib.Core.Path.{_≡_}
 use mathlib.Core.List.{[]}
 use borrow.Author.Needs.{needs}

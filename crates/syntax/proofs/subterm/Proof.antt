@@ -1,4 +1,4 @@
--- `script::subterm` meets its contract: the part ends where the pending count does, which is within the script.
+-- `syntax::subterm` meets its contract: the part ends where the pending count does, which is within the script.
 use mathlib.Core.Path.{_≡_, sym, ap, _∙_}
 use native.Mathlib.Omega.{arith}
 use Prim.Native.Nat.{ℕ, _*_, _≤_}

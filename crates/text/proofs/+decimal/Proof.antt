@@ -1,4 +1,4 @@
--- `decimal` meets its contract: a number below ten is its digit, another has the digits of its tenth before its last. The number
+-- `text::decimal` meets its contract: a number below ten is its digit, another has the digits of its tenth before its last. The number
 -- falls.
 use mathlib.Core.Path.{sym, ap, subst}
 use borrow.Author.Needs.{needs}

@@ -1,3 +1,4 @@
+-- `text::digit` meets its contract.
 use mathlib.Core.Path.{refl}
 use Rattle.text.proofs.Placed.{put-one}
 use borrow.Author.Needs.{needs}

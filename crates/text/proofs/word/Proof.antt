@@ -1,4 +1,4 @@
--- `word` meets its contract: each kind has its byte string, and another has none.
+-- `text::word` meets its contract: each kind has its byte string, and another has none.
 use mathlib.Core.Path.{_≡_, sym, subst}
 use Prim.Native.Nat.{ℕ, _+_, _≤_}
 use lib.ListN.{length}

@@ -1,4 +1,4 @@
--- `types::question_10` meets its contract. The invariant: each record before i passes.
+-- `types_table::question_10` meets its contract. The invariant: each record before i passes.
 use mathlib.Core.Path.{_≡_, sym, _∙_}
 use mathlib.Core.Bool.{true}
 use Prim.Native.Nat.{ℕ, _≤_, _<_, _-_}

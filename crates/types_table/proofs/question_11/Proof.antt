@@ -1,4 +1,4 @@
--- `types::question_11` meets its contract. The invariant: every type that has ended passes, and the walk from the start of the one that
+-- `types_table::question_11` meets its contract. The invariant: every type that has ended passes, and the walk from the start of the one that
 -- hasn't goes on at i with as many sides to come as are pending.
 use mathlib.Core.Path.{sym}
 use Prim.Native.Nat.{_≤_, _+_, _-_}

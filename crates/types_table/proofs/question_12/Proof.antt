@@ -1,4 +1,4 @@
--- `types::question_12` meets its contract. The invariant is that of question 11; a type is judged where it ends.
+-- `types_table::question_12` meets its contract. The invariant is that of question 11; a type is judged where it ends.
 use mathlib.Core.Path.{sym, _∙_}
 use Prim.Native.Nat.{_≤_, _+_, _-_}
 use native.Mathlib.Omega.{arith}

@@ -1,4 +1,4 @@
--- `types::question_8` meets its contract.
+-- `types_table::question_8` meets its contract.
 use borrow.Author.Tests.{le-leb, lt-leb, eq-eqb, ne-eqb}
 use borrow.Author.Needs.{needs}
 use Rattle.types_table.proofs.question_8.Statement.{statement}

@@ -1,4 +1,4 @@
--- `types::refused` meets its contract.
+-- `types_table::refused` meets its contract.
 use mathlib.Core.Path.{sym, ap}
 use Rattle.types_table.specs.Ordered.{refusal}
 use borrow.Author.Needs.{needs}

@@ -1,4 +1,4 @@
--- `types::secure` meets its contract.
+-- `types_table::secure` meets its contract.
 use mathlib.Core.Path.{_∙_, ap₂}
 use Rattle.rules.specs.Groups.{leq}
 use Rattle.rules.specs.Types.{ok10}

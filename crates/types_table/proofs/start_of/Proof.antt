@@ -1,4 +1,4 @@
--- `types::start_of` meets its contract.
+-- `types_table::start_of` meets its contract.
 use borrow.Author.Tests.{eq-eqb, ne-eqb}
 use Rattle.types_table.proofs.start_of.Statement.{statement}
 use Rattle.types_table.proofs.start_of.Tie as tie

@@ -1,4 +1,4 @@
--- `types::too_long` meets its contract.
+-- `types_table::too_long` meets its contract.
 use borrow.Author.Tests.{eq-eqb, ne-eqb}
 use borrow.Author.Needs.{needs}
 use Rattle.types_table.proofs.too_long.Statement.{statement}

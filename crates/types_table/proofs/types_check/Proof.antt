@@ -1,4 +1,4 @@
--- `types::types_check` meets its contract: the questions in order, each asked after a yes to those before it.
+-- `types_table::types_check` meets its contract: the questions in order, each asked after a yes to those before it.
 use mathlib.Core.Path.{_≡_, _∙_}
 use Rattle.rules.specs.Answer.{Bytes, Answer}
 use Rattle.rules.specs.Types.{q8, q9, q10, q11, q12}

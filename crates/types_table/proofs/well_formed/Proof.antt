@@ -1,4 +1,4 @@
--- `types::well_formed` meets its contract: the four tests in order.
+-- `types_table::well_formed` meets its contract: the four tests in order.
 use borrow.Author.Tests.{le-leb, lt-leb, eq-eqb, ne-eqb, lt-ltb, le-ltb}
 use mathlib.Core.Path.{_∙_}
 use Rattle.rules.specs.Types.{ok9}

@@ -1,4 +1,4 @@
--- `found` meets its contract.
+-- `wigneld::found` meets its contract.
 use mathlib.Core.Path.{sym, ap, subst, _∙_}
 use Rattle.inference.specs.declared.Found.{Found}
 use Rattle.typing.specs.Answered.{answered}

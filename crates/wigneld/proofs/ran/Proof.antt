@@ -1,4 +1,4 @@
--- `ran` meets its contract.
+-- `wigneld::ran` meets its contract.
 use mathlib.Core.Path.{sym, ap, subst, _∙_}
 use Rattle.evaluation.specs.declared.RunAnswer.{RunAnswer}
 use Rattle.evaluation.specs.Runs.{run-reported}

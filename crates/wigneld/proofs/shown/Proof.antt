@@ -1,4 +1,4 @@
--- `shown` meets its contract.
+-- `wigneld::shown` meets its contract.
 use mathlib.Core.Path.{sym, ap, subst, _∙_}
 use Rattle.sheet.specs.declared.Sheet.{Sheet}
 use Rattle.sheet.specs.Said.{reported}

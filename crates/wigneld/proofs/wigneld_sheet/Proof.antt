@@ -1,4 +1,4 @@
--- `wigneld_sheet` meets its contract.
+-- `wigneld::wigneld_sheet` meets its contract.
 use mathlib.Core.Path.{sym, ap, subst, _∙_}
 use lib.ListN.{length}
 use Rattle.packing.specs.Packed.{packed, Bounded}
