@@ -1,4 +1,4 @@
-//! Visits of a step, function by function as crates/redex, substitution and reduction have them.
+//! Visits of a step, function by function as crates/redex, substitution, contraction and reduction have them.
 
 use wigneld_tests::script::{Side, Term};
 

@@ -1,4 +1,4 @@
-//! Visits of typing, function by function as crates/typing has them. Types are those of the second
+//! Visits of typing, function by function as crates/inference and typing have them. Types are those of the second
 //! implementation; the scripts are accepted, so every comparison goes to its end.
 
 use std::rc::Rc;

@@ -1,3 +1,5 @@
+// Answers to checks, and the tests that several questions make.
+
 ghost use mathlib.Core.Path.{_≡_};
 ghost use lib.Dec.{ltb};
 ghost use Rattle.rules.specs.Answer.{_⇒_, ask};

@@ -1,6 +1,14 @@
+// A redex's contractum: how it is made, its measure, and its records written.
+
 use lattice::Indirect;
 use lattice::Reader;
+use records::APPLICATION;
+use records::FIRST_INJECTION;
+use records::FIRST_PROJECTION;
+use records::PROTECT;
+use records::RECURSION;
 use records::SCRIPT_WIDTH;
+use records::SECOND_PROJECTION;
 ghost use mathlib.Core.Path.{_≡_};
 ghost use Prim.Native.Nat.{ℕ, _+_, _-_, _/_, _%_, _≤_};
 ghost use lib.ListN.{length};
@@ -52,24 +60,24 @@ pub fn plan_of(script: &[u8], at: usize) -> Plan
     ensures { λ a. ⌜ ((q : Fires (now (script .entry)) at) → Planned (now (script .entry)) (q .tree) a) ⌝ }
 {
     let kind = records::kind(script, at);
-    if kind == 11 {
+    if kind == RECURSION {
         return Plan::Unrolled;
     }
-    if kind == 10 {
+    if kind == PROTECT {
         return Plan::Raised;
     }
     let inner = at + 2;
-    if kind == 7 {
+    if kind == FIRST_PROJECTION {
         return Plan::Part(inner);
     }
     let next = records::end_of(script, inner);
-    if kind == 8 {
+    if kind == SECOND_PROJECTION {
         return Plan::Part(next);
     }
-    if kind == 6 {
+    if kind == APPLICATION {
         return Plan::Body(inner, next);
     }
-    if records::kind(script, at + 1) == 4 {
+    if records::kind(script, at + 1) == FIRST_INJECTION {
         return Plan::Body(next, inner);
     }
     Plan::Body(records::end_of(script, next), inner)

@@ -1,3 +1,5 @@
+// Stripping: a script or a types table without its readers and indirect readers.
+
 use records::SCRIPT_WIDTH;
 use types::TYPE_WIDTH;
 ghost use mathlib.Core.Path.{_≡_};

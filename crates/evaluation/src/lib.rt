@@ -1,3 +1,5 @@
+// The run: steps repeated within a budget.
+
 use answer::Checked;
 use records::SCRIPT_WIDTH;
 use redex::Found;

@@ -1,3 +1,5 @@
+// A groups table: questions 2 to 7.
+
 use answer::Checked;
 use lattice::GROUP_LIMIT;
 use lattice::ROW_WIDTH;

@@ -1,5 +1,17 @@
+// The typing rules in the lent work buffer: what is asked and written before, between and after a node's operands.
+
 use lattice::Indirect;
 use lattice::Reader;
+use records::APPLICATION;
+use records::FIRST_INJECTION;
+use records::FIRST_PROJECTION;
+use records::FUNCTION;
+use records::PAIR;
+use records::PROTECT;
+use records::RECURSION;
+use records::SECOND_INJECTION;
+use records::SECOND_PROJECTION;
+use records::VARIABLE;
 use types::TYPE_LIMIT;
 use types::TYPE_WIDTH;
 ghost use mathlib.Core.Path.{_≡_};
@@ -33,27 +45,6 @@ pub enum Found {
 
 // A slot holds any type. Question 1 asks for one for each level of a script.
 pub const SLOT: usize = TYPE_LIMIT * TYPE_WIDTH;
-
-// Kinds of terms.
-const VARIABLE: u8 = 0;
-
-const LAMBDA: u8 = 2;
-
-const PAIR: u8 = 3;
-
-const FIRST_INJECTION: u8 = 4;
-
-const SECOND_INJECTION: u8 = 5;
-
-const APPLICATION: u8 = 6;
-
-const FIRST_PROJECTION: u8 = 7;
-
-const SECOND_PROJECTION: u8 = 8;
-
-const PROTECT: u8 = 10;
-
-const RECURSION: u8 = 11;
 
 // The number of the first record.
 pub fn index(s: &[u8]) -> usize
@@ -191,7 +182,7 @@ pub fn enter(groups: &[u8], types: &[u8], s: &[u8], place: usize, b: usize, w: &
 {
     let k = records::kind(s, 0);
     let i = index(s);
-    if k == LAMBDA {
+    if k == FUNCTION {
         bind(types, i, b, w);
         return Found::Typed(b + 1);
     }
@@ -331,7 +322,7 @@ pub fn last(groups: &[u8], types: &[u8], s: &[u8], place: usize, w: &mut [u8], n
     let r = records::reader(s, 0);
     let ir = records::indirect(s, 0);
     let i = index(s);
-    if k == LAMBDA {
+    if k == FUNCTION {
         return function(types, i, r, ir, place, w, n);
     }
     if k == FIRST_INJECTION {

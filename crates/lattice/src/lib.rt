@@ -1,3 +1,5 @@
+// The lattice of groups over a table of rows: readers and indirect readers, their order and their join.
+
 ghost use mathlib.Core.Path.{_≡_};
 ghost use Prim.Native.Nat.{_<_};
 ghost use lib.ListN.{length};

@@ -1,3 +1,5 @@
+// The report's lines, written over a lent buffer from an offset on.
+
 use sheet::SHEET_WIDTH;
 ghost use mathlib.Core.Path.{_≡_};
 ghost use Prim.Native.Nat.{_+_, _≤_};

@@ -1,3 +1,5 @@
+// Copies and zeros in a lent buffer.
+
 ghost use mathlib.Core.Path.{_≡_};
 ghost use mathlib.Core.List.{_++_};
 ghost use Prim.Native.Nat.{_+_, _-_, _≤_};

@@ -1,3 +1,5 @@
+// A script's records: their fields, the table of kinds, and where a term ends.
+
 use lattice::Indirect;
 use lattice::Reader;
 ghost use mathlib.Core.Path.{_≡_};
@@ -12,6 +14,31 @@ ghost use Rattle.records.specs.Said.{line, ended};
 ghost use Rattle.records.specs.Binders.{binds};
 
 pub const SCRIPT_WIDTH: usize = 6;
+
+// The kinds of records.
+pub const VARIABLE: u8 = 0;
+
+pub const UNIT: u8 = 1;
+
+pub const FUNCTION: u8 = 2;
+
+pub const PAIR: u8 = 3;
+
+pub const FIRST_INJECTION: u8 = 4;
+
+pub const SECOND_INJECTION: u8 = 5;
+
+pub const APPLICATION: u8 = 6;
+
+pub const FIRST_PROJECTION: u8 = 7;
+
+pub const SECOND_PROJECTION: u8 = 8;
+
+pub const CASE: u8 = 9;
+
+pub const PROTECT: u8 = 10;
+
+pub const RECURSION: u8 = 11;
 
 pub fn wide(x: u8) -> usize
     ensures { λ a. ⌜ (a ≡ x) × (a < 256) ⌝ }
@@ -101,18 +128,18 @@ pub fn signature_of(kind: u8) -> Signature
     ensures { λ a. ⌜ line a ≡ signature-of kind ⌝ }
 {
     match kind {
-        0 => entry(0, false, false, true, false), // variable
-        1 => entry(0, true, true, false, false), // unit
-        2 => entry(1, true, true, true, true), // function
-        3 => entry(2, true, true, false, false), // pair
-        4 => entry(1, true, true, true, true), // first injection
-        5 => entry(1, true, true, true, true), // second injection
-        6 => entry(2, true, false, false, false), // application
-        7 => entry(1, true, false, false, false), // first projection
-        8 => entry(1, true, false, false, false), // second projection
-        9 => entry(3, true, false, true, true), // case
-        10 => entry(1, false, true, false, false), // protect
-        11 => entry(1, false, false, true, true), // recursion
+        VARIABLE => entry(0, false, false, true, false),
+        UNIT => entry(0, true, true, false, false),
+        FUNCTION => entry(1, true, true, true, true),
+        PAIR => entry(2, true, true, false, false),
+        FIRST_INJECTION => entry(1, true, true, true, true),
+        SECOND_INJECTION => entry(1, true, true, true, true),
+        APPLICATION => entry(2, true, false, false, false),
+        FIRST_PROJECTION => entry(1, true, false, false, false),
+        SECOND_PROJECTION => entry(1, true, false, false, false),
+        CASE => entry(3, true, false, true, true),
+        PROTECT => entry(1, false, true, false, false),
+        RECURSION => entry(1, false, false, true, true),
         _ => entry(0, false, false, false, false),
     }
 }
@@ -130,15 +157,15 @@ pub fn binders(kind: u8, j: usize) -> usize
     ensures { λ a. ⌜ (a ≡ binds kind j) × (a ≤ 1) ⌝ }
 {
     if j == 0 {
-        if kind == 2 {
+        if kind == FUNCTION {
             return 1;
         }
-        if kind == 11 {
+        if kind == RECURSION {
             return 1;
         }
         return 0;
     }
-    if kind == 9 {
+    if kind == CASE {
         return 1;
     }
     0

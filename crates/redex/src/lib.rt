@@ -1,3 +1,18 @@
+// The search for the redex: is the term a value, where does it reduce, or what is it stuck at?
+
+use records::APPLICATION;
+use records::CASE;
+use records::FIRST_INJECTION;
+use records::FIRST_PROJECTION;
+use records::FUNCTION;
+use records::PAIR;
+use records::PROTECT;
+use records::RECURSION;
+use records::SECOND_INJECTION;
+use records::SECOND_PROJECTION;
+use records::UNIT;
+use records::VARIABLE;
+use types::TYPE_WIDTH;
 ghost use mathlib.Core.Path.{_≡_};
 ghost use Prim.Native.Nat.{ℕ, _+_, _*_, _≤_, _<_};
 ghost use lib.ListN.{length};
@@ -11,7 +26,6 @@ ghost use Rattle.rules.specs.Script.{kind, r};
 ghost use Rattle.records.specs.Place.{At};
 ghost use Rattle.redex.specs.Fates.{is-function, fate};
 ghost use Rattle.redex.specs.Found.{Shallow, Finds, answer, takes-apart};
-use types::TYPE_WIDTH;
 
 // What the search for the redex reports: a value and the record after it; the redex and the number of records around it; or why no
 // step moves the term, a reader that may not (end 2) or a wrong kind (end 3).
@@ -29,7 +43,7 @@ fn unrolls(types: &[u8], i: usize) -> bool
     if types.len() / TYPE_WIDTH <= i {
         return false;
     }
-    types[TYPE_WIDTH * i] == 3
+    types[TYPE_WIDTH * i] == types::FUNCTION
 }
 
 // Does a destructor of this kind take apart a value of that kind?
@@ -37,10 +51,10 @@ fn takes_apart(destructor: u8, value: u8) -> bool
     ensures { λ a. ⌜ a ≡ takes-apart destructor value ⌝ }
 {
     match destructor {
-        6 => value == 2,
-        7 => value == 3,
-        8 => value == 3,
-        9 => (value == 4) | (value == 5),
+        APPLICATION => value == FUNCTION,
+        FIRST_PROJECTION => value == PAIR,
+        SECOND_PROJECTION => value == PAIR,
+        CASE => (value == FIRST_INJECTION) | (value == SECOND_INJECTION),
         _ => false,
     }
 }
@@ -93,36 +107,36 @@ pub fn find(groups: &[u8], types: &[u8], script: &[u8], at: usize, depth: usize)
         → Finds (readers (now (groups .entry))) (type-at (now (types .entry))) at depth e a) ⌝ }
 {
     let kind = records::kind(script, at);
-    if kind == 0 {
+    if kind == VARIABLE {
         return Found::Stuck;
     }
-    if kind == 1 {
+    if kind == UNIT {
         return Found::Value(at + 1);
     }
-    if kind == 2 {
+    if kind == FUNCTION {
         return Found::Value(records::end_of(script, at));
     }
-    if kind == 11 {
+    if kind == RECURSION {
         return unrolling(types, script, at, depth);
     }
     let first = find(groups, types, script, at + 1, depth + 1);
     let Found::Value(next) = first else {
         return first;
     };
-    if (kind == 4) | (kind == 5) {
+    if (kind == FIRST_INJECTION) | (kind == SECOND_INJECTION) {
         return first;
     }
-    if kind == 10 {
+    if kind == PROTECT {
         return Found::Redex(at, depth);
     }
-    if 6 < kind {
+    if APPLICATION < kind {
         return reading(groups, script, at, depth);
     }
     let second = find(groups, types, script, next, depth + 1);
     let Found::Value(end) = second else {
         return second;
     };
-    if kind == 3 {
+    if kind == PAIR {
         return Found::Value(end);
     }
     reading(groups, script, at, depth)

@@ -1,3 +1,5 @@
+// One step of a script's term.
+
 use answer::Checked;
 use contraction::Plan;
 use records::SCRIPT_WIDTH;

@@ -1,3 +1,5 @@
+// Questions 18 and 19: a term's depth, and its variables against the binders over them.
+
 use answer::Checked;
 ghost use mathlib.Core.Path.{_≡_};
 ghost use Prim.Native.Nat.{_+_, _*_, _≤_};

@@ -1,6 +1,12 @@
+// Questions 13 to 17 of a script, one function each.
+
 use answer::Checked;
 use records::Ended;
+use records::FIRST_INJECTION;
+use records::RECURSION;
 use records::SCRIPT_WIDTH;
+use records::SECOND_INJECTION;
+use records::UNIT;
 use types::TYPE_WIDTH;
 ghost use mathlib.Core.Path.{_≡_};
 ghost use mathlib.Core.Bool.{not};
@@ -61,7 +67,7 @@ fn fields_right(script: &[u8], i: usize) -> bool
     let r = zero_unless(f.reader, records::word(records::reader(script, i).0));
     let ir = zero_unless(f.indirect, records::word(records::indirect(script, i).0));
     let n = zero_unless(f.number, records::number(script, i));
-    (k <= 11) & ((records::zero_byte(script, i) == 0) & (r & (ir & n)))
+    (k <= RECURSION) & ((records::zero_byte(script, i) == 0) & (r & (ir & n)))
 }
 
 // 14. Kind at most 11, unnamed fields 0?
@@ -90,7 +96,7 @@ fn groups_right(groups: &[u8], script: &[u8], i: usize) -> bool
     let ir = records::indirect(script, i);
     let n = lattice::row_count(groups);
     let secure = ir.within(groups, r);
-    let asked = (1 <= k) & (k <= 5);
+    let asked = (UNIT <= k) & (k <= SECOND_INJECTION);
     answer::below_if(f.reader, records::wide(r.0), n)
         & (answer::below_if(f.indirect, records::wide(ir.0), n) & (!asked | secure))
 }
@@ -131,8 +137,8 @@ fn type_right(types: &[u8], script: &[u8], i: usize) -> bool
     let n = records::number(script, i);
     let named = type_kind(types, n);
     let exists = answer::below_if(f.typed, records::index(n), types.len() / TYPE_WIDTH);
-    let injects = (k == 4) | (k == 5);
-    exists & ((!injects | (named == 1)) & ((k != 11) | (named == 3)))
+    let injects = (k == FIRST_INJECTION) | (k == SECOND_INJECTION);
+    exists & ((!injects | (named == types::SUM)) & ((k != RECURSION) | (named == types::FUNCTION)))
 }
 
 // 16. Does a named type exist, a sum for 4 and 5, a function for 11?

@@ -1,6 +1,13 @@
+// The sheet of a value for a reader group.
+
 use answer::Checked;
 use lattice::Indirect;
 use lattice::Reader;
+use records::FIRST_INJECTION;
+use records::FUNCTION;
+use records::PAIR;
+use records::SECOND_INJECTION;
+use records::UNIT;
 ghost use mathlib.Core.Path.{_≡_};
 ghost use mathlib.Core.Bool.{true};
 ghost use Prim.Native.Nat.{_+_, _*_, _≤_, _<_};
@@ -17,17 +24,6 @@ ghost use Rattle.sheet.specs.Value.{looked, Room, Wrote};
 ghost use Rattle.sheet.specs.Said.{reported, refusal, before-26};
 
 pub const SHEET_WIDTH: usize = 4;
-
-// Kinds of script records: those of a value's objects are from UNIT to SECOND.
-const UNIT: u8 = 1;
-
-const FUNCTION: u8 = 2;
-
-const PAIR: u8 = 3;
-
-const FIRST: u8 = 4;
-
-const SECOND: u8 = 5;
 
 // Kinds of sheet records.
 pub const SHOWN_UNIT: u8 = 0;
@@ -74,10 +70,11 @@ fn look(value: &[u8], i: usize, count: usize) -> Looked
     ensures { λ a. ⌜ ((e : Term) → At (now (value .entry)) i e → a ≡ looked e i count) ⌝ }
 {
     let kind = records::kind(value, i);
+    // A value's objects have kinds from UNIT to SECOND_INJECTION.
     if kind < UNIT {
         return Looked::Other;
     }
-    if SECOND < kind {
+    if SECOND_INJECTION < kind {
         return Looked::Other;
     }
     // A function's body is neither asked to be a value nor counted.
@@ -101,8 +98,8 @@ fn shown_kind(kind: u8) -> u8
     match kind {
         FUNCTION => SHOWN_FUNCTION,
         PAIR => SHOWN_PAIR,
-        FIRST => SHOWN_FIRST,
-        SECOND => SHOWN_SECOND,
+        FIRST_INJECTION => SHOWN_FIRST,
+        SECOND_INJECTION => SHOWN_SECOND,
         _ => SHOWN_UNIT,
     }
 }

@@ -1,3 +1,7 @@
+// Substitution of a closed value for a variable, measured without writing, and written.
+
+use records::SCRIPT_WIDTH;
+use records::VARIABLE;
 ghost use mathlib.Core.Path.{_≡_};
 ghost use mathlib.Core.Bool.{cond};
 ghost use mathlib.Core.List.{_++_};
@@ -11,7 +15,6 @@ ghost use Rattle.records.specs.Place.{At};
 ghost use Rattle.memory.specs.Splice.{splice};
 ghost use Rattle.records.specs.Binders.{binds};
 ghost use Rattle.substitution.specs.Substituted.{Sizes, Measured, Within, Extends, Room, Written};
-use records::SCRIPT_WIDTH;
 
 // The record after a term, and the records and the depth of what it becomes.
 pub struct Extent {
@@ -71,7 +74,7 @@ pub fn measure(script: &[u8], i: usize, n: u16, records: usize, deep: usize) -> 
     ensures { λ x. ⌜ ((e v : Term) → At (now (script .entry)) i e → records ≡ size v → deep ≡ depth v → Measured i n e v x) ⌝ }
 {
     let k = records::kind(script, i);
-    if k == 0 {
+    if k == VARIABLE {
         return measure_variable(script, i, n, records, deep);
     }
     let count = records::arity(k);
@@ -161,7 +164,7 @@ pub fn write(
         → Written i n e v at (now (to .entry)) x (now (to .exit))) ⌝ }
 {
     let k = records::kind(script, i);
-    if k == 0 {
+    if k == VARIABLE {
         return write_variable(script, i, front, mid, back, n, to, at);
     }
     memory::copy_part(script, SCRIPT_WIDTH * i, SCRIPT_WIDTH, to, at);

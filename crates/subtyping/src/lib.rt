@@ -1,3 +1,5 @@
+// At or below: two walks over two types, which call each other at functions.
+
 use types::FUNCTION;
 use types::UNIT;
 ghost use mathlib.Core.Path.{_≡_};

@@ -1,3 +1,5 @@
+// Questions 2 to 19 in order, and the subterm look-up.
+
 use answer::Checked;
 use records::Ended;
 use records::SCRIPT_WIDTH;

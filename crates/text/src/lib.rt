@@ -1,3 +1,6 @@
+// Words and numbers, written over a lent buffer from an offset on. Each function answers the offset after its piece, so that
+// one goes on where another ended.
+
 ghost use mathlib.Core.List.{[], _∷_};
 ghost use Prim.Native.Nat.{_+_, _≤_};
 ghost use lib.ListN.{length};

@@ -1,3 +1,5 @@
+// A type in bytes: the records of a types table or of a lent buffer, a type's sides, and raising.
+
 use lattice::Indirect;
 use lattice::Reader;
 ghost use mathlib.Core.Path.{_≡_};

@@ -1,3 +1,5 @@
+// A types table: questions 8 to 12, and 'at or below' of two of its types.
+
 use answer::Checked;
 use types::FUNCTION;
 use types::TYPE_LIMIT;

@@ -1,3 +1,5 @@
+// The checker, which calls itself on each operand's part of the script, and checking.
+
 use answer::Checked;
 use inference::Found;
 use inference::SLOT;
