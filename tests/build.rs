@@ -3,7 +3,6 @@
 use std::env;
 
 fn main() {
-    println!("cargo:rerun-if-changed=build.rs");
     println!("cargo:rerun-if-env-changed=WIGNELD_LIB");
     if env::var_os("CARGO_FEATURE_ENGINE").is_none() {
         return;

@@ -21,17 +21,7 @@ fn wide(word: u32) -> u64
 pub fn question_2(groups: &[u8]) -> Checked
     ensures { λ a. ⌜ said a ≡ q2 (now (groups .entry)) ⌝ }
 {
-    let n = lattice::row_count(groups);
-    if groups.len() % ROW_WIDTH != 0 {
-        return Checked::Refused(2, 0);
-    }
-    if n < 1 {
-        return Checked::Refused(2, 0);
-    }
-    if GROUP_LIMIT < n {
-        return Checked::Refused(2, 0);
-    }
-    Checked::Passed
+    answer::ask(2, 0, answer::whole(groups.len(), ROW_WIDTH, GROUP_LIMIT))
 }
 
 // Has row g no bit at or past the row count?

@@ -9,7 +9,11 @@ use lib.ListN.{length}
 use Rattle.rules.specs.Answer.{Bytes, ask, accepted, first-from, is-none}
 use Rattle.rules.specs.Script.{records, q13}
 use Rattle.rules.proofs.Asked.{ask-true}
-use Rattle.script.specs.Lengths.{whole-records}
+use Rattle.rules.specs.Limits.{script-width, script-limit}
+
+-- whole records, 1 to 8,192
+abbrev pub whole-records : Bytes → Bool
+whole-records s = eqb (length s % script-width) 0 && (leb 1 (records s) && leb (records s) script-limit)
 
 and-true : (a b c : Bool) → (a && (b && c)) ≡ (a && (b && (c && true)))
 and-true true true true = refl

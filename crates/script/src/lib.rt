@@ -19,23 +19,18 @@ ghost use Rattle.rules.specs.Limits.{script-width};
 ghost use Rattle.rules.specs.Types.{type-kind};
 ghost use Rattle.rules.specs.Script.{ok14, ok15, ok16, q13, q14, q15, q16, q17};
 ghost use Rattle.answer.specs.Said.{said};
-ghost use Rattle.script.specs.Lengths.{whole-records};
 
 pub const SCRIPT_LIMIT: usize = 8192;
-
-// Whole records, 1 to 8,192? Tests are joined by `&` throughout: each is cheap, and one answer is one fact to prove.
-fn whole_records(script: &[u8]) -> bool
-    ensures { λ a. ⌜ a ≡ whole-records (now (script .entry)) ⌝ }
-{
-    let n = records::record_count(script);
-    (script.len() % SCRIPT_WIDTH == 0) & ((1 <= n) & (n <= SCRIPT_LIMIT))
-}
 
 // 13. Whole records, 1 to 8,192?
 pub fn question_13(script: &[u8]) -> Checked
     ensures { λ a. ⌜ said a ≡ q13 [] (now (script .entry)) ⌝ }
 {
-    answer::ask(13, 0, whole_records(script))
+    answer::ask(
+        13,
+        0,
+        answer::whole(script.len(), SCRIPT_WIDTH, SCRIPT_LIMIT),
+    )
 }
 
 // 13 in a run, whose two buffers have these lengths.
@@ -46,7 +41,7 @@ pub fn question_13_in_run(script: &[u8], first: usize, scratch: usize) -> Checke
     answer::ask(
         13,
         0,
-        whole_records(script) & ((n <= first) & (n <= scratch)),
+        answer::whole(n, SCRIPT_WIDTH, SCRIPT_LIMIT) & ((n <= first) & (n <= scratch)),
     )
 }
 

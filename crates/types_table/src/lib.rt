@@ -33,17 +33,7 @@ fn wide(g: u8) -> usize
 pub fn question_8(types: &[u8]) -> Checked
     ensures { λ a. ⌜ said a ≡ q8 (now (types .entry)) ⌝ }
 {
-    let n = types::type_count(types);
-    if types.len() % TYPE_WIDTH != 0 {
-        return Checked::Refused(8, 0);
-    }
-    if n < 1 {
-        return Checked::Refused(8, 0);
-    }
-    if TABLE_LIMIT < n {
-        return Checked::Refused(8, 0);
-    }
-    Checked::Passed
+    answer::ask(8, 0, answer::whole(types.len(), TYPE_WIDTH, TABLE_LIMIT))
 }
 
 // Has record i a kind that there is, a 0 in its last byte, and groups of the table, which has n?
