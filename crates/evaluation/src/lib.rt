@@ -12,8 +12,7 @@ ghost use Rattle.rules.specs.Groups.{readers};
 ghost use Rattle.rules.specs.Types.{type-at};
 ghost use Rattle.rules.specs.Run.{run};
 ghost use Rattle.rules.specs.Reach.{Accepted};
-ghost use Rattle.rules.specs.Calls.{running, run-report, first-after};
-ghost use Rattle.rules.specs.Calls.{scratch-after};
+ghost use Rattle.rules.specs.Calls.{running, run-report, first-after, scratch-after};
 ghost use Rattle.evaluation.specs.Runs.{front, Loaded, Halted, Ends, number-of, spent-on, refused-run, run-reported};
 ghost use Rattle.evaluation.specs.Runs.{Demanded};
 

@@ -33,8 +33,7 @@ ghost use Rattle.inference.specs.Memory.{high, Slot, Sized, Holds, Meets
 ghost use Rattle.inference.specs.Memory.{Some-sides, In-scope, Typed-front, Sided-front, Part, Entered};
 ghost use Rattle.inference.specs.Stages.{leaf-type, before-first, first-context, kept-front, function-type, pair-type};
 ghost use Rattle.inference.specs.Stages.{injection-type, may-read, after-one, between, second-context, after-two, Leaf, One};
-ghost use Rattle.inference.specs.Stages.{Some, Passes, Two, Set-aside, side-of, wanting};
-ghost use Rattle.inference.specs.Stages.{projection-type};
+ghost use Rattle.inference.specs.Stages.{Some, Passes, Two, Set-aside, side-of, wanting, projection-type};
 
 // What typing finds: the record count of the type that it has written in front, or the number of the first question answered
 // no, and the place.

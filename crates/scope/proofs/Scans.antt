@@ -99,8 +99,7 @@ module _ (q : ℕ) (ok : ℕ → ℕ → Bool) where
   said-finish (Past i) = refl
   said-finish (Stopped question place) = refl
 
-  pub scan-each : (w : Walked) (ns : List ℕ) (n : ℕ) (okk : ℕ → Bool) → walked w ≡ scan q ok 0 ns → n ≡ length ns
-      → ((k : ℕ) → okk k ≡ ok k (getD ns k 0)) → finished w ≡ each q n okk
-  scan-each w ns n okk h l e =
-      said-finish w ∙ ap finish h ∙ scan-each-from okk ns 0 (λ k. ap okk (zero-add k) ∙ e k ∙ ap (λ x. ok x (getD ns k 0)) (sym (zero-add k)))
-      ∙ ap (λ x. each q x okk) (sym l)
+  pub scan-each : (w : Walked) (ns : List ℕ) (n : ℕ) → walked w ≡ scan q ok 0 ns → n ≡ length ns → finished w ≡ each q n (λ k. ok k (getD ns k 0))
+  scan-each w ns n h l =
+      said-finish w ∙ ap finish h ∙ scan-each-from (λ k. ok k (getD ns k 0)) ns 0 (λ k. ap (λ x. ok (0 + k) (getD ns x 0)) (zero-add k))
+      ∙ ap (λ x. each q x (λ k. ok k (getD ns k 0))) (sym l)

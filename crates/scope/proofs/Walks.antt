@@ -1,254 +1,158 @@
--- The numbers that a walk carries, operand by operand.
+-- A walk over a term, operand by operand: what is scanned, and what is left.
 use mathlib.Core.Path.{_≡_, refl, ap, sym, _∙_}
-use mathlib.Core.Bool.{Bool, true, false, cond, _||_}
-use lib.Dec.{eqb}
-use mathlib.Core.List.{List, [], _∷_, _++_, append-nil}
-use Prim.Native.Nat.{ℕ, suc, _+_, _≤_}
+use mathlib.Core.Bool.{Bool, true, false, cond}
+use mathlib.Core.List.{List, [], _∷_, _++_, append-assoc, append-nil}
+use Prim.Native.Nat.{ℕ, suc, _+_, _*_, _<_}
 use native.Mathlib.Omega.{arith}
+use lib.Dec.{eqb}
+use borrow.Author.Tests.{eq-eqb, ne-eqb}
+use types.Run.{OneOf}
+use denote.Enum.Declared.{tagOf}
+use lib.ListN.{length, getD, drop}
 use Rattle.calculus.specs.Terms.{first, second, Term, var, unit, lam, pair, inj, app, proj, case, protect, mu}
-use Rattle.rules.specs.Answer.{accepted, refused}
-use Rattle.rules.specs.Script.{counts}
-use Rattle.scope.specs.Walk.{scan, same, more}
+use Rattle.rules.specs.Answer.{Bytes, Answer, accepted, refused, each}
+use Rattle.rules.specs.Limits.{script-width}
+use Rattle.rules.specs.Script.{records, term, encode, size, counts}
+use Rattle.rules.proofs.Prefix.{joined}
+use Rattle.rules.proofs.PrefixLaws.{after-head, past-tree}
+use Rattle.rules.proofs.TermCode.{term-code, term-operands}
+use Rattle.rules.proofs.Counts.{counts-length}
+use Rattle.records.specs.Place.{At}
 use Rattle.records.specs.Binders.{binds}
-use Rattle.records.proofs.Stands.{op1, op2, op3, operands, kind-of}
-use Rattle.scope.proofs.Scans.{then, scan-yes, scan-no, scan-nothing, scan-append}
+use Rattle.records.proofs.Stands.{kind-of, operands, start-records}
+use Rattle.scope.specs.declared.Walked.{Walked}
+use Rattle.scope.specs.declared.Walked.the-variants.{Past}
+use Rattle.scope.specs.Stops.{walked, finished}
+use Rattle.scope.specs.Walk.{scan, passes, deeper, bound, increment}
+use Rattle.scope.proofs.Walked.{the-type}
+use Rattle.scope.proofs.Scans.{then, past-then, is-past, stopped-then, scan-yes, scan-no, scan-nothing, scan-append, scan-end, scan-each}
 
-module _ (f g : ℕ → ℕ) where
-  -- the number of the first operand, and of a later one
-  abbrev pub first-number : Term → ℕ → ℕ
-  first-number (var m) n = f n
-  first-number (unit k) n = f n
-  first-number (lam k i e) n = g n
-  first-number (pair k a b) n = f n
-  first-number (inj d k i e) n = f n
-  first-number (app w a b) n = f n
-  first-number (proj d w e) n = f n
-  first-number (case w i e a b) n = f n
-  first-number (protect m e) n = f n
-  first-number (mu i e) n = g n
+-- what question 18 picks, and what question 19 does
+pub at-18 : {A : Type 0} (q : ℕ) (a b : A) → q ≡ 18 → a ≡ cond (eqb q 18) a b
+at-18 q a b h = sym (ap (λ c. cond c a b) (eq-eqb q 18 h))
 
-  abbrev pub later-number : Term → ℕ → ℕ
-  later-number (var m) n = f n
-  later-number (unit k) n = f n
-  later-number (lam k i e) n = f n
-  later-number (pair k a b) n = f n
-  later-number (inj d k i e) n = f n
-  later-number (app w a b) n = f n
-  later-number (proj d w e) n = f n
-  later-number (case w i e a b) n = g n
-  later-number (protect m e) n = f n
-  later-number (mu i e) n = f n
+pub at-19 : {A : Type 0} (q : ℕ) (a b : A) → (q ≡ 18 → ⊥) → b ≡ cond (eqb q 18) a b
+at-19 q a b h = sym (ap (λ c. cond c a b) (ne-eqb q 18 h))
 
-  -- the numbers of the records after the first operand, and after the second
-  abbrev pub after-first : Term → ℕ → List ℕ
-  after-first (var m) n = []
-  after-first (unit k) n = []
-  after-first (lam k i e) n = []
-  after-first (pair k a b) n = counts f g (f n) b
-  after-first (inj d k i e) n = []
-  after-first (app w a b) n = counts f g (f n) b
-  after-first (proj d w e) n = []
-  after-first (case w i e a b) n = counts f g (g n) a ++ counts f g (g n) b
-  after-first (protect m e) n = []
-  after-first (mu i e) n = []
+-- the numbers of the records of `es`, the operands from the j-th on of a record of kind k and number n
+abbrev numbers : (q k n j : ℕ) → List Term → List ℕ
+numbers q k n j [] = []
+numbers q k n j (e ∷ es) = counts (deeper q) bound (n + increment q k j) e ++ numbers q k n (suc j) es
 
-  abbrev pub after-second : Term → ℕ → List ℕ
-  after-second (var m) n = []
-  after-second (unit k) n = []
-  after-second (lam k i e) n = []
-  after-second (pair k a b) n = []
-  after-second (inj d k i e) n = []
-  after-second (app w a b) n = []
-  after-second (proj d w e) n = []
-  after-second (case w i e a b) n = counts f g (g n) b
-  after-second (protect m e) n = []
-  after-second (mu i e) n = []
+-- no binder stands over the operand, or one does
+free : (b : Bool) (n : ℕ) → n + cond b 1 0 ≡ cond b (suc n) n
+free true n = omega arith
+free false n = omega arith
 
-  counts-leaf : (e : Term) (n : ℕ) → operands e ≡ 0 → counts f g n e ≡ n ∷ []
-  unfolding counts
-  counts-leaf (var m) n h = refl
-  counts-leaf (unit k) n h = refl
-  counts-leaf (lam k i e) n h = absurd (omega arith)
-  counts-leaf (pair k a b) n h = absurd (omega arith)
-  counts-leaf (inj d k i e) n h = absurd (omega arith)
-  counts-leaf (app w a b) n h = absurd (omega arith)
-  counts-leaf (proj d w e) n h = absurd (omega arith)
-  counts-leaf (case w i e a b) n h = absurd (omega arith)
-  counts-leaf (protect m e) n h = absurd (omega arith)
-  counts-leaf (mu i e) n h = absurd (omega arith)
+under : (b : Bool) (n : ℕ) → n + cond b 1 1 ≡ suc n
+under true n = omega arith
+under false n = omega arith
 
-  counts-first : (e : Term) (n : ℕ) → 1 ≤ operands e → counts f g n e ≡ n ∷ (counts f g (first-number e n) (op1 e) ++ after-first e n)
-  unfolding counts
-  counts-first (var m) n h = absurd (omega arith)
-  counts-first (unit k) n h = absurd (omega arith)
-  counts-first (lam k i e) n h = ap (λ l. n ∷ l) (sym (append-nil _))
-  counts-first (pair k a b) n h = refl
-  counts-first (inj d k i e) n h = ap (λ l. n ∷ l) (sym (append-nil _))
-  counts-first (app w a b) n h = refl
-  counts-first (proj d w e) n h = ap (λ l. n ∷ l) (sym (append-nil _))
-  counts-first (case w i e a b) n h = refl
-  counts-first (protect m e) n h = ap (λ l. n ∷ l) (sym (append-nil _))
-  counts-first (mu i e) n h = ap (λ l. n ∷ l) (sym (append-nil _))
+counts-are : (q n : ℕ) (e : Term) → counts (deeper q) bound n e ≡ n ∷ numbers q (kind-of e) n 0 (term-operands e)
+unfolding counts binds
+counts-are q n (var m) = refl
+counts-are q n (unit k) = refl
+counts-are q n (lam k i e) = rw (under (eqb q 18) n, append-nil)
+counts-are q n (pair k a b) = rw (free (eqb q 18) n, append-nil)
+counts-are q n (inj first k i e) = rw (free (eqb q 18) n, append-nil)
+counts-are q n (inj second k i e) = rw (free (eqb q 18) n, append-nil)
+counts-are q n (app w a b) = rw (free (eqb q 18) n, append-nil)
+counts-are q n (proj first w e) = rw (free (eqb q 18) n, append-nil)
+counts-are q n (proj second w e) = rw (free (eqb q 18) n, append-nil)
+counts-are q n (case w i e a b) = rw (free (eqb q 18) n, under (eqb q 18) n, append-nil)
+counts-are q n (protect m e) = rw (free (eqb q 18) n, append-nil)
+counts-are q n (mu i e) = rw (under (eqb q 18) n, append-nil)
 
-  counts-second : (e : Term) (n : ℕ) → 2 ≤ operands e → after-first e n ≡ counts f g (later-number e n) (op2 e) ++ after-second e n
-  counts-second (var m) n h = absurd (omega arith)
-  counts-second (unit k) n h = absurd (omega arith)
-  counts-second (lam k i e) n h = absurd (omega arith)
-  counts-second (pair k a b) n h = sym (append-nil _)
-  counts-second (inj d k i e) n h = absurd (omega arith)
-  counts-second (app w a b) n h = sym (append-nil _)
-  counts-second (proj d w e) n h = absurd (omega arith)
-  counts-second (case w i e a b) n h = refl
-  counts-second (protect m e) n h = absurd (omega arith)
-  counts-second (mu i e) n h = absurd (omega arith)
+-- the scan of the term u at record i, whose record has number n
+abbrev pub scanned : (q : ℕ) (s : Bytes) (i n : ℕ) (u : Term) → Answer ℕ
+scanned q s i n u = scan q (passes q s) i (counts (deeper q) bound n u)
 
-  counts-third : (e : Term) (n : ℕ) → 3 ≤ operands e → after-second e n ≡ counts f g (later-number e n) (op3 e)
-  counts-third (var m) n h = absurd (omega arith)
-  counts-third (unit k) n h = absurd (omega arith)
-  counts-third (lam k i e) n h = absurd (omega arith)
-  counts-third (pair k a b) n h = absurd (omega arith)
-  counts-third (inj d k i e) n h = absurd (omega arith)
-  counts-third (app w a b) n h = absurd (omega arith)
-  counts-third (proj d w e) n h = absurd (omega arith)
-  counts-third (case w i e a b) n h = refl
-  counts-third (protect m e) n h = absurd (omega arith)
-  counts-third (mu i e) n h = absurd (omega arith)
+-- the record itself is refused, or passes
+pub refuse : (q : ℕ) (s : Bytes) (i n : ℕ) (u : Term) → passes q s i n ≡ false → refused q i ≡ scanned q s i n u
+refuse q s i n u h = sym (ap (scan q (passes q s) i) (counts-are q n u) ∙ scan-no q (passes q s) i n _ h)
 
-  none-after-first : (e : Term) (n : ℕ) → operands e ≡ 1 → after-first e n ≡ []
-  none-after-first (var m) n h = refl
-  none-after-first (unit k) n h = refl
-  none-after-first (lam k i e) n h = refl
-  none-after-first (pair k a b) n h = absurd (omega arith)
-  none-after-first (inj d k i e) n h = refl
-  none-after-first (app w a b) n h = absurd (omega arith)
-  none-after-first (proj d w e) n h = refl
-  none-after-first (case w i e a b) n h = absurd (omega arith)
-  none-after-first (protect m e) n h = refl
-  none-after-first (mu i e) n h = refl
+-- the first j operands of u are scanned, and the next one stands at record `next`
+pub record Reached (q : ℕ) (s : Bytes) (i n : ℕ) (u : Term) (j next : ℕ) : Type 0 where
+  pub left : List Term
+  pub count : j + length left ≡ operands u
+  pub after : i < next
+  pub rest : Bytes
+  pub stands : drop (script-width * next) s ≡ joined encode left ++ rest
+  pub goes-on : scanned q s i n u ≡ scan q (passes q s) next (numbers q (kind-of u) n j left)
 
-  none-after-second : (e : Term) (n : ℕ) → operands e ≡ 2 → after-second e n ≡ []
-  none-after-second (var m) n h = refl
-  none-after-second (unit k) n h = refl
-  none-after-second (lam k i e) n h = refl
-  none-after-second (pair k a b) n h = refl
-  none-after-second (inj d k i e) n h = refl
-  none-after-second (app w a b) n h = refl
-  none-after-second (proj d w e) n h = refl
-  none-after-second (case w i e a b) n h = absurd (omega arith)
-  none-after-second (protect m e) n h = refl
-  none-after-second (mu i e) n h = refl
+pub reach : (q : ℕ) (s : Bytes) (i n : ℕ) (u : Term) → At s i u → passes q s i n ≡ true → Reached q s i n u 0 (i + 1)
+reach q s i n u w h =
+    let p : suc i ≡ i + 1 = omega arith in
+    let ns = numbers q (kind-of u) n 0 (term-operands u) in
+    record {
+      left = term-operands u;
+      count = omega arith;
+      after = omega arith;
+      rest = w .rest;
+      stands = ap (λ x. drop (script-width * x) s) (sym p) ∙ after-head term-code s i u (w .rest) (w .stands);
+      goes-on = ap (scan q (passes q s) i) (counts-are q n u) ∙ scan-yes q (passes q s) i n ns h ∙ ap (λ x. scan q (passes q s) x ns) p;
+    }
 
-  module _ (q : ℕ) (ok : ℕ → ℕ → Bool) where
-    -- the node itself is refused
-    pub refuse : (e : Term) (n j : ℕ) → ok j n ≡ false → scan q ok j (counts f g n e) ≡ refused q j
-    unfolding counts
-    refuse (var m) n j h = scan-no q ok j n _ h
-    refuse (unit k) n j h = scan-no q ok j n _ h
-    refuse (lam k i e) n j h = scan-no q ok j n _ h
-    refuse (pair k a b) n j h = scan-no q ok j n _ h
-    refuse (inj d k i e) n j h = scan-no q ok j n _ h
-    refuse (app w a b) n j h = scan-no q ok j n _ h
-    refuse (proj d w e) n j h = scan-no q ok j n _ h
-    refuse (case w i e a b) n j h = scan-no q ok j n _ h
-    refuse (protect m e) n j h = scan-no q ok j n _ h
-    refuse (mu i e) n j h = scan-no q ok j n _ h
+module _ {q : ℕ} {s : Bytes} {i n : ℕ} {u : Term} {j next : ℕ} (p : Reached q s i n u j next) where
+  -- an operand is left
+  pub record Ahead : Type 0 where
+    pub operand : Term
+    pub later : List Term
+    pub is : p .left ≡ operand ∷ later
 
-  module _ (q : ℕ) (ok : ℕ → ℕ → Bool) (e : Term) (n i : ℕ) (yes : ok i n ≡ true) where
-    -- the scan of a term, entered operand by operand; `m` is the number that the walk hands on
-    pub leaf : operands e ≡ 0 → scan q ok i (counts f g n e) ≡ accepted (i + 1)
-    leaf h =
-        let p : suc i ≡ i + 1 = omega arith in
-        ap (scan q ok i) (counts-leaf e n h) ∙ scan-yes q ok i n [] yes ∙ scan-nothing q ok (suc i) ∙ ap accepted p
+  pub ahead : j < operands u → Ahead
+  ahead h = some (p .left) refl (omega (arith, p .count))
+    where
+      some : (l : List Term) → p .left ≡ l → 0 < length l → Ahead
+      some [] is g = absurd (omega arith)
+      some (e ∷ l) is g = record { operand = e; later = l; is = is }
 
-    pub enter : (m : ℕ) → m ≡ first-number e n → 1 ≤ operands e
-        → scan q ok i (counts f g n e) ≡ then (scan q ok (i + 1) (counts f g m (op1 e))) (λ j. scan q ok j (after-first e n))
-    enter m em h =
-        let p : suc i ≡ i + 1 = omega arith in
-        ap (scan q ok i) (counts-first e n h) ∙ scan-yes q ok i n _ yes ∙ scan-append q ok (suc i) (counts f g (first-number e n) (op1 e))
-        (after-first e n)
-        ∙ ap (λ x. then (scan q ok x (counts f g (first-number e n) (op1 e))) (λ j. scan q ok j (after-first e n))) p
-        ∙ ap (λ x. then (scan q ok (i + 1) (counts f g x (op1 e))) (λ j. scan q ok j (after-first e n))) (sym em)
+  pub end : j ≡ operands u → accepted next ≡ scanned q s i n u
+  end h = none (p .left) refl (omega (arith, p .count))
+    where
+      none : (l : List Term) → p .left ≡ l → length l ≡ 0 → accepted next ≡ scanned q s i n u
+      none [] is g =
+          sym (p .goes-on ∙ ap (λ l. scan q (passes q s) next (numbers q (kind-of u) n j l)) is ∙ scan-nothing q (passes q s) next)
+      none (e ∷ l) is g = absurd (omega arith)
 
-  module _ (q : ℕ) (ok : ℕ → ℕ → Bool) (e : Term) (n j : ℕ) where
-    pub no-second : operands e ≡ 1 → scan q ok j (after-first e n) ≡ accepted j
-    no-second h = ap (scan q ok j) (none-after-first e n h) ∙ scan-nothing q ok j
+  module _ (a : Ahead) where
+    abbrev pub operand-at : At s next (a .operand)
+    operand-at =
+        record {
+          rest = joined encode (a .later) ++ p .rest;
+          stands = p .stands ∙ ap (λ l. joined encode l ++ p .rest) (a .is) ∙ append-assoc (encode (a .operand)) (joined encode (a .later)) (p .rest);
+        }
 
-    pub go-on : (m : ℕ) → m ≡ later-number e n → 2 ≤ operands e
-        → scan q ok j (after-first e n) ≡ then (scan q ok j (counts f g m (op2 e))) (λ k. scan q ok k (after-second e n))
-    go-on m em h =
-        ap (scan q ok j) (counts-second e n h) ∙ scan-append q ok j (counts f g (later-number e n) (op2 e)) (after-second e n)
-        ∙ ap (λ x. then (scan q ok j (counts f g x (op2 e))) (λ k. scan q ok k (after-second e n))) (sym em)
+    -- what the walk over that operand, whose number is m, says
+    module _ (m : ℕ) (m-is : m ≡ n + increment q (kind-of u) j) (x : Walked) (h : walked x ≡ scanned q s next m (a .operand)) where
+      onward : scanned q s i n u ≡ then (scanned q s next m (a .operand)) (λ k. scan q (passes q s) k (numbers q (kind-of u) n (suc j) (a .later)))
+      onward =
+          p .goes-on ∙ ap (λ l. scan q (passes q s) next (numbers q (kind-of u) n j l)) (a .is)
+          ∙ scan-append q (passes q s) next (counts (deeper q) bound (n + increment q (kind-of u) j) (a .operand)) (numbers q (kind-of u) n (suc j) (a .later))
+          ∙ ap (λ y. then (scanned q s next y (a .operand)) (λ k. scan q (passes q s) k (numbers q (kind-of u) n (suc j) (a .later)))) (sym m-is)
 
-    pub no-third : operands e ≡ 2 → scan q ok j (after-second e n) ≡ accepted j
-    no-third h = ap (scan q ok j) (none-after-second e n h) ∙ scan-nothing q ok j
+      pub stop : OneOf (1 ∷ []) (tagOf the-type x) → walked x ≡ scanned q s i n u
+      stop t = stopped-then x _ _ t h ∙ sym onward
 
-    pub last : (m : ℕ) → m ≡ later-number e n → 3 ≤ operands e → scan q ok j (after-second e n) ≡ scan q ok j (counts f g m (op3 e))
-    last m em h = ap (scan q ok j) (counts-third e n h) ∙ ap (λ x. scan q ok j (counts f g x (op3 e))) (sym em)
+      pub pass : (k : ℕ) → x ≡ Past k → Reached q s i n u (j + 1) k
+      pass k past =
+          let e : scanned q s next m (a .operand) ≡ accepted k = is-past x _ k past h in
+          let z : next + size (a .operand) ≡ k =
+          omega (arith, scan-end q (passes q s) next k _ e, counts-length (deeper q) bound m (a .operand)) in
+          let w : suc j ≡ j + 1 = omega arith in
+          record {
+            left = a .later;
+            count = omega (arith, p .count, ap length (a .is));
+            after = omega (arith, p .after);
+            rest = p .rest;
+            stands =
+                ap (λ y. drop (script-width * y) s) (sym z) ∙ past-tree term-code s next (a .operand) _ (operand-at .stands);
+            goes-on =
+                onward ∙ past-then _ k (λ k. scan q (passes q s) k (numbers q (kind-of u) n (suc j) (a .later))) e
+                ∙ ap (λ y. scan q (passes q s) k (numbers q (kind-of u) n y (a .later))) w;
+          }
 
--- one level deeper
-pub deeper-first : (e : Term) (n : ℕ) → n + 1 ≡ first-number more more e n
-deeper-first (var m) n = omega arith
-deeper-first (unit k) n = omega arith
-deeper-first (lam k i e) n = omega arith
-deeper-first (pair k a b) n = omega arith
-deeper-first (inj d k i e) n = omega arith
-deeper-first (app w a b) n = omega arith
-deeper-first (proj d w e) n = omega arith
-deeper-first (case w i e a b) n = omega arith
-deeper-first (protect m e) n = omega arith
-deeper-first (mu i e) n = omega arith
-
-pub deeper-later : (e : Term) (n : ℕ) → n + 1 ≡ later-number more more e n
-deeper-later (var m) n = omega arith
-deeper-later (unit k) n = omega arith
-deeper-later (lam k i e) n = omega arith
-deeper-later (pair k a b) n = omega arith
-deeper-later (inj d k i e) n = omega arith
-deeper-later (app w a b) n = omega arith
-deeper-later (proj d w e) n = omega arith
-deeper-later (case w i e a b) n = omega arith
-deeper-later (protect m e) n = omega arith
-deeper-later (mu i e) n = omega arith
-
--- under a kind's binders
-pub bound-first : (e : Term) (n : ℕ) → n + binds (kind-of e) 0 ≡ first-number same more e n
-unfolding binds
-bound-first (var m) n = omega arith
-bound-first (unit k) n = omega arith
-bound-first (lam k i e) n = omega arith
-bound-first (pair k a b) n = omega arith
-bound-first (inj first k i e) n = omega arith
-bound-first (inj second k i e) n = omega arith
-bound-first (app w a b) n = omega arith
-bound-first (proj first w e) n = omega arith
-bound-first (proj second w e) n = omega arith
-bound-first (case w i e a b) n = omega arith
-bound-first (protect m e) n = omega arith
-bound-first (mu i e) n = omega arith
-
-pub bound-later : (e : Term) (n : ℕ) → n + binds (kind-of e) 1 ≡ later-number same more e n
-unfolding binds
-bound-later (var m) n = omega arith
-bound-later (unit k) n = omega arith
-bound-later (lam k i e) n = omega arith
-bound-later (pair k a b) n = omega arith
-bound-later (inj first k i e) n = omega arith
-bound-later (inj second k i e) n = omega arith
-bound-later (app w a b) n = omega arith
-bound-later (proj first w e) n = omega arith
-bound-later (proj second w e) n = omega arith
-bound-later (case w i e a b) n = omega arith
-bound-later (protect m e) n = omega arith
-bound-later (mu i e) n = omega arith
-
-pub at-most-three : (e : Term) → operands e ≤ 3
-at-most-three (var m) = omega arith
-at-most-three (unit k) = omega arith
-at-most-three (lam k i e) = omega arith
-at-most-three (pair k a b) = omega arith
-at-most-three (inj d k i e) = omega arith
-at-most-three (app w a b) = omega arith
-at-most-three (proj d w e) = omega arith
-at-most-three (case w i e a b) = omega arith
-at-most-three (protect m e) = omega arith
-at-most-three (mu i e) = omega arith
+-- a walk over the whole script asks each record
+pub whole : (q : ℕ) (s : Bytes) (n : ℕ) (x : Walked) → encode (term s) ≡ s → walked x ≡ scanned q s 0 n (term s)
+    → finished x ≡ each q (records s) (λ k. passes q s k (getD (counts (deeper q) bound n (term s)) k 0))
+whole q s n x h w = scan-each q (passes q s) x _ (records s) w (start-records s h ∙ sym (counts-length (deeper q) bound n (term s)))

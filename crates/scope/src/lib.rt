@@ -6,12 +6,11 @@ ghost use Prim.Native.Nat.{_+_, _*_, _≤_};
 ghost use lib.ListN.{length};
 ghost use Rattle.calculus.specs.Terms.{Term};
 ghost use Rattle.rules.specs.Limits.{script-width};
-ghost use Rattle.rules.specs.Script.{encode, term, counts};
-ghost use Rattle.rules.specs.Script.{q18, q19};
+ghost use Rattle.rules.specs.Script.{encode, term, counts, q18, q19};
 ghost use Rattle.answer.specs.Said.{said};
 ghost use Rattle.records.specs.Place.{At, Here};
 ghost use Rattle.scope.specs.Stops.{walked, finished};
-ghost use Rattle.scope.specs.Walk.{scan, shallow, in-scope, same, more};
+ghost use Rattle.scope.specs.Walk.{scan, passes, deeper, bound, increment};
 
 pub const DEPTH_LIMIT: usize = 256;
 
@@ -31,33 +30,54 @@ fn answered(w: Walked) -> Checked
     }
 }
 
-// Question 18 of the term at record i, whose record has this depth. No call is deeper than the first record that it refuses.
-fn depth_walk(script: &[u8], i: usize, depth: usize) -> Walked
-    requires { ⌜ Here (now script) i ⌝ }
-    ensures { λ a. ⌜ ((e : Term) → At (now (script .entry)) i e → walked a ≡ scan 18 shallow i (counts more more depth e)) ⌝ }
+// Question 18 of a record at depth n, or question 19 of record i under n binders.
+fn passes(script: &[u8], question: u8, i: usize, n: usize) -> bool
+    requires { ⌜ script-width * i + 6 ≤ length (now script) ⌝ }
+    ensures { λ a. ⌜ a ≡ passes question (now (script .entry)) i n ⌝ }
 {
-    if DEPTH_LIMIT < depth {
-        return Walked::Stopped(18, i);
+    if question == 18 {
+        return n <= DEPTH_LIMIT;
     }
-    let n = records::arity(records::kind(script, i));
-    if n == 0 {
-        return Walked::Past(i + 1);
+    answer::below_if(
+        records::kind(script, i) == records::VARIABLE,
+        records::index(records::number(script, i)),
+        n,
+    )
+}
+
+// By how much the number of operand j, counted from 0, exceeds that of its record, which has this kind.
+fn increment(question: u8, kind: u8, j: usize) -> usize
+    ensures { λ a. ⌜ (a ≡ increment question kind j) × (a ≤ 1) ⌝ }
+{
+    if question == 18 {
+        return 1;
     }
-    let a = depth_walk(script, i + 1, depth + 1);
-    let Walked::Past(second) = a else {
-        return a;
-    };
-    if n == 1 {
-        return a;
+    records::binders(kind, j)
+}
+
+// Question 18 or 19 of the term at record i, in script order: n is the record's depth or its count of binders. No call is deeper
+// than the first record that is refused, and question 18 bounds the calls of question 19.
+fn walk(script: &[u8], question: u8, i: usize, n: usize) -> Walked
+    requires { ⌜ Here (now script) i × (n ≤ i + 1) ⌝ }
+    ensures { λ a. ⌜ ((e : Term) → At (now (script .entry)) i e
+        → walked a ≡ scan question (passes question (now (script .entry))) i (counts (deeper question) bound n e)) ⌝ }
+{
+    if !passes(script, question, i, n) {
+        return Walked::Stopped(question, i);
     }
-    let b = depth_walk(script, second, depth + 1);
-    let Walked::Past(third) = b else {
-        return b;
-    };
-    if n == 2 {
-        return b;
+    let k = records::kind(script, i);
+    let arity = records::arity(k);
+    let mut next = i + 1;
+    let mut j: usize = 0;
+    while j < arity {
+        let a = walk(script, question, next, n + increment(question, k, j));
+        let Walked::Past(end) = a else {
+            return a;
+        };
+        next = end;
+        j += 1;
     }
-    depth_walk(script, third, depth + 1)
+    Walked::Past(next)
 }
 
 // 18. Depth at most 256?
@@ -65,50 +85,7 @@ pub fn question_18(script: &[u8]) -> Checked
     requires { ⌜ encode (term (now script)) ≡ now script ⌝ }
     ensures { λ a. ⌜ said a ≡ q18 (now (script .entry)) ⌝ }
 {
-    answered(depth_walk(script, 0, 1))
-}
-
-// Is record i no variable, or one whose number is below this count of binders?
-fn bound_below(script: &[u8], i: usize, binders: usize) -> bool
-    requires { ⌜ script-width * i + 6 ≤ length (now script) ⌝ }
-    ensures { λ a. ⌜ a ≡ in-scope (now (script .entry)) i binders ⌝ }
-{
-    answer::below_if(
-        records::kind(script, i) == 0,
-        records::index(records::number(script, i)),
-        binders,
-    )
-}
-
-// Question 19 of the term at record i, under this count of binders. Question 18 bounds the depth of its calls.
-fn scope_walk(script: &[u8], i: usize, binders: usize) -> Walked
-    requires { ⌜ Here (now script) i × (binders ≤ i) ⌝ }
-    ensures { λ a. ⌜ ((e : Term) → At (now (script .entry)) i e
-        → walked a ≡ scan 19 (in-scope (now (script .entry))) i (counts same more binders e)) ⌝ }
-{
-    if !bound_below(script, i, binders) {
-        return Walked::Stopped(19, i);
-    }
-    let k = records::kind(script, i);
-    let n = records::arity(k);
-    if n == 0 {
-        return Walked::Past(i + 1);
-    }
-    let a = scope_walk(script, i + 1, binders + records::binders(k, 0));
-    let Walked::Past(second) = a else {
-        return a;
-    };
-    if n == 1 {
-        return a;
-    }
-    let b = scope_walk(script, second, binders + records::binders(k, 1));
-    let Walked::Past(third) = b else {
-        return b;
-    };
-    if n == 2 {
-        return b;
-    }
-    scope_walk(script, third, binders + records::binders(k, 1))
+    answered(walk(script, 18, 0, 1))
 }
 
 // 19. Variable's number below its count of binders?
@@ -116,5 +93,5 @@ pub fn question_19(script: &[u8]) -> Checked
     requires { ⌜ encode (term (now script)) ≡ now script ⌝ }
     ensures { λ a. ⌜ said a ≡ q19 (now (script .entry)) ⌝ }
 {
-    answered(scope_walk(script, 0, 0))
+    answered(walk(script, 19, 0, 0))
 }
