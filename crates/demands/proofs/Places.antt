@@ -1,7 +1,7 @@
 -- Typing refuses with a question from 20 to 24, at a record of the script.
 use mathlib.Core.Path.{_≡_}
 use mathlib.Core.Bool.{Bool, true, false}
-use mathlib.Core.List.{List, [], _∷_}
+use mathlib.Core.List.{List, _∷_}
 use Prim.Native.Nat.{ℕ, _+_, _≤_, _<_}
 use native.Mathlib.Omega.{arith}
 use Rattle.calculus.specs.Security.{Property, Reader, Security}

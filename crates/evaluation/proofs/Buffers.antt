@@ -1,7 +1,7 @@
 -- Zeros to the end of a buffer, and a script copied to its front.
 use mathlib.Core.Path.{_≡_, sym, ap, _∙_}
 use mathlib.Core.Path.{subst as transport}
-use mathlib.Core.List.{[], _++_}
+use mathlib.Core.List.{_++_}
 use Prim.Native.Nat.{ℕ, _+_, _-_, _*_, _≤_}
 use native.Mathlib.Omega.{arith}
 use lib.ListN.{length, take, drop}

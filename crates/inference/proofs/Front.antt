@@ -10,8 +10,7 @@ use Rattle.calculus.specs.Types.{Ty, one, node, sizeT, raiseT}
 use Rattle.rules.specs.Answer.{Bytes}
 use Rattle.rules.specs.Types.{encode-type}
 use Rattle.rules.specs.Typing.{left, right}
-use Rattle.types.specs.Held.{Held, Starts, kind-of, left-of, right-of}
-use Rattle.inference.specs.Memory.{Slot, Sized}
+use Rattle.types.specs.Held.{Held, kind-of, left-of, right-of}
 use Rattle.types.proofs.Parts.{type-length, right-held, same-type}
 
 pub sides-size : (t : Ty) → (kind-of t ≡ 0 → ⊥) → sizeT t ≡ 1 + (sizeT (left-of t) + sizeT (right-of t))
@@ -56,12 +55,6 @@ pub size-raised : (S : Security) (t : Ty) (m : ℕ) → sizeT (raiseT S t m) ≡
 unfolding sizeT
 size-raised S (one k) m = refl
 size-raised S (node c k a b) m = refl
-
-pub slot-starts : {l : Bytes} {t : Ty} → Slot l t → Starts l
-slot-starts {l} {t} s = record { type = t; held = s .held }
-
-pub sized-slot : {l : Bytes} {n : ℕ} {t : Ty} → Sized l n t → Slot l t
-sized-slot s = record { held = s .held; small = s .small }
 
 -- two types in front of one list
 pub two-of : {l : Bytes} {u t : Ty} → Held l u → (kind-of u ≡ 0 → ⊥) → Held l t → kind-of t ≡ 0 → ⊥

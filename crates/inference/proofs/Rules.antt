@@ -1,6 +1,6 @@
 -- What the rule functions ask, and what they leave in the work buffer.
 use mathlib.Core.Path.{_≡_, refl, sym, ap, _∙_, subst}
-use mathlib.Core.Bool.{Bool, true, false, cond}
+use mathlib.Core.Bool.{Bool, true, false}
 use mathlib.Core.List.{List, [], _∷_, _++_}
 use Prim.Native.Nat.{ℕ, _+_, _*_, _≤_, _<_}
 use native.Mathlib.Omega.{arith}
@@ -15,10 +15,6 @@ use Rattle.rules.specs.Answer.{Bytes, Answer, accepted, refused, _>>_, ask}
 use Rattle.rules.specs.Types.{former-kind, encode-type}
 use Rattle.rules.specs.Typing.{has-form, left, right, q21, q24}
 use Rattle.types.specs.Held.{kind-of}
-use Rattle.subtyping.specs.Compared.{compared}
-use Rattle.subtyping.specs.declared.Compared.{Compared}
-use Rattle.subtyping.specs.declared.Compared.the-variants.{Related, Unrelated}
-use Rattle.subtyping.proofs.Compared.{the-type as compared-type}
 use Rattle.memory.specs.Splice.{splice}
 use Rattle.memory.proofs.Laws.{join-before, join-after}
 use Rattle.calculus.specs.Terms.{Term}

@@ -1,6 +1,6 @@
 -- The work buffer: the found type in front, the binders' types in slots at the high end, the nearest binder's lowest.
 use mathlib.Core.Path.{_≡_}
-use mathlib.Core.List.{List, []}
+use mathlib.Core.List.{List}
 use Prim.Native.Nat.{ℕ, _+_, _-_, _*_, _≤_, _<_}
 use lib.ListN.{length, drop, getD}
 use Rattle.calculus.specs.Types.{Ty, sizeT, type-limit}

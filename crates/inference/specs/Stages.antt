@@ -1,20 +1,18 @@
 -- The rules of `typing`, taken apart at the operands: what is asked before, between and after them.
 use mathlib.Core.Path.{_≡_}
-use mathlib.Core.Bool.{Bool, true, false, cond}
-use mathlib.Core.List.{List, [], _∷_}
+use mathlib.Core.Bool.{Bool, true, false}
+use mathlib.Core.List.{List, _∷_}
 use Prim.Native.Nat.{ℕ, _+_, _*_, _≤_}
 use lib.ListN.{length, getD, drop}
-use lib.Dec.{eqb}
 use Rattle.calculus.specs.Security.{Property, Security}
 use Rattle.calculus.specs.Types.{Former, sum, product, function, Ty, one, node, top, raiseT}
 use Rattle.calculus.specs.Terms.{first, second, Term, var, unit, lam, pair, inj, app, proj, case, protect, mu}
 use Rattle.rules.specs.Answer.{Bytes, Answer, accepted, refused, _>>=_, _>>_}
-use Rattle.rules.specs.Limits.{type-width, script-width, answer-length}
+use Rattle.rules.specs.Limits.{type-width, answer-length}
 use Rattle.rules.specs.Types.{no-type}
-use Rattle.rules.specs.Script.{encode, size}
+use Rattle.rules.specs.Script.{encode}
 use Rattle.rules.specs.Groups.{readers}
 use Rattle.rules.specs.Typing.{left, right, q20, q21, q22, q23, q24}
-use Rattle.records.specs.Place.{At}
 use Rattle.inference.specs.Operands.{operand-count, Formed}
 use Rattle.inference.specs.Memory.{high, Sized, Holds, Table, Entered, Beside}
 use Rattle.inference.specs.declared.Found.{Found}

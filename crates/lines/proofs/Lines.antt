@@ -1,14 +1,14 @@
 -- The lines of the report, from their numbers, and how long they can be.
 use mathlib.Core.Path.{_≡_, refl, sym, ap, subst, _∙_}
 use mathlib.Core.List.{[], _∷_, _++_}
-use Prim.Native.Nat.{ℕ, zero, suc, _+_, _*_, _/_, _≤_, _<_}
+use Prim.Native.Nat.{ℕ, _+_, _*_, _/_, _≤_, _<_}
 use native.Mathlib.Omega.{arith}
 use lib.ListN.{length, getD, drop, length-append, length-drop}
 use lib.Seq.{drop-drop, getD-drop}
 use Rattle.rules.specs.Answer.{Bytes}
 use Rattle.rules.specs.Script.{size}
 use Rattle.rules.specs.Run.{Ran}
-use Rattle.rules.specs.Report.{text, word, refusal-line, accepted-line, run-line, sheet-lines}
+use Rattle.rules.specs.Report.{text, refusal-line, accepted-line, run-line, sheet-lines}
 use Rattle.text.specs.Written.{Written}
 use Rattle.lines.specs.Lines.{run-words, sheet-line}
 use Rattle.text.proofs.Digits.{decimal-length}

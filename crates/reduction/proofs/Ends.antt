@@ -1,5 +1,5 @@
 -- How a step ends, from what the search and the count say; and a step's answer to the questions.
-use mathlib.Core.Path.{_≡_, refl, sym, ap, _∙_}
+use mathlib.Core.Path.{_≡_, refl, ap}
 use mathlib.Core.Path.{subst as transport}
 use mathlib.Core.Bool.{true, false}
 use mathlib.Core.List.{List, [], _∷_}

@@ -108,10 +108,6 @@ module _ {T : Type 0} {S : Shape T} {C : Code S} (X : Prefix C) where
   unfolding Round
   round-trip = S .induction Round round-node
 
-  pub round-trips : (es : List T) (s : Bytes) → X .parse (joined (C .encode) es ++ s) ≡ es ++ X .parse s
-  unfolding Round
-  round-trips es = rounds es (all-of Round round-trip es)
-
   -- A list of bytes starts with at most one tree's.
   heads-equal : {a b : T} {xs ys : List T} → a ∷ xs ≡ b ∷ ys → a ≡ b
   heads-equal e = cc
@@ -165,11 +161,6 @@ module _ {T : Type 0} {S : Shape T} {C : Code S} (X : Prefix C) where
       → end-after (ops s) (S .size e + left) (suc need) i ≡ end-after (ops s) left need (i + S .size e)
   unfolding Over
   over = S .induction Over over-node
-
-  pub over-trees : (es : List T) (s : Bytes) (i left need : ℕ) (rest : Bytes) → drop (C .width * i) s ≡ joined (C .encode) es ++ rest
-      → end-after (ops s) (total (S .size) es + left) (length es + need) i ≡ end-after (ops s) left need (i + total (S .size) es)
-  unfolding Over
-  over-trees es = overs es (all-of Over over es)
 
   -- A tree at record i ends size e records on, however many records follow it.
   pub tree-end : (e : T) (s : Bytes) (i left : ℕ) (rest : Bytes) → S .size e ≤ left → drop (C .width * i) s ≡ C .encode e ++ rest

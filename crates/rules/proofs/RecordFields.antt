@@ -6,7 +6,7 @@ use native.Mathlib.Omega.{arith}
 use lib.ListN.{getD}
 use Rattle.rules.specs.Answer.{Bytes}
 use Rattle.rules.specs.Limits.{script-width, type-width}
-use Rattle.rules.specs.Types.{type-kind, type-r, type-ir, type-zero, ok9, ok10}
+use Rattle.rules.specs.Types.{type-kind, type-r, type-ir, type-zero, ok10}
 use Rattle.rules.specs.Script.{kind, r, ir, zero-byte, number, ok14, ok15, ok16, ok19}
 use Rattle.rules.proofs.Prefix.{record-at}
 use Rattle.rules.proofs.Parts.{record-byte, record-first}
@@ -23,10 +23,6 @@ module _ (t : Bytes) (i : ℕ) where
 
   pub type-zero-is : type-zero (record-at type-width t i) 0 ≡ type-zero t i
   type-zero-is = record-byte 4 t i 3 (omega arith)
-
-  pub ok9-record : (n : ℕ) → ok9 n (record-at type-width t i) 0 ≡ ok9 n t i
-  unfolding ok9
-  ok9-record n = rw (type-kind-is, type-zero-is, type-r-is, type-ir-is)
 
   pub ok10-record : (g : Bytes) → ok10 g (record-at type-width t i) 0 ≡ ok10 g t i
   unfolding ok10

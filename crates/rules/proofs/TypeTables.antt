@@ -6,14 +6,14 @@ use mathlib.Core.Option.{Option, none, some}
 use Prim.Native.Nat.{ℕ, zero, suc, _+_, _*_, _-_, _%_, _≤_, _<_}
 use native.Mathlib.Omega.{arith}
 use native.Mathlib.Decide.{decLt}
-use borrow.Author.Tests.{eqb-true, leb-true, ltb-true}
+use borrow.Author.Tests.{eqb-true, leb-true}
 use lib.Dec.{eqb, leb}
 use lib.ListN.{length, drop, drop-of-length-le}
 use Rattle.calculus.specs.Types.{Ty, sizeT, type-limit}
 use Rattle.rules.specs.Answer.{Bytes, accepted, is-none}
 use Rattle.rules.specs.Limits.{type-width}
 use Rattle.rules.specs.Groups.{rows}
-use Rattle.rules.specs.Types.{type-count, type-kind, type-r, type-ir, type-zero, sides, encode-type, type-at, type-end, pending, short, ok9, ok11, ok12, q8, q9, q11, q12}
+use Rattle.rules.specs.Types.{type-count, type-kind, type-zero, sides, encode-type, type-at, type-end, pending, short, ok9, ok11, ok12, q8, q9, q11, q12}
 use Rattle.rules.proofs.Search.{each-all}
 use Rattle.rules.proofs.Asked.{ask-true}
 use Rattle.rules.proofs.Prefix.{All, joined, total}
@@ -40,24 +40,16 @@ pub record Passes (t : Bytes) : Type 0 where
   pub ends : (i : ℕ) → i < type-count t → ok11 t i ≡ true
 
 -- question 9 of one record
-pub record Fields9 (n : ℕ) (t : Bytes) (i : ℕ) : Type 0 where
+pub record Fields9 (t : Bytes) (i : ℕ) : Type 0 where
   pub known : type-kind t i ≤ 3
   pub unnamed : type-zero t i ≡ 0
-  pub r-in : type-r t i < n
-  pub ir-in : type-ir t i < n
 
-pub fields9 : (n : ℕ) (t : Bytes) (i : ℕ) → ok9 n t i ≡ true → Fields9 n t i
+pub fields9 : (n : ℕ) (t : Bytes) (i : ℕ) → ok9 n t i ≡ true → Fields9 t i
 unfolding ok9
 fields9 n t i h =
     let a = and-eq-true-iff _ _ .0 h in
     let b = and-eq-true-iff _ _ .0 (a .1) in
-    let c = and-eq-true-iff _ _ .0 (b .1) in
-    record {
-      known = leb-true (type-kind t i) 3 (a .0);
-      unnamed = eqb-true (type-zero t i) 0 (b .0);
-      r-in = ltb-true (type-r t i) n (c .0);
-      ir-in = ltb-true (type-ir t i) n (c .1);
-    }
+    record { known = leb-true (type-kind t i) 3 (a .0); unnamed = eqb-true (type-zero t i) 0 (b .0) }
 
 pub passes : (g t : Bytes) → q8 t ≡ accepted tt → q9 g t ≡ accepted tt → q11 t ≡ accepted tt → Passes t
 passes g t q8-yes q9-yes q11-yes =

@@ -6,12 +6,12 @@ use Prim.Native.Nat.{ℕ, zero, suc, _+_, _*_, _-_, _≤_, _<_}
 use native.Mathlib.Omega.{arith}
 use native.Mathlib.Nat.{mul-le-mul-left}
 use lib.ListN.{length, take, drop, length-drop, take-append-drop}
-use lib.Seq.{length-take-le, drop-drop, take-at}
+use lib.Seq.{length-take-le, drop-drop}
 use Rattle.rules.specs.Answer.{Bytes}
 use Rattle.rules.specs.Types.{end-after}
 use Rattle.rules.proofs.Prefix.{joined, total, Shape, Code, Prefix, record-at}
 use Rattle.rules.proofs.Parts.{joined-append, total-append, record-first}
-use Rattle.rules.proofs.PrefixLaws.{ops, joined-length}
+use Rattle.rules.proofs.PrefixLaws.{ops}
 
 -- the count ends within the records that are left
 pub end-bound : (f : ℕ → ℕ) (left need i e : ℕ) → end-after f left need i ≡ some e → e ≤ i + left
@@ -83,12 +83,6 @@ module _ {T : Type 0} {S : Shape T} {C : Code S} (X : Prefix C) (s : Bytes) wher
   way-back (suc left) (suc need) i e l h good =
       in-front i e need (omega (arith, mul-le-mul-left {m = suc i} {n = i + suc left} (C .width) (omega arith))) (λ p. good i (omega arith) p)
       (way-back left (need + ops X s i) (suc i) e (omega arith) h (λ j a b. good j (omega arith) b))
-
-  pub trees-slice : (need i e : ℕ) (ts : Trees C s need i e) → take (C .width * (e - i)) (drop (C .width * i) s) ≡ joined (C .encode) (ts .trees)
-  trees-slice need i e ts =
-      ap (take (C .width * (e - i))) (ts .bytes)
-      ∙ take-at (joined (C .encode) (ts .trees)) (drop (C .width * e) s) (C .width * (e - i))
-      (joined-length C (ts .trees) ∙ ap (λ n. C .width * n) (omega (arith, ts .end)))
 
 -- one tree, from record i to record e
 pub record Tree {T : Type 0} {S : Shape T} (C : Code S) (s : Bytes) (i e : ℕ) : Type 0 where

@@ -2,7 +2,7 @@
 -- "Typing goes operands first, left to right; 20, 21 and 22 come as soon as the operand concerned has its type, 23 before the
 -- body, 24 last. The place is the node."
 use mathlib.Core.Bool.{Bool, false}
-use mathlib.Core.List.{List, [], _∷_}
+use mathlib.Core.List.{List, _∷_}
 use Prim.Native.Nat.{ℕ, _+_}
 use lib.ListN.{getD}
 use Rattle.calculus.specs.Security.{Reader, Security}

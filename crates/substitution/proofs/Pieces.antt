@@ -1,6 +1,6 @@
 -- Three pieces written one after the other.
 use mathlib.Core.Path.{_≡_, refl, ap, _∙_}
-use mathlib.Core.List.{[], _++_, append-assoc}
+use mathlib.Core.List.{_++_, append-assoc}
 use Prim.Native.Nat.{ℕ, _+_, _≤_}
 use native.Mathlib.Omega.{arith}
 use lib.ListN.{length, take, drop, length-append}

@@ -5,7 +5,7 @@ use mathlib.Core.Option.{some}
 use Prim.Native.Nat.{ℕ, _*_, _-_}
 use native.Mathlib.Omega.{arith}
 use lib.ListN.{take, drop}
-use Rattle.rules.specs.Answer.{Bytes, Answer, accepted, _>>_}
+use Rattle.rules.specs.Answer.{Bytes, Answer, _>>_}
 use Rattle.rules.specs.Script.{part-if, slice, q13}
 use Rattle.rules.specs.Calls.{types-check, script-check}
 use Rattle.answer.specs.declared.Checked.{Checked}

@@ -1,6 +1,5 @@
 -- The questions of a script, in order.
-use mathlib.Core.List.{List, []}
-use Prim.Native.Nat.{ℕ}
+use mathlib.Core.List.{[]}
 use Rattle.rules.specs.Answer.{Bytes, Answer, first-from, _>>_}
 use Rattle.rules.specs.Script.{ok14, ok15, ok16, term-end, ok18, ok19, counts, term, q13, q14, q15, q16, q17, q18, q19}
 

@@ -13,7 +13,7 @@ use Rattle.rules.specs.Groups.{readers}
 use Rattle.rules.specs.Types.{type-at}
 use Rattle.rules.specs.Script.{term}
 use Rattle.rules.specs.Typing.{typing}
-use Rattle.rules.specs.Calls.{zeros, script-check, q1, checking, type-records, answer-after, work-after}
+use Rattle.rules.specs.Calls.{zeros, script-check, checking, type-records, answer-after, work-after}
 use Rattle.demands.proofs.FirstDemand.{first-demand, script-below}
 use Rattle.answer.specs.Said.{said}
 use Rattle.answer.specs.declared.Checked.{Checked}

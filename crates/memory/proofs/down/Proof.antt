@@ -7,8 +7,6 @@ use lib.Seq.{paste, paste-zero}
 use Rattle.memory.proofs.Turns.{paste-splice, down-step}
 use Rattle.memory.proofs.down.Statement.{statement}
 use Rattle.memory.proofs.down.Tie as tie
-use Rattle.memory.proofs.down.Reads as reads
-use Rattle.memory.proofs.down.Lts as lts
 
 abbrev Inv-loop : tie.InvT-loop
 Inv-loop w₀ from to n i₀ w i = (i ≤ n) × (length w ≡ length w₀) × (w ≡ paste w₀ to (drop from w₀) i)

@@ -6,8 +6,6 @@ use lib.ListN.{length, length-set}
 use Rattle.memory.proofs.Turns.{risen, risen-start, risen-end, up-step}
 use Rattle.memory.proofs.up.Statement.{statement}
 use Rattle.memory.proofs.up.Tie as tie
-use Rattle.memory.proofs.up.Reads as reads
-use Rattle.memory.proofs.up.Lts as lts
 
 abbrev Inv-loop : tie.InvT-loop
 Inv-loop w₀ from to n i₀ w i = (i ≤ n) × (length w ≡ length w₀) × (w ≡ risen w₀ from to n i)

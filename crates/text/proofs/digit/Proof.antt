@@ -4,8 +4,6 @@ use Rattle.text.proofs.Placed.{put-one}
 use borrow.Author.Needs.{needs}
 use Rattle.text.proofs.digit.Statement.{statement}
 use Rattle.text.proofs.digit.Tie as tie
-use Rattle.text.proofs.digit.Reads as reads
-use Rattle.text.proofs.digit.Lts as lts
 
 -- src/lib.rt:35:21
 cast-out : tie.Need-cast-out
