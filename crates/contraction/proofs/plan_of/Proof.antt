@@ -1,85 +1,138 @@
 -- `contraction::plan_of` meets its contract: the kinds of two records tell the left side and where its parts stand.
 use mathlib.Core.Path.{_≡_, sym, _∙_}
-use Prim.Native.Nat.{_+_}
+use Prim.Native.Nat.{_+_, _*_, _≤_}
 use native.Mathlib.Omega.{arith}
+use lib.ListN.{length}
+use Rattle.rules.specs.Answer.{Bytes}
 use Rattle.rules.specs.Script.{size}
 use Rattle.records.specs.Place.{At}
 use Rattle.records.proofs.Stands.{kind-of, op1, room-one, stands-kind, here}
 use Rattle.contraction.specs.Plans.{Fires}
-use Rattle.contraction.proofs.Redexes.{taken-at, inner-at, plan-unrolled, plan-raised, plan-first, plan-second, plan-applied, Cased, cased}
+use Rattle.contraction.proofs.Redexes.{taken-at, inner-at, plan-unrolled, plan-raised, plan-first, plan-second, plan-applied}
+use Rattle.contraction.proofs.Redexes.{Cased, cased}
 use Rattle.contraction.proofs.plan_of.Statement.{statement}
 use Rattle.contraction.proofs.plan_of.Tie as tie
 
+abbrev P : tie.Start → Bytes
+P s = s .args .script .now
+
 abbrev F : tie.Start → Type 0
-F s = Fires (s .args .script .now) (s .args .at)
+F s = Fires (P s) (s .args .at)
 
-own-kind : (c : tie.After-kind) (q : F (c .before .before)) → c .kind .result ≡ kind-of (q .tree)
-own-kind c q = c .kind .ensures ∙ stands-kind (c .before .before .args .script .now) (c .before .before .args .at) (q .tree) (q .stands)
+-- the record's kind is known
+abbrev start : tie.After-kind → tie.Start
+start c = c .before .before
 
-not-11 : (c : tie.Else1) (q : F (c .before .before .before)) → kind-of (q .tree) ≡ 11 → ⊥
+-- neither a recursion nor a protect, so a destructor
+abbrev seen : tie.Else2 → tie.After-kind
+seen c = c .before .before
+
+abbrev entry : tie.Else2 → tie.Start
+entry c = start (seen c)
+
+-- no first projection, and the end of what is taken apart is known
+abbrev destructs : tie.After-end-of → tie.Else2
+destructs c = c .before .before
+
+-- a case
+abbrev ended : tie.Else5 → tie.After-end-of
+ended c = c .before .before
+
+abbrev choice : tie.Else5 → tie.Else2
+choice c = destructs (ended c)
+
+own-kind : (c : tie.After-kind) (q : F (start c)) → c .kind .result ≡ kind-of (q .tree)
+own-kind c q = let s = start c in c .kind .ensures ∙ stands-kind (P s) (s .args .at) (q .tree) (q .stands)
+
+not-11 : (c : tie.Else1) (q : F (start (c .before))) → kind-of (q .tree) ≡ 11 → ⊥
 not-11 c q z = c .if1 .left (own-kind (c .before) q ∙ z)
 
-not-10 : (c : tie.Else2) (q : F (c .before .before .before .before)) → kind-of (q .tree) ≡ 10 → ⊥
-not-10 c q z = c .if2 .left (own-kind (c .before .before) q ∙ z)
+not-10 : (c : tie.Else2) (q : F (entry c)) → kind-of (q .tree) ≡ 10 → ⊥
+not-10 c q z = c .if2 .left (own-kind (seen c) q ∙ z)
 
-taken : (c : tie.Else2) (q : F (c .before .before .before .before)) → At (c .before .before .before .before .args .script .now) (c .before .before .before .before .args .at + 1) (op1 (q .tree))
-taken c q = taken-at (c .before .before .before .before .args .script .now) (c .before .before .before .before .args .at) (q .stands) (q .left) (not-11 (c .before) q) (not-10 c q)
+taken : (c : tie.Else2) (q : F (entry c)) → At (P (entry c)) (entry c .args .at + 1) (op1 (q .tree))
+taken c q = let s = entry c in taken-at (P s) (s .args .at) (q .stands) (q .left) (not-11 (c .before) q) (not-10 c q)
 
-inner : (c : tie.Else2) (q : F (c .before .before .before .before)) → At (c .before .before .before .before .args .script .now) (c .before .before .before .before .args .at + 2) (op1 (op1 (q .tree)))
-inner c q = inner-at (c .before .before .before .before .args .script .now) (c .before .before .before .before .args .at) (q .stands) (q .left) (not-11 (c .before) q) (not-10 c q)
+inner : (c : tie.Else2) (q : F (entry c)) → At (P (entry c)) (entry c .args .at + 2) (op1 (op1 (q .tree)))
+inner c q = let s = entry c in inner-at (P s) (s .args .at) (q .stands) (q .left) (not-11 (c .before) q) (not-10 c q)
 
-next : (c : tie.After-end-of) (q : F (c .before .before .before .before .before .before)) → c .end-of .result ≡ c .before .before .before .before .before .before .args .at + 2 + size (op1 (op1 (q .tree)))
-next c q = c .end-of .ensures (op1 (op1 (q .tree))) (inner (c .before .before) q)
+next : (c : tie.After-end-of) (q : F (entry (destructs c)))
+    → c .end-of .result ≡ entry (destructs c) .args .at + 2 + size (op1 (op1 (q .tree)))
+next c q = c .end-of .ensures (op1 (op1 (q .tree))) (inner (destructs c) q)
 
-case-of : (c : tie.Else5) (q : F (c .before .before .before .before .before .before .before .before)) → Cased (c .before .before .before .before .before .before .before .before .args .script .now) (c .before .before .before .before .before .before .before .before .args .at) (q .tree) (c .before .before .end-of .result)
+case-of : (c : tie.Else5) (q : F (entry (choice c)))
+    → Cased (P (entry (choice c))) (entry (choice c) .args .at) (q .tree) (ended c .end-of .result)
 case-of c q =
-    cased (c .before .before .before .before .before .before .before .before .args .script .now) (c .before .before .before .before .before .before .before .before .args .at) (c .before .before .end-of .result) (q .left) (q .stands) (inner (c .before .before .before .before) q) (next (c .before .before) q)
-    (not-11 (c .before .before .before .before .before) q) (not-10 (c .before .before .before .before) q) (λ z. c .before .before .before .if3 .left (own-kind (c .before .before .before .before .before .before) q ∙ z)) (λ z. c .before .if4 .left (own-kind (c .before .before .before .before .before .before) q ∙ z))
-    (λ z. c .if5 .left (own-kind (c .before .before .before .before .before .before) q ∙ z))
+    let e = ended c in
+    let d = choice c in
+    let s = entry d in
+    let k = own-kind (seen d) q in
+    cased (P s) (s .args .at) (e .end-of .result) (q .left) (q .stands) (inner d q) (next e q)
+    (not-11 (d .before) q)
+    (not-10 d q)
+    (λ z. e .before .if3 .left (k ∙ z))
+    (λ z. c .before .if4 .left (k ∙ z))
+    (λ z. c .if5 .left (k ∙ z))
+
+-- what is taken apart stands within the script
+taken-inside : (c : tie.Else5) → 6 * (entry (choice c) .args .at + 1) + 6 ≤ length (P (entry (choice c)))
+taken-inside c = let d = choice c in room-one _ _ _ (taken d (entry d .pre))
 
 kind-requires : tie.Need-kind-requires
-kind-requires c κs = let q = c .before .pre in room-one _ _ _ (q .stands)
+kind-requires c κs = room-one _ _ _ (c .before .pre .stands)
 
 returns : tie.Need-returns
-returns c q = plan-unrolled _ (c .before .before .before .args .at) (q .left) (sym (own-kind (c .before) q) ∙ c .if1 .taken)
+returns c q =
+    let k = c .before in plan-unrolled _ (start k .args .at) (q .left) (sym (own-kind k q) ∙ c .if1 .taken)
 
 returns-2 : tie.Need-returns-2
-returns-2 c q = plan-raised _ (c .before .before .before .before .args .at) (q .left) (sym (own-kind (c .before .before) q) ∙ c .if2 .taken)
+returns-2 c q =
+    let k = c .before .before in plan-raised _ (start k .args .at) (q .left) (sym (own-kind k q) ∙ c .if2 .taken)
 
 add-inner : tie.Need-add-inner
-add-inner c = omega (arith, room-one _ _ _ (inner c (c .before .before .before .before .pre)), c .before .before .before .before .good)
+add-inner c = let s = entry c in omega (arith, room-one _ _ _ (inner c (s .pre)), s .good)
 
 returns-3 : tie.Need-returns-3
-returns-3 c q = plan-first _ (c .before .before .before .before .before .args .at) (q .left) (sym (own-kind (c .before .before .before) q) ∙ c .if3 .taken) (inner (c .before) q)
+returns-3 c q =
+    let d = c .before in plan-first _ (entry d .args .at) (q .left) (sym (own-kind (seen d) q) ∙ c .if3 .taken) (inner d q)
 
 end-of-requires : tie.Need-end-of-requires
-end-of-requires c κs = here (inner (c .before) (c .before .before .before .before .before .pre))
+end-of-requires c κs = let d = c .before in here (inner d (entry d .pre))
 
 returns-4 : tie.Need-returns-4
 returns-4 c q =
-    plan-second _ (c .before .before .before .before .before .before .before .args .at) _ (q .left) (sym (own-kind (c .before .before .before .before .before) q) ∙ c .if4 .taken) (taken (c .before .before .before) q) (next (c .before) q)
+    let e = c .before in
+    let d = destructs e in
+    plan-second _ (entry d .args .at) _ (q .left) (sym (own-kind (seen d) q) ∙ c .if4 .taken) (taken d q) (next e q)
 
 returns-5 : tie.Need-returns-5
 returns-5 c q =
-    plan-applied _ (c .before .before .before .before .before .before .before .before .args .at) _ (q .left) (sym (own-kind (c .before .before .before .before .before .before) q) ∙ c .if5 .taken) (q .stands) (inner (c .before .before .before .before) q) (next (c .before .before) q)
+    let e = c .before .before in
+    let d = destructs e in
+    plan-applied _ (entry d .args .at) _ (q .left) (sym (own-kind (seen d) q) ∙ c .if5 .taken) (q .stands) (inner d q) (next e q)
 
 add-kind : tie.Need-add-kind
-add-kind c = omega (arith, room-one _ _ _ (taken (c .before .before .before .before) (c .before .before .before .before .before .before .before .before .pre)), c .before .before .before .before .before .before .before .before .good)
+add-kind c = omega (arith, taken-inside c, entry (choice c) .good)
 
 kind-requires-2 : tie.Need-kind-requires-2
-kind-requires-2 c κs = room-one _ _ _ (taken (c .before .before .before .before) (c .before .before .before .before .before .before .before .before .pre))
+kind-requires-2 c κs = taken-inside c
 
 returns-6 : tie.Need-returns-6
 returns-6 c q =
-    case-of (c .before .before) q .to-first (sym (stands-kind _ _ _ (taken (c .before .before .before .before .before .before) q)) ∙ sym (c .before .kind2 .ensures) ∙ c .if6 .taken)
+    let k = c .before in
+    let e = k .before in
+    case-of e q .to-first (sym (stands-kind _ _ _ (taken (choice e) q)) ∙ sym (k .kind2 .ensures) ∙ c .if6 .taken)
 
 end-of-requires-2 : tie.Need-end-of-requires-2
-end-of-requires-2 c κs = here (case-of (c .before .before) (c .before .before .before .before .before .before .before .before .before .before .pre) .branch)
+end-of-requires-2 c κs = let e = c .before .before in here (case-of e (entry (choice e) .pre) .branch)
 
 returns-7 : tie.Need-returns-7
 returns-7 c q =
-    case-of (c .before .before .before) q .to-second (λ z. c .before .if6 .left (c .before .before .kind2 .ensures ∙ stands-kind _ _ _ (taken (c .before .before .before .before .before .before .before) q) ∙ z)) _
-    (c .end-of2 .ensures _ (case-of (c .before .before .before) q .branch))
+    let k = c .before .before in
+    let e = k .before in
+    let x = case-of e q in
+    x .to-second (λ z. c .before .if6 .left (k .kind2 .ensures ∙ stands-kind _ _ _ (taken (choice e) q) ∙ z)) _
+    (c .end-of2 .ensures _ (x .branch))
 
 pub plan-of-spec : {M : Type 1} → statement M
 plan-of-spec =

@@ -1,10 +1,11 @@
--- `contraction::write_body` meets its contract: a protect record, and the body with the value put in.
+-- `contraction::write_body` meets its contract: it writes a protect record, and the body with the value put in.
 use mathlib.Core.Path.{_≡_, refl, _∙_}
 use mathlib.Core.List.{[], _++_, append-nil}
-use Prim.Native.Nat.{_+_, _*_, _-_, _≤_}
+use Prim.Native.Nat.{ℕ, _+_, _*_, _-_, _≤_}
 use native.Mathlib.Omega.{arith}
 use lib.ListN.{length, take, drop}
 use borrow.Author.Needs.{needs}
+use Rattle.rules.specs.Answer.{Bytes}
 use Rattle.rules.specs.Script.{size, encode}
 use Rattle.records.proofs.Stands.{room}
 use Rattle.contraction.specs.Plans.{BodyRoom}
@@ -12,22 +13,44 @@ use Rattle.contraction.proofs.Plans.{own-bytes, protect-placed}
 use Rattle.contraction.proofs.write_body.Statement.{statement}
 use Rattle.contraction.proofs.write_body.Tie as tie
 
-abbrev Q : tie.Start → Type 0
-Q s = BodyRoom (s .args .script .now) (s .args .at) (s .args .x) (s .args .y) (s .args .written .now) (s .args .start)
+abbrev P : tie.Start → Bytes
+P s = s .args .script .now
 
-end : (c : tie.After-end-of) (q : Q (c .before .before .before)) → c .end-of .result ≡ c .before .before .before .args .y + size (q .value)
+abbrev Q : tie.Start → Type 0
+Q s = BodyRoom (P s) (s .args .at) (s .args .x) (s .args .y) (s .args .written .now) (s .args .start)
+
+-- the call's bytes are known
+abbrev begin : tie.After-slice-known → tie.Start
+begin c = c .before .before
+
+-- the value's end is known
+abbrev start : tie.After-end-of → tie.Start
+start c = begin (c .before)
+
+-- past the protect record
+abbrev ended : tie.After-slice-known2 → tie.After-end-of
+ended c = c .before .before .before .before .before
+
+-- past the pieces of the value
+abbrev known : tie.After-write-arg4 → tie.After-slice-known2
+known c = c .before .before .before .before
+
+end : (c : tie.After-end-of) (q : Q (start c)) → c .end-of .result ≡ start c .args .y + size (q .value)
 end c q = c .end-of .ensures (q .value) (q .at-value)
 
-inside : (s : tie.Start) → 6 * s .args .y + 6 * size (s .pre .value) ≤ length (s .args .script .now)
+inside : (s : tie.Start) → 6 * s .args .y + 6 * size (s .pre .value) ≤ length (P s)
 inside s = room _ _ _ (s .pre .at-value)
 
 -- the value's own bytes, between two empty pieces
-pieces : (c : tie.After-end-of) (q : Q (c .before .before .before))
-    → [] ++ (take (6 * c .end-of .result - 6 * c .before .before .before .args .y) (drop (6 * c .before .before .before .args .y) (c .before .before .before .args .script .now)) ++ []) ≡ encode (q .value)
-pieces c q = append-nil _ ∙ own-bytes (q .at-value) (6 * c .end-of .result - 6 * c .before .before .before .args .y) (omega (arith, end c q))
+abbrev length-of : tie.After-end-of → ℕ
+length-of c = 6 * c .end-of .result - 6 * start c .args .y
+
+pieces : (c : tie.After-end-of) (q : Q (start c))
+    → [] ++ (take (length-of c) (drop (6 * start c .args .y) (P (start c))) ++ []) ≡ encode (q .value)
+pieces c q = append-nil _ ∙ own-bytes (q .at-value) (length-of c) (omega (arith, end c q))
 
 end-of-requires : tie.Need-end-of-requires
-end-of-requires c κs = let q = c .before .before .pre in record { tree = q .value; at = q .at-value }
+end-of-requires c κs = let q = begin c .pre in record { tree = q .value; at = q .at-value }
 
 add-indirect : tie.Need-add-indirect
 add-indirect c = search needs
@@ -36,13 +59,16 @@ indirect-requires : tie.Need-indirect-requires
 indirect-requires c κs = search needs
 
 write-record-requires : tie.Need-write-record-requires
-write-record-requires c κs = omega (arith, c .before .before .before .before .before .pre .fits)
+write-record-requires c κs = omega (arith, start (c .before .before) .pre .fits)
 
 mul-from : tie.Need-mul-from
-mul-from c = omega (arith, inside (c .before .before .before .before .before .before .before .before), c .before .before .before .before .before .before .before .before .good)
+mul-from c = let s = start (ended c) in omega (arith, inside s, s .good)
 
 mul-to : tie.Need-mul-to
-mul-to c = omega (arith, end (c .before .before .before .before .before) (c .before .before .before .before .before .before .before .before .pre), inside (c .before .before .before .before .before .before .before .before), c .before .before .before .before .before .before .before .before .good)
+mul-to c =
+    let d = ended c in
+    let s = start d in
+    omega (arith, end d (s .pre), inside s, s .good)
 
 sub-write : tie.Need-sub-write
 sub-write c = search needs
@@ -54,13 +80,16 @@ part-write-end : tie.Need-part-write-end
 part-write-end c = search needs
 
 sub-write-2 : tie.Need-sub-write-2
-sub-write-2 c = omega (arith, end (c .before .before .before .before .before .before) (c .before .before .before .before .before .before .before .before .before .pre))
+sub-write-2 c = let d = ended (c .before) in omega (arith, end d (start d .pre))
 
 part-write-start-2 : tie.Need-part-write-start-2
-part-write-start-2 c = omega (arith, end (c .before .before .before .before .before .before) (c .before .before .before .before .before .before .before .before .before .pre))
+part-write-start-2 c = let d = ended (c .before) in omega (arith, end d (start d .pre))
 
 part-write-end-2 : tie.Need-part-write-end-2
-part-write-end-2 c = omega (arith, end (c .before .before .before .before .before .before) (c .before .before .before .before .before .before .before .before .before .pre), inside (c .before .before .before .before .before .before .before .before .before))
+part-write-end-2 c =
+    let d = ended (c .before) in
+    let s = start d in
+    omega (arith, end d (s .pre), inside s)
 
 sub-write-3 : tie.Need-sub-write-3
 sub-write-3 c = search needs
@@ -72,18 +101,20 @@ part-write-end-3 : tie.Need-part-write-end-3
 part-write-end-3 c = search needs
 
 add-write : tie.Need-add-write
-add-write c = omega (arith, c .before .before .before .before .before .before .before .before .before .before .before .before .pre .fits, c .before .before .before .before .before .before .before .before .before .before .before .before .good)
+add-write c = let s = start (ended (known c)) in omega (arith, s .pre .fits, s .good)
 
 write-requires : tie.Need-write-requires
 write-requires c κs =
-    let q = c .before .before .before .before .before .before .before .before .before .before .before .before .pre in
+    let w = known c in
+    let d = ended w in
+    let q = start d .pre in
     record {
       tree = q .body;
       at = q .at-body;
       value = q .value;
-      pieces = pieces (c .before .before .before .before .before .before .before .before .before) q;
+      pieces = pieces d q;
       shallow = omega (arith, q .shallow);
-      fits = omega (arith, q .fits, c .before .before .before .before .before .before .write-record .kept .1 .1 .1 .1 .0);
+      fits = omega (arith, q .fits, w .before .before .write-record .kept .1 .1 .1 .1 .0);
     }
 
 same-length : tie.Need-same-length
@@ -91,10 +122,14 @@ same-length c = search needs
 
 returns : tie.Need-returns
 returns c q =
-    let s = c .before .before .before .before .before .before .before .before .before .before .before .before .before .before .before in
-    let x = c .before .before .write .ensures (q .body) (q .value) (q .at-body) (pieces (c .before .before .before .before .before .before .before .before .before .before .before .before) q) in
-    protect-placed _ _ (s .args .start) _ _ (s .args .written .now) _ _ (c .before .before .before .before .before .before .before .before .before .before .before .indirect .ensures) refl (omega (arith, q .fits))
-    (c .before .before .before .before .before .before .before .before .before .write-record .ensures) (x .wrote)
+    let x = c .before .before in
+    let w = known (x .before) .before .before in
+    let i = w .before .before in
+    let d = i .before in
+    let s = start d in
+    protect-placed _ _ (s .args .start) _ _ (s .args .written .now) _ _ (i .indirect .ensures) refl (omega (arith, q .fits))
+    (w .write-record .ensures)
+    (x .write .ensures (q .body) (q .value) (q .at-body) (pieces d q) .wrote)
 
 pub write-body-spec : {M : Type 1} → statement M
 write-body-spec =

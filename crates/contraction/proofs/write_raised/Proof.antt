@@ -1,94 +1,142 @@
--- `contraction::write_raised` meets its contract: the value's own record with other groups, and its operands' bytes.
+-- `contraction::write_raised` meets its contract: it writes the value's own record with other groups, and its operands' bytes.
 use mathlib.Core.Path.{_≡_, ap₂, _∙_}
 use Prim.Native.Nat.{_+_, _*_, _-_, _≤_}
 use native.Mathlib.Omega.{arith}
 use lib.ListN.{length}
 use borrow.Author.Needs.{needs}
+use Rattle.rules.specs.Answer.{Bytes}
 use Rattle.rules.specs.Groups.{join}
 use Rattle.rules.specs.Script.{size, ir}
-use Rattle.records.proofs.Stands.{room}
+use Rattle.records.proofs.Stands.{room, room-one}
 use Rattle.substitution.proofs.Reading.{size-from}
 use Rattle.contraction.specs.Plans.{RaisedRoom}
 use Rattle.contraction.proofs.Plans.{operand-bytes, raise-placed}
 use Rattle.contraction.proofs.write_raised.Statement.{statement}
 use Rattle.contraction.proofs.write_raised.Tie as tie
 
-abbrev Q : tie.Start → Type 0
-Q s = RaisedRoom (s .args .script .now) (s .args .at) (s .args .written .now) (s .args .start)
+abbrev P : tie.Start → Bytes
+P s = s .args .script .now
 
-end : (c : tie.After-end-of) (q : Q (c .before .before .before .before)) → c .end-of .result ≡ c .before .before .before .before .args .at + 1 + size (q .value)
+abbrev Q : tie.Start → Type 0
+Q s = RaisedRoom (P s) (s .args .at) (s .args .written .now) (s .args .start)
+
+-- the call's bytes are known
+abbrev begin : tie.After-slice-known → tie.Start
+begin c = c .before .before .before
+
+-- the value's end is known
+abbrev start : tie.After-end-of → tie.Start
+start c = begin (c .before)
+
+-- past the joined groups
+abbrev ended : tie.After-joined2 → tie.After-end-of
+ended c = c .before .before .before .before .before
+
+-- past the value's kind and number
+abbrev joined : tie.After-write-record-arg → tie.After-joined2
+joined c = c .before .before .before
+
+-- past the written record
+abbrev told : tie.After-slice-known2 → tie.After-write-record-arg
+told c = c .before .before .before
+
+abbrev known : tie.After-slice-known2 → tie.After-end-of
+known c = ended (joined (told c))
+
+end : (c : tie.After-end-of) (q : Q (start c)) → c .end-of .result ≡ start c .args .at + 1 + size (q .value)
 end c q = c .end-of .ensures (q .value) (q .stands)
 
-inside : (s : tie.Start) → 6 * (s .args .at + 1) + 6 * size (s .pre .value) ≤ length (s .args .script .now)
+inside : (s : tie.Start) → 6 * (s .args .at + 1) + 6 * size (s .pre .value) ≤ length (P s)
 inside s = room _ _ _ (s .pre .stands)
+
+own-record : (s : tie.Start) → 6 * (s .args .at + 1) + 6 ≤ length (P s)
+own-record s = room-one _ _ _ (s .pre .stands)
 
 some-record : (s : tie.Start) → 1 ≤ size (s .pre .value)
 some-record s = size-from (s .pre .value)
 
 add-x : tie.Need-add-x
-add-x c = omega (arith, inside (c .before .before .before), c .before .before .before .good)
+add-x c = let s = begin c in omega (arith, inside s, s .good)
 
 end-of-requires : tie.Need-end-of-requires
-end-of-requires c κs = let q = c .before .before .before .pre in record { tree = q .value; at = q .stands }
+end-of-requires c κs = let q = begin c .pre in record { tree = q .value; at = q .stands }
 
 indirect-requires : tie.Need-indirect-requires
-indirect-requires c κs = omega (arith, inside (c .before .before .before .before), some-record (c .before .before .before .before))
+indirect-requires c κs = omega (arith, own-record (start c))
 
 reader-requires : tie.Need-reader-requires
-reader-requires c κs = omega (arith, inside (c .before .before .before .before .before), some-record (c .before .before .before .before .before))
+reader-requires c κs = own-record (start (c .before))
 
 joined-requires : tie.Need-joined-requires
 joined-requires c κs = search needs
 
 indirect-requires-2 : tie.Need-indirect-requires-2
-indirect-requires-2 c κs = omega (arith, inside (c .before .before .before .before .before .before .before), some-record (c .before .before .before .before .before .before .before))
+indirect-requires-2 c κs = own-record (start (c .before .before .before))
 
 joined-requires-2 : tie.Need-joined-requires-2
 joined-requires-2 c κs = search needs
 
 kind-requires : tie.Need-kind-requires
-kind-requires c κs = omega (arith, inside (c .before .before .before .before .before .before .before .before .before), some-record (c .before .before .before .before .before .before .before .before .before))
+kind-requires c κs = own-record (start (ended c))
 
 number-requires : tie.Need-number-requires
-number-requires c κs = omega (arith, inside (c .before .before .before .before .before .before .before .before .before .before), some-record (c .before .before .before .before .before .before .before .before .before .before))
+number-requires c κs = own-record (start (ended (c .before)))
 
 write-record-requires : tie.Need-write-record-requires
-write-record-requires c κs = omega (arith, c .before .before .before .before .before .before .before .before .before .before .before .before .pre .fits, some-record (c .before .before .before .before .before .before .before .before .before .before .before .before))
+write-record-requires c κs = let s = start (ended (joined c)) in omega (arith, s .pre .fits, some-record s)
 
 mul-from : tie.Need-mul-from
-mul-from c = omega (arith, inside (c .before .before .before .before .before .before .before .before .before .before .before .before .before .before .before), c .before .before .before .before .before .before .before .before .before .before .before .before .before .before .before .good)
+mul-from c = let s = start (known c) in omega (arith, inside s, s .good)
 
 add-from : tie.Need-add-from
-add-from c = omega (arith, inside (c .before .before .before .before .before .before .before .before .before .before .before .before .before .before .before), some-record (c .before .before .before .before .before .before .before .before .before .before .before .before .before .before .before), c .before .before .before .before .before .before .before .before .before .before .before .before .before .before .before .good)
+add-from c = let s = start (known c) in omega (arith, own-record s, s .good)
 
 mul-to : tie.Need-mul-to
-mul-to c = omega (arith, end (c .before .before .before .before .before .before .before .before .before .before .before) (c .before .before .before .before .before .before .before .before .before .before .before .before .before .before .before .pre), inside (c .before .before .before .before .before .before .before .before .before .before .before .before .before .before .before), c .before .before .before .before .before .before .before .before .before .before .before .before .before .before .before .good)
+mul-to c =
+    let d = known c in
+    let s = start d in
+    omega (arith, end d (s .pre), inside s, s .good)
 
 sub-copy-part : tie.Need-sub-copy-part
-sub-copy-part c = omega (arith, end (c .before .before .before .before .before .before .before .before .before .before .before) (c .before .before .before .before .before .before .before .before .before .before .before .before .before .before .before .pre), some-record (c .before .before .before .before .before .before .before .before .before .before .before .before .before .before .before))
+sub-copy-part c =
+    let d = known c in
+    let s = start d in
+    omega (arith, end d (s .pre), some-record s)
 
 add-copy-part : tie.Need-add-copy-part
-add-copy-part c = omega (arith, c .before .before .before .before .before .before .before .before .before .before .before .before .before .before .before .before .pre .fits, some-record (c .before .before .before .before .before .before .before .before .before .before .before .before .before .before .before .before), c .before .before .before .before .before .before .before .before .before .before .before .before .before .before .before .before .good)
+add-copy-part c = let s = start (known (c .before)) in omega (arith, s .pre .fits, some-record s, s .good)
 
 copy-part-requires : tie.Need-copy-part-requires
-copy-part-requires c κs = (
-  omega (arith, end (c .before .before .before .before .before .before .before .before .before .before .before .before) (c .before .before .before .before .before .before .before .before .before .before .before .before .before .before .before .before .pre), inside (c .before .before .before .before .before .before .before .before .before .before .before .before .before .before .before .before), some-record (c .before .before .before .before .before .before .before .before .before .before .before .before .before .before .before .before)),
-  omega (arith, end (c .before .before .before .before .before .before .before .before .before .before .before .before) (c .before .before .before .before .before .before .before .before .before .before .before .before .before .before .before .before .pre), c .before .before .before .before .before .before .before .before .before .before .before .before .before .before .before .before .pre .fits, some-record (c .before .before .before .before .before .before .before .before .before .before .before .before .before .before .before .before), c .before .before .before .write-record .kept .1 .1 .1 .1 .0),
-)
+copy-part-requires c κs =
+    let d = known (c .before) in
+    let s = start d in (
+      omega (arith, end d (s .pre), inside s, some-record s),
+      omega (arith, end d (s .pre), s .pre .fits, some-record s, c .before .before .before .write-record .kept .1 .1 .1 .1 .0),
+    )
 
 same-length : tie.Need-same-length
 same-length c = search needs
 
 returns : tie.Need-returns
 returns c q =
-    let s = c .before .before .before .before .before .before .before .before .before .before .before .before .before .before .before .before .before .before .before in
+    let p = c .before .before in
+    let w = p .before .before in
+    let k = told w in
+    let j = joined k in
+    let d = ended j in
+    let s = start d in
     let g = s .args .groups .now in
-    raise-placed g (q .stands) (ir (s .args .script .now) (s .args .at)) _ _ _ _ (s .args .start) _ (s .args .written .now) _ _ (q .is-one)
-    (c .before .before .before .before .before .before .before .before .before .kind .ensures) (c .before .before .before .before .before .before .before .before .before .before .before .before .joined .ensures ∙ ap₂ (join g) (c .before .before .before .before .before .before .before .before .before .before .before .before .before .reader .ensures) (c .before .before .before .before .before .before .before .before .before .before .before .before .before .before .indirect .ensures))
-    (c .before .before .before .before .before .before .before .before .before .before .joined2 .ensures ∙ ap₂ (join g) (c .before .before .before .before .before .before .before .before .before .before .before .indirect2 .ensures) (c .before .before .before .before .before .before .before .before .before .before .before .before .before .before .indirect .ensures)) (c .before .before .before .before .before .before .before .before .number .ensures)
-    (operand-bytes (q .stands) (6 * (s .args .at + 1) + 6) (6 * c .before .before .before .before .before .before .before .before .before .before .before .before .before .before .before .end-of .result - (6 * (s .args .at + 1) + 6)) (omega arith)
-    (omega (arith, end (c .before .before .before .before .before .before .before .before .before .before .before .before .before .before .before) q, size-from (q .value)))) (omega (arith, q .fits, size-from (q .value)))
-    (c .before .before .before .before .before .before .write-record .ensures) (c .before .before .copy-part .ensures)
+    let by = j .before .before .before .before .indirect .ensures in
+    let from = 6 * (s .args .at + 1) + 6 in
+    raise-placed g (q .stands) (ir (P s) (s .args .at)) _ _ _ _ (s .args .start) _ (s .args .written .now) _ _ (q .is-one)
+    (k .before .before .kind .ensures)
+    (j .before .before .joined .ensures ∙ ap₂ (join g) (j .before .before .before .reader .ensures) by)
+    (j .joined2 .ensures ∙ ap₂ (join g) (j .before .indirect2 .ensures) by)
+    (k .before .number .ensures)
+    (operand-bytes (q .stands) from (6 * d .end-of .result - from) (omega arith) (omega (arith, end d q, size-from (q .value))))
+    (omega (arith, q .fits, size-from (q .value)))
+    (w .before .before .write-record .ensures)
+    (p .copy-part .ensures)
 
 pub write-raised-spec : {M : Type 1} → statement M
 write-raised-spec =

@@ -1,13 +1,12 @@
--- `contraction::write_unrolled` meets its contract: the bytes of the recursion stand between those of the function and the application
--- around it and those of the variable.
+-- `contraction::write_unrolled` meets its contract: its three pieces are the bytes of what is put in for the recursion's variable.
 use mathlib.Core.Path.{_≡_, ap, _∙_}
 use mathlib.Core.List.{[], _∷_, _++_}
-use Prim.Native.Nat.{_+_, _*_, _-_, _%_, _/_, _≤_, _<_}
+use Prim.Native.Nat.{ℕ, _+_, _*_, _-_, _%_, _/_, _≤_, _<_}
 use native.Mathlib.Omega.{arith}
 use lib.ListN.{length, take, drop}
 use borrow.Author.Needs.{needs}
 use Rattle.calculus.specs.Types.{top}
-use Rattle.calculus.specs.Terms.{mu}
+use Rattle.calculus.specs.Terms.{Term, mu}
 use Rattle.calculus.specs.Reduction.{unrolled}
 use Rattle.rules.specs.Answer.{Bytes}
 use Rattle.rules.specs.Groups.{readers}
@@ -21,59 +20,118 @@ use Rattle.contraction.proofs.Plans.{own-bytes, rolled-bytes, type-grou
 use Rattle.contraction.proofs.write_unrolled.Statement.{statement}
 use Rattle.contraction.proofs.write_unrolled.Tie as tie
 
+-- the call's slices
+abbrev T : tie.Start → Bytes
+T s = s .args .types .now
+
+abbrev P : tie.Start → Bytes
+P s = s .args .script .now
+
 abbrev Q : tie.Start → Type 0
-Q s = UnrolledRoom (s .args .types .now) (s .args .script .now) (s .args .at) (s .args .written .now) (s .args .start)
+Q s = UnrolledRoom (T s) (P s) (s .args .at) (s .args .written .now) (s .args .start)
 
-end : (c : tie.After-end-of) (q : Q (c .before .before .before .before)) → c .end-of .result ≡ c .before .before .before .before .args .at + size (mu (q .type) (q .body))
-end c q = c .end-of .ensures (mu (q .type) (q .body)) (q .stands)
+-- the call's bytes are known
+abbrev begin : tie.After-slice-known → tie.Start
+begin c = c .before .before .before
 
-inside : (s : tie.Start) → 6 * s .args .at + 6 * size (mu (s .pre .type) (s .pre .body)) ≤ length (s .args .script .now)
+-- the recursion's number and end are known
+abbrev ended : tie.After-number → tie.After-end-of
+ended c = c .before
+
+abbrev start : tie.After-number → tie.Start
+start c = begin (ended c .before)
+
+-- past the groups of the recursion's type
+abbrev numbered : tie.After-indirect-at → tie.After-number
+numbered c = c .before .before .before .before
+
+-- past the bytes of the front
+abbrev known : tie.After-high → tie.After-number
+known c = numbered (c .before .before)
+
+-- past the three pieces
+abbrev fronted : tie.After-write-arg2 → tie.After-high
+fronted c = c .before .before .before .before
+
+end : (c : tie.After-number) (q : Q (start c)) → ended c .end-of .result ≡ start c .args .at + size (mu (q .type) (q .body))
+end c q = ended c .end-of .ensures (mu (q .type) (q .body)) (q .stands)
+
+inside : (s : tie.Start) → 6 * s .args .at + 6 * size (mu (s .pre .type) (s .pre .body)) ≤ length (P s)
 inside s = room _ _ _ (s .pre .stands)
 
-body-at : (s : tie.Start) (q : Q s) → At (s .args .script .now) (s .args .at + 1) (q .body)
+body-at : (s : tie.Start) (q : Q s) → At (P s) (s .args .at + 1) (q .body)
 body-at s q = at-op1 _ _ _ (q .stands) (omega arith)
 
-named : (c : tie.After-number) (q : Q (c .before .before .before .before .before)) → c .number .result ≡ q .type
+named : (c : tie.After-number) (q : Q (start c)) → c .number .result ≡ q .type
 named c q = c .number .ensures ∙ recursion-number (q .stands)
 
-in-table : (s : tie.Start) (q : Q s) → q .type < type-count (s .args .types .now)
+in-table : (s : tie.Start) (q : Q s) → q .type < type-count (T s)
 in-table s q = function-inside _ _ (q .function)
 
-pieces : (c : tie.After-high) (q : Q (c .before .before .before .before .before .before .before .before .before .before .before)) (g : Bytes)
-    → (2 ∷ c .before .before .before .before .reader-at .result .0 ∷ c .before .before .indirect-at .result .0 ∷ 0 ∷ c .before .low .result ∷ c .high .result ∷ 6 ∷ c .before .before .before .before .reader-at .result .0 ∷ 0 ∷ 0 ∷ 0 ∷ 0 ∷ [])
-    ++ (take (6 * c .before .before .before .before .before .before .before .end-of .result - 6 * c .before .before .before .before .before .before .before .before .before .before .before .args .at) (drop (6 * c .before .before .before .before .before .before .before .before .before .before .before .args .at) (c .before .before .before .before .before .before .before .before .before .before .before .args .script .now)) ++ (0 ∷ 0 ∷ 0 ∷ 0 ∷ 0 ∷ 0 ∷ []))
-    ≡ encode (unrolled (readers g) (q .type) (top (type-at (c .before .before .before .before .before .before .before .before .before .before .before .args .types .now) (q .type))) (q .body))
+-- what is put in for the recursion's variable
+abbrev value : (s : tie.Start) → Q s → Bytes → Term
+value s q g = unrolled (readers g) (q .type) (top (type-at (T s) (q .type))) (q .body)
+
+-- the three pieces
+abbrev front : tie.After-high → Bytes
+front c =
+    let r = c .before .before .before .before .reader-at .result .0 in
+    let ir = c .before .before .indirect-at .result .0 in
+    2 ∷ r ∷ ir ∷ 0 ∷ c .before .low .result ∷ c .high .result ∷ 6 ∷ r ∷ 0 ∷ 0 ∷ 0 ∷ 0 ∷ []
+
+abbrev length-of : tie.After-number → ℕ
+length-of c = 6 * ended c .end-of .result - 6 * start c .args .at
+
+abbrev own : tie.After-number → Bytes
+own c = take (length-of c) (drop (6 * start c .args .at) (P (start c)))
+
+abbrev back : Bytes
+back = 0 ∷ 0 ∷ 0 ∷ 0 ∷ 0 ∷ 0 ∷ []
+
+pieces : (c : tie.After-high) (q : Q (start (known c))) (g : Bytes)
+    → front c ++ (own (known c) ++ back) ≡ encode (value (start (known c)) q g)
 pieces c q g =
-    let t = c .before .before .before .before .before .before .before .before .before .before .before .args .types .now in
-    let n = named (c .before .before .before .before .before .before) q in
-    rolled-bytes g (q .type) (top (type-at t (q .type))) (q .body) _ _ _ _ _
-    (c .before .before .before .before .reader-at .ensures ∙ type-groups t (q .type) _ (q .function) (c .before .before .before .before .before .index .ensures .0 ∙ n) .0)
-    (c .before .before .indirect-at .ensures ∙ type-groups t (q .type) _ (q .function) (c .before .before .before .index2 .ensures .0 ∙ n) .1)
-    (c .before .low .ensures ∙ ap (λ m. (m + 1) % 256) n) (c .high .ensures ∙ ap (λ m. (m + 1) / 256) n)
-    (own-bytes (q .stands) (6 * c .before .before .before .before .before .before .before .end-of .result - 6 * c .before .before .before .before .before .before .before .before .before .before .before .args .at) (omega (arith, end (c .before .before .before .before .before .before .before) q)))
+    let d = known c in
+    let s = start d in
+    let ir = c .before .before in
+    let r = ir .before .before in
+    let n = named d q in
+    rolled-bytes g (q .type) (top (type-at (T s) (q .type))) (q .body) _ _ _ _ _
+    (r .reader-at .ensures ∙ type-groups (T s) (q .type) _ (q .function) (r .before .index .ensures .0 ∙ n) .0)
+    (ir .indirect-at .ensures ∙ type-groups (T s) (q .type) _ (q .function) (ir .before .index2 .ensures .0 ∙ n) .1)
+    (c .before .low .ensures ∙ ap (λ m. (m + 1) % 256) n)
+    (c .high .ensures ∙ ap (λ m. (m + 1) / 256) n)
+    (own-bytes (q .stands) (length-of d) (omega (arith, end d q)))
 
 end-of-requires : tie.Need-end-of-requires
-end-of-requires c κs = let q = c .before .before .before .pre in record { tree = mu (q .type) (q .body); at = q .stands }
+end-of-requires c κs = let q = begin c .pre in record { tree = mu (q .type) (q .body); at = q .stands }
 
 number-requires : tie.Need-number-requires
-number-requires c κs = room-one _ _ _ (c .before .before .before .before .pre .stands)
+number-requires c κs = room-one _ _ _ (begin (c .before) .pre .stands)
 
 index-requires : tie.Need-index-requires
 index-requires c κs = search needs
 
 reader-at-requires : tie.Need-reader-at-requires
 reader-at-requires c κs =
-    omega (arith, c .index .ensures .0, named (c .before) (c .before .before .before .before .before .before .pre), in-table (c .before .before .before .before .before .before) (c .before .before .before .before .before .before .pre))
+    let d = c .before in
+    let s = start d in
+    omega (arith, c .index .ensures .0, named d (s .pre), in-table s (s .pre))
 
 index-requires-2 : tie.Need-index-requires-2
 index-requires-2 c κs = search needs
 
 indirect-at-requires : tie.Need-indirect-at-requires
 indirect-at-requires c κs =
-    omega (arith, c .index2 .ensures .0, named (c .before .before .before) (c .before .before .before .before .before .before .before .before .pre), in-table (c .before .before .before .before .before .before .before .before) (c .before .before .before .before .before .before .before .before .pre))
+    let d = c .before .before .before in
+    let s = start d in
+    omega (arith, c .index2 .ensures .0, named d (s .pre), in-table s (s .pre))
 
 add-parameter : tie.Need-add-parameter
-add-parameter c = omega (arith, named (c .before .before .before .before) (c .before .before .before .before .before .before .before .before .before .pre), in-table (c .before .before .before .before .before .before .before .before .before) (c .before .before .before .before .before .before .before .before .before .pre), c .before .before .before .before .before .before .before .before .before .pre .table)
+add-parameter c =
+    let d = numbered c in
+    let s = start d in
+    omega (arith, named d (s .pre), in-table s (s .pre), s .pre .table)
 
 low-requires : tie.Need-low-requires
 low-requires c κs = search needs
@@ -82,37 +140,45 @@ high-requires : tie.Need-high-requires
 high-requires c κs = search needs
 
 mul-from : tie.Need-mul-from
-mul-from c = omega (arith, inside (c .before .before .before .before .before .before .before .before .before .before .before), c .before .before .before .before .before .before .before .before .before .before .before .good)
+mul-from c = let s = start (known c) in omega (arith, inside s, s .good)
 
 mul-to : tie.Need-mul-to
-mul-to c = omega (arith, end (c .before .before .before .before .before .before .before) (c .before .before .before .before .before .before .before .before .before .before .before .pre), inside (c .before .before .before .before .before .before .before .before .before .before .before), c .before .before .before .before .before .before .before .before .before .before .before .good)
+mul-to c =
+    let d = known c in
+    let s = start d in
+    omega (arith, end d (s .pre), inside s, s .good)
 
 add-write : tie.Need-add-write
-add-write c = omega (arith, room-one _ _ _ (body-at (c .before .before .before .before .before .before .before .before .before .before .before) (c .before .before .before .before .before .before .before .before .before .before .before .pre)), c .before .before .before .before .before .before .before .before .before .before .before .good)
+add-write c = let s = start (known c) in omega (arith, room-one _ _ _ (body-at s (s .pre)), s .good)
 
 slice-aggregate-write : tie.Need-slice-aggregate-write
 slice-aggregate-write c = search needs
 
 sub-write : tie.Need-sub-write
-sub-write c = omega (arith, end (c .before .before .before .before .before .before .before .before) (c .before .before .before .before .before .before .before .before .before .before .before .before .pre))
+sub-write c = let d = known (c .before) in omega (arith, end d (start d .pre))
 
 part-write-start : tie.Need-part-write-start
-part-write-start c = omega (arith, end (c .before .before .before .before .before .before .before .before) (c .before .before .before .before .before .before .before .before .before .before .before .before .pre))
+part-write-start c = let d = known (c .before) in omega (arith, end d (start d .pre))
 
 part-write-end : tie.Need-part-write-end
-part-write-end c = omega (arith, end (c .before .before .before .before .before .before .before .before) (c .before .before .before .before .before .before .before .before .before .before .before .before .pre), inside (c .before .before .before .before .before .before .before .before .before .before .before .before))
+part-write-end c =
+    let d = known (c .before) in
+    let s = start d in
+    omega (arith, end d (s .pre), inside s)
 
 slice-aggregate-write-2 : tie.Need-slice-aggregate-write-2
 slice-aggregate-write-2 c = search needs
 
 write-requires : tie.Need-write-requires
 write-requires c κs =
-    let q = c .before .before .before .before .before .before .before .before .before .before .before .before .before .before .before .pre in
+    let d = fronted c in
+    let s = start (known d) in
+    let q = s .pre in
     record {
       tree = q .body;
-      at = body-at (c .before .before .before .before .before .before .before .before .before .before .before .before .before .before .before) q;
-      value = unrolled (readers (q .groups)) (q .type) (top (type-at (c .before .before .before .before .before .before .before .before .before .before .before .before .before .before .before .args .types .now) (q .type))) (q .body);
-      pieces = pieces (c .before .before .before .before) q (q .groups);
+      at = body-at s q;
+      value = value s q (q .groups);
+      pieces = pieces d q (q .groups);
       shallow = omega (arith, q .shallow);
       fits = q .fits;
     }
@@ -122,8 +188,10 @@ same-length c = search needs
 
 returns : tie.Need-returns
 returns c q g =
-    c .before .before .write .ensures (q .body) (unrolled (readers g) (q .type) (top (type-at (c .before .before .before .before .before .before .before .before .before .before .before .before .before .before .before .before .before .before .args .types .now) (q .type))) (q .body)) (body-at (c .before .before .before .before .before .before .before .before .before .before .before .before .before .before .before .before .before .before) q)
-    (pieces (c .before .before .before .before .before .before .before) q g) .wrote
+    let x = c .before .before in
+    let d = fronted (x .before) in
+    let s = start (known d) in
+    x .write .ensures (q .body) (value s q g) (body-at s q) (pieces d q g) .wrote
 
 pub write-unrolled-spec : {M : Type 1} → statement M
 write-unrolled-spec =

@@ -1,16 +1,49 @@
--- `inference::asks` meets its contract.
-use mathlib.Core.Path.{refl, sym, ap, _∙_}
+-- `inference::asks` meets its contract: question 20 by the first record's kind, question 21 by its readers.
+use mathlib.Core.Path.{_≡_, refl, sym, ap, _∙_}
+use mathlib.Core.Bool.{Bool}
+use Rattle.calculus.specs.Security.{Security}
+use Rattle.calculus.specs.Types.{Former, Ty, top}
 use Rattle.rules.specs.Groups.{readers, leq}
+use Rattle.rules.specs.Types.{former-kind}
+use Rattle.types.specs.Held.{Held, kind-of}
 use Rattle.inference.proofs.Rules.{reads-20, reads-yes, reads-no, says, says-no}
 use borrow.Author.Needs.{needs}
 use Rattle.inference.proofs.asks.Statement.{statement}
 use Rattle.inference.proofs.asks.Tie as tie
 
+abbrev S : tie.Start → Security
+S s = readers (s .args .groups .now)
+
+-- the kind is read
+abbrev begin : tie.After-kind → tie.Start
+begin c = c .before .before .before
+
+-- it is the former's, and the readers are compared
+abbrev same-kind : tie.After-at-or-below → tie.Else1
+same-kind c = c .before .before
+
+abbrev start : tie.After-at-or-below → tie.Start
+start c = begin (same-kind c .before)
+
+formed : (c : tie.After-at-or-below) (f : Former) (t : Ty) → start c .args .former ≡ former-kind f → Held (start c .args .w .now) t
+    → kind-of t ≡ former-kind f
+formed c f t e h = let i = same-kind c in sym (i .before .kind .ensures t h) ∙ i .if1 .left ∙ e
+
+permitted : (c : tie.After-at-or-below) (t : Ty) (x : Bool) → Held (start c .args .w .now) t → c .at-or-below .result ≡ x
+    → S (start c) .permits (top t) (start c .args .r .0) ≡ x
+permitted c t x h q =
+    let s = start c in
+    ap (λ g. leq (s .args .groups .now) g (s .args .r .0)) (sym (c .before .reader .ensures t h)) ∙ sym (c .at-or-below .ensures) ∙ q
+
 kind-requires : tie.Need-kind-requires
 kind-requires c κs = search needs
 
 returns : tie.Need-returns
-returns c = λ f t e h. says-no (reads-20 (readers ((c .before .before .before .before) .args .groups .now)) ((c .before .before .before .before) .args .place) f t ((c .before .before .before .before) .args .r .0) (λ z. c .if1 .taken ((c .before) .kind .ensures t h ∙ z ∙ sym e)))
+returns c =
+    λ f t e h.
+    let k = c .before in
+    let s = begin k in
+    says-no (reads-20 (S s) (s .args .place) f t (s .args .r .0) (λ z. c .if1 .taken (k .kind .ensures t h ∙ z ∙ sym e)))
 
 reader-requires : tie.Need-reader-requires
 reader-requires c κs = search needs
@@ -21,16 +54,16 @@ at-or-below-requires c κs = search needs
 returns-2 : tie.Need-returns-2
 returns-2 c =
     λ f t e h.
-    says
-    (reads-yes (readers ((c .before .before .before .before .before .before .before) .args .groups .now)) ((c .before .before .before .before .before .before .before) .args .place) f t ((c .before .before .before .before .before .before .before) .args .r .0) (sym ((c .before .before .before .before) .kind .ensures t h) ∙ (c .before .before .before) .if1 .left ∙ e)
-    (ap (λ g. leq ((c .before .before .before .before .before .before .before) .args .groups .now) g ((c .before .before .before .before .before .before .before) .args .r .0)) (sym ((c .before .before) .reader .ensures t h)) ∙ sym ((c .before) .at-or-below .ensures) ∙ c .if2 .taken)) refl
+    let d = c .before in
+    let s = start d in
+    says (reads-yes (S s) (s .args .place) f t (s .args .r .0) (formed d f t e h) (permitted d t _ h (c .if2 .taken))) refl
 
 returns-3 : tie.Need-returns-3
 returns-3 c =
     λ f t e h.
-    says-no
-    (reads-no (readers ((c .before .before .before .before .before .before .before) .args .groups .now)) ((c .before .before .before .before .before .before .before) .args .place) f t ((c .before .before .before .before .before .before .before) .args .r .0) (sym ((c .before .before .before .before) .kind .ensures t h) ∙ (c .before .before .before) .if1 .left ∙ e)
-    (ap (λ g. leq ((c .before .before .before .before .before .before .before) .args .groups .now) g ((c .before .before .before .before .before .before .before) .args .r .0)) (sym ((c .before .before) .reader .ensures t h)) ∙ sym ((c .before) .at-or-below .ensures) ∙ c .if2 .left))
+    let d = c .before in
+    let s = start d in
+    says-no (reads-no (S s) (s .args .place) f t (s .args .r .0) (formed d f t e h) (permitted d t _ h (c .if2 .left)))
 
 pub asks-spec : {M : Type 1} → statement M
 asks-spec =

@@ -1,10 +1,9 @@
--- `inference::both` meets its contract.
+-- `inference::both` meets its contract: the first type is moved up by a record, the second down to it, the record put in front.
 use mathlib.Core.Path.{_≡_, ap, _∙_}
 use Prim.Native.Nat.{_+_, _*_, _≤_}
 use native.Mathlib.Omega.{arith}
-use lib.ListN.{take, drop, length-take}
-use Rattle.calculus.specs.Types.{product, sizeT}
-use Rattle.rules.specs.Script.{r, ir}
+use lib.ListN.{length, take, drop, length-take}
+use Rattle.calculus.specs.Types.{product, Ty, sizeT}
 use Rattle.memory.proofs.Laws.{drop-past}
 use Rattle.inference.specs.Memory.{refuses}
 use Rattle.inference.proofs.Front.{held-bytes}
@@ -13,13 +12,39 @@ use borrow.Author.Needs.{needs}
 use Rattle.inference.proofs.both.Statement.{statement}
 use Rattle.inference.proofs.both.Tie as tie
 
+-- back from the record that is put in front: the second type was moved down, the first up, question 24 passed
+abbrev lowered : tie.After-put → tie.After-down
+lowered c = c .before .before .before .before
+
+abbrev lifted : tie.After-down → tie.After-up
+lifted c = c .before .before .before .before
+
+abbrev fitting : tie.After-up → tie.Else1
+fitting c = c .before .before
+
+abbrev start : tie.After-up → tie.Start
+start c = fitting c .before .before
+
+-- moving the first type up leaves the second where it was
+kept : (c : tie.After-up) (s t : Ty)
+    → let o = start c .args in o .n ≡ sizeT s → sizeT s + sizeT t ≤ 62 → 252 ≤ length (o .w .now)
+    → drop 252 (c .up .last .0) ≡ drop 252 (o .w .now)
+kept c s t e f l =
+    let n = 4 * start c .args .n in
+    let w = start c .args .w .now in
+    let z = length-take n w in
+    ap (drop 252) (c .up .ensures) ∙ drop-past 4 252 (take n w) w (omega arith) (omega arith)
+
 add-if1 : tie.Need-add-if1
 add-if1 c = search needs
 
 returns : tie.Need-returns
 returns c =
     λ s t b p q l.
-    meets-of (fits-no ((c .before .before) .args .place) product (record { r = (c .before .before) .args .r .0; ir = (c .before .before) .args .ir .0 }) s t (omega (arith, c .if1 .taken, p .count, q .count))) refuses
+    let o = c .before .before .args in
+    meets-of
+    (fits-no (o .place) product (record { r = o .r .0; ir = o .ir .0 }) s t (omega (arith, c .if1 .taken, p .count, q .count)))
+    refuses
 
 mul-up : tie.Need-mul-up
 mul-up c = search needs
@@ -54,14 +79,14 @@ same-length c = search needs
 returns-2 : tie.Need-returns-2
 returns-2 c =
     λ s t b p q l.
-    let w = (c .before .before .before .before .before .before .before .before .before .before .before .before .before .before) .args .w .now in
-    let n = (c .before .before .before .before .before .before .before .before .before .before .before .before .before .before) .args .n in
-    let m = (c .before .before .before .before .before .before .before .before .before .before .before .before .before .before) .args .m in
-    let f : sizeT s + sizeT t ≤ 62 = omega (arith, (c .before .before .before .before .before .before .before .before .before .before .before .before) .if1 .left, p .count, q .count) in
-    let d : drop 252 ((c .before .before .before .before .before .before .before .before .before .before) .up .last .0) ≡ drop 252 w =
-    ap (drop 252) ((c .before .before .before .before .before .before .before .before .before .before) .up .ensures) ∙ drop-past 4 252 (take (4 * n) w) w (omega (arith, length-take (4 * n) w, p .count, f)) (omega (arith, length-take (4 * n) w, p .count, f, l)) in
-    pair-meets ((c .before .before .before .before .before .before .before .before .before .before .before .before .before .before) .args .place) ((c .before .before .before .before .before .before .before .before .before .before .before .before .before .before) .args .r .0) ((c .before .before .before .before .before .before .before .before .before .before .before .before .before .before) .args .ir .0) n m s t f (p .count) (q .count) (held-bytes (p .held) n (p .count))
-    (ap (take (4 * m)) d ∙ held-bytes (q .held) m (q .count)) l ((c .before .before .before .before .before .before .before .before .before .before) .up .ensures) ((c .before .before .before .before .before .before) .down .ensures) ((c .before .before) .put .ensures)
+    let x = c .before .before in
+    let y = lowered x in
+    let u = lifted y in
+    let o = start u .args in
+    let f : sizeT s + sizeT t ≤ 62 = omega (arith, fitting u .if1 .left, p .count, q .count) in
+    pair-meets (o .place) (o .r .0) (o .ir .0) (o .n) (o .m) s t f (p .count) (q .count) (held-bytes (p .held) (o .n) (p .count))
+    (ap (take (4 * o .m)) (kept u s t (p .count) f (omega arith)) ∙ held-bytes (q .held) (o .m) (q .count)) l
+    (u .up .ensures) (y .down .ensures) (x .put .ensures)
 
 pub both-spec : {M : Type 1} → statement M
 both-spec =

@@ -1,19 +1,17 @@
--- `inference::enter` meets its contract.
+-- `inference::enter` meets its contract: a function and a recursion bind the named type, and question 23 is a recursion's.
 use mathlib.Core.Path.{_≡_, refl, sym, ap, _∙_}
-use mathlib.Core.List.{List, _∷_}
-use Prim.Native.Nat.{ℕ, _+_, _*_, _≤_}
+use mathlib.Core.Bool.{Bool}
+use Prim.Native.Nat.{ℕ, _+_, _*_, _≤_, _<_}
 use native.Mathlib.Omega.{arith}
 use lib.ListN.{length}
-use Rattle.calculus.specs.Security.{Property, Security}
+use Rattle.calculus.specs.Security.{Security}
 use Rattle.calculus.specs.Types.{Ty, top}
-use Rattle.calculus.specs.Terms.{Term, lam, mu}
-use Rattle.rules.specs.Answer.{Bytes, accepted, ask}
+use Rattle.rules.specs.Answer.{Bytes, ask}
 use Rattle.rules.specs.Groups.{readers}
-use Rattle.rules.specs.Types.{type-at}
-use Rattle.rules.specs.Script.{kind, r, ir, number}
-use Rattle.rules.specs.Typing.{q23}
+use Rattle.rules.specs.Types.{type-at, type-count, type-kind}
+use Rattle.rules.specs.Script.{r, ir, make}
 use Rattle.types.specs.Held.{kind-of}
-use Rattle.records.specs.Operands.{first-operand}
+use Rattle.records.specs.Operands.{first-operand, second-operand, third-operand}
 use Rattle.inference.specs.Memory.{Ready}
 use Rattle.inference.specs.Stages.{before-first, first-context}
 use Rattle.inference.proofs.Front.{right-is}
@@ -25,46 +23,91 @@ use borrow.Author.Needs.{needs}
 use Rattle.inference.proofs.enter.Statement.{statement}
 use Rattle.inference.proofs.enter.Tie as tie
 
+-- the call's groups, types and script
+abbrev S : tie.Start → Security
+S s = readers (s .args .groups .now)
+
+abbrev T : tie.Start → Bytes
+T s = s .args .types .now
+
+abbrev P : tie.Start → Bytes
+P s = s .args .s .now
+
+-- the kind and the number are read
+abbrev begin : tie.After-slice-known → tie.Start
+begin c = c .before .before .before .before
+
+abbrev start : tie.After-index → tie.Start
+start c = begin (c .before .before)
+
+-- a recursion
+abbrev read : tie.Then2 → tie.After-index
+read c = c .before .before
+
+abbrev I : tie.After-index → ℕ
+I c = c .index .result
+
+abbrev named-type : tie.After-index → Ty
+named-type c = type-at (T (start c)) (I c)
+
+abbrev Node : tie.After-index → Type 0
+Node c = let s = start c in Ready (T s) (P s) (s .args .place) (s .args .b) (s .args .w .now)
+
+shape : (c : tie.After-index) (v : Node c) (j : ℕ) → c .before .kind .result ≡ j
+    → let p = P (start c) in let e = v .tree in
+    e ≡ make j (r p 0) (ir p 0) (I c) (first-operand e) (second-operand e) (third-operand e)
+shape c v j q =
+    let p = P (start c) in
+    of-fields p (v .tree) j {a = r p 0} {b = ir p 0} (v .is) (sym (c .before .kind .ensures) ∙ q) refl refl (c .index .ensures)
+
+-- the room for one more binder
+level : {types s : Bytes} {place b : ℕ} {w : Bytes} → Ready types s place b w → 252 * (b + 1) ≤ length w
+level v = omega (arith, v .room, depth-positive (v .tree))
+
+-- the named type of a function, and of a recursion
+lam-named : (c : tie.Then1) (v : Node (c .before)) → I (c .before) < type-count (T (start (c .before)))
+lam-named c v =
+    let d = c .before in
+    lam-index (T (start d)) (start d .args .b) (I d) (v .tree) (v .formed) (shape d v 2 (c .if1 .taken))
+
+mu-named : (c : tie.Then2) (v : Node (read c))
+    → let t = T (start (read c)) in (I (read c) < type-count t) × (type-kind t (I (read c)) ≡ 3)
+mu-named c v =
+    let d = read c in
+    mu-index (T (start d)) (start d .args .b) (I d) (v .tree) (v .formed) (shape d v 11 (c .if2 .taken))
+
+function-kind : (c : tie.Then2) (v : Node (read c)) → kind-of (named-type (read c)) ≡ 0 → ⊥
+function-kind c v z = let m = mu-named c v in omega (arith, kind-at (v .table) (m .0))
+
+-- question 23, as it was answered
+asked : (c : tie.After-absorbs) (v : Node (read (c .before))) (x : Bool) → c .absorbs .result ≡ x
+    → let s = start (read (c .before)) in
+    before-first (S s) (type-at (T s)) (s .args .place) (v .tree) ≡ ask 23 (s .args .place) x
+unfolding before-first
+asked c v x q =
+    let j = c .before in
+    let d = read j in
+    let s = start d in
+    let p = s .args .place in
+    let t = named-type d in
+    ap (before-first (S s) (type-at (T s)) p) (shape d v 11 (j .if2 .taken))
+    ∙ ap (λ u. ask 23 p (S s .absorbs (top t) (top u))) (right-is t (function-kind j v))
+    ∙ ap (ask 23 p) (sym (c .absorbs .ensures t (v .table .entry (I d) (mu-named j v .0) .held)) ∙ q)
+
+node-long : (s : tie.Start) → 6 ≤ length (P s)
+node-long s = long (s .pre .tree) (s .pre .is)
+
 kind-requires : tie.Need-kind-requires
-kind-requires c κs = long ((c .before .before .before .before) .pre .tree) ((c .before .before .before .before) .pre .is)
+kind-requires c κs = node-long (begin c)
 
 index-requires : tie.Need-index-requires
-index-requires c κs = long ((c .before .before .before .before .before) .pre .tree) ((c .before .before .before .before .before) .pre .is)
-
-module _ (S : Security) (tab : ℕ → Ty) (Γ : List Ty) (p : ℕ) (e : Term) (i : ℕ) where
-  lam-asked : {k : Property} {a : Term} → e ≡ lam k i a → before-first S tab p e ≡ accepted tt
-  unfolding before-first
-  lam-asked q = ap (before-first S tab p) q
-
-  lam-context : {k : Property} {a : Term} → e ≡ lam k i a → first-context tab Γ e ≡ tab i ∷ Γ
-  unfolding first-context
-  lam-context q = ap (first-context tab Γ) q
-
-  mu-asked : {a : Term} → e ≡ mu i a → before-first S tab p e ≡ q23 S p (tab i)
-  unfolding before-first
-  mu-asked q = ap (before-first S tab p) q
-
-  mu-context : {a : Term} → e ≡ mu i a → first-context tab Γ e ≡ tab i ∷ Γ
-  unfolding first-context
-  mu-context q = ap (first-context tab Γ) q
-
-module _ {types s : Bytes} {place b : ℕ} {w : Bytes} (v : Ready types s place b w) {i : ℕ} (en : i ≡ number s 0) where
-  is-lam : kind s 0 ≡ 2 → v .tree ≡ lam (record { r = r s 0; ir = ir s 0 }) i (first-operand (v .tree))
-  is-lam q = of-fields s (v .tree) 2 {a = r s 0} {b = ir s 0} (v .is) q refl refl en
-
-  is-mu : kind s 0 ≡ 11 → v .tree ≡ mu i (first-operand (v .tree))
-  is-mu q = of-fields s (v .tree) 11 {a = r s 0} {b = ir s 0} (v .is) q refl refl en
-
-  level : 252 * (b + 1) ≤ length w
-  level = omega (arith, v .room, depth-positive (v .tree))
-
-  function-kind : (q : kind s 0 ≡ 11) → kind-of (type-at types i) ≡ 0 → ⊥
-  function-kind q z = let m = mu-index types b i (v .tree) (v .formed) (is-mu q) in omega (arith, kind-at (v .table) (m .0))
+index-requires c κs = node-long (begin (c .before))
 
 bind-requires : tie.Need-bind-requires
 bind-requires c κs =
-    let v = (c .before .before .before .before .before .before .before .before) .pre in
-    (named (v .table) (lam-index ((c .before .before .before .before .before .before .before .before) .args .types .now) ((c .before .before .before .before .before .before .before .before) .args .b) ((c .before .before) .index .result) (v .tree) (v .formed) (is-lam v ((c .before .before) .index .ensures) (sym ((c .before .before .before) .kind .ensures) ∙ (c .before) .if1 .taken))), level v ((c .before .before) .index .ensures))
+    let j = c .before in
+    let v = start (j .before) .pre in
+    (named (v .table) (lam-named j v), level v)
 
 add-t13 : tie.Need-add-t13
 add-t13 c = search needs
@@ -73,25 +116,28 @@ same-length : tie.Need-same-length
 same-length c = search needs
 
 returns : tie.Need-returns
+unfolding before-first first-context
 returns c =
     λ v.
-    let e = is-lam v ((c .before .before .before .before .before) .index .ensures) (sym ((c .before .before .before .before .before .before) .kind .ensures) ∙ (c .before .before .before .before) .if1 .taken) in
-    let types = (c .before .before .before .before .before .before .before .before .before .before .before) .args .types .now in
-    let S = readers ((c .before .before .before .before .before .before .before .before .before .before .before) .args .groups .now) in
-    let i = (c .before .before .before .before .before) .index .result in
-    enters-of (lam-asked S (type-at types) (v .ctx) ((c .before .before .before .before .before .before .before .before .before .before .before) .args .place) (v .tree) i e) (lam-context S (type-at types) (v .ctx) ((c .before .before .before .before .before .before .before .before .before .before .before) .args .place) (v .tree) i e)
-    ((c .before .before) .bind .ensures (v .ctx) (type-at types i) (v .table .entry i (lam-index ((c .before .before .before .before .before .before .before .before .before .before .before) .args .types .now) ((c .before .before .before .before .before .before .before .before .before .before .before) .args .b) ((c .before .before .before .before .before) .index .result) (v .tree) (v .formed) e)) (v .binders) (v .holds))
+    let x = c .before .before in
+    let j = x .before .before in
+    let d = j .before in
+    let s = start d in
+    let e = shape d v 2 (j .if1 .taken) in
+    enters-of (ap (before-first (S s) (type-at (T s)) (s .args .place)) e) (ap (first-context (type-at (T s)) (v .ctx)) e)
+    (x .bind .ensures (v .ctx) (named-type d) (v .table .entry (I d) (lam-named j v)) (v .binders) (v .holds))
 
 absorbs-requires : tie.Need-absorbs-requires
 absorbs-requires c κs =
-    let v = (c .before .before .before .before .before .before .before .before) .pre in
-    let m = mu-index ((c .before .before .before .before .before .before .before .before) .args .types .now) ((c .before .before .before .before .before .before .before .before) .args .b) ((c .before .before) .index .result) (v .tree) (v .formed) (is-mu v ((c .before .before) .index .ensures) (sym ((c .before .before .before) .kind .ensures) ∙ c .if2 .taken)) in
+    let v = start (read c) .pre in
+    let m = mu-named c v in
     named-sided (v .table) (m .0) (m .1)
 
 bind-requires-2 : tie.Need-bind-requires-2
 bind-requires-2 c κs =
-    let v = (c .before .before .before .before .before .before .before .before .before .before .before) .pre in
-    (named (v .table) (mu-index ((c .before .before .before .before .before .before .before .before .before .before .before) .args .types .now) ((c .before .before .before .before .before .before .before .before .before .before .before) .args .b) ((c .before .before .before .before .before) .index .result) (v .tree) (v .formed) (is-mu v ((c .before .before .before .before .before) .index .ensures) (sym ((c .before .before .before .before .before .before) .kind .ensures) ∙ (c .before .before .before) .if2 .taken)) .0), level v ((c .before .before .before .before .before) .index .ensures))
+    let j = c .before .before .before in
+    let v = start (read j) .pre in
+    (named (v .table) (mu-named j v .0), level v)
 
 add-t18 : tie.Need-add-t18
 add-t18 c = search needs
@@ -100,40 +146,29 @@ same-length-2 : tie.Need-same-length-2
 same-length-2 c = search needs
 
 returns-2 : tie.Need-returns-2
+unfolding first-context
 returns-2 c =
     λ v.
-    let q = sym ((c .before .before .before .before .before .before .before .before .before) .kind .ensures) ∙ (c .before .before .before .before .before .before) .if2 .taken in
-    let e = is-mu v ((c .before .before .before .before .before .before .before .before) .index .ensures) q in
-    let types = (c .before .before .before .before .before .before .before .before .before .before .before .before .before .before) .args .types .now in
-    let S = readers ((c .before .before .before .before .before .before .before .before .before .before .before .before .before .before) .args .groups .now) in
-    let i = (c .before .before .before .before .before .before .before .before) .index .result in
-    let sl = v .table .entry i (mu-index ((c .before .before .before .before .before .before .before .before .before .before .before .before .before .before) .args .types .now) ((c .before .before .before .before .before .before .before .before .before .before .before .before .before .before) .args .b) ((c .before .before .before .before .before .before .before .before) .index .result) (v .tree) (v .formed) e .0) in
-    let a = (c .before .before .before .before .before) .absorbs .ensures (type-at types i) (sl .held) in
-    enters-of
-    (mu-asked S (type-at types) (v .ctx) ((c .before .before .before .before .before .before .before .before .before .before .before .before .before .before) .args .place) (v .tree) i e
-    ∙ ap (λ u. ask 23 ((c .before .before .before .before .before .before .before .before .before .before .before .before .before .before) .args .place) (S .absorbs (top (type-at types i)) (top u))) (right-is (type-at types i) (function-kind v ((c .before .before .before .before .before .before .before .before) .index .ensures) q))
-    ∙ ap (ask 23 ((c .before .before .before .before .before .before .before .before .before .before .before .before .before .before) .args .place)) (sym a ∙ (c .before .before .before .before) .if3 .taken))
-    (mu-context S (type-at types) (v .ctx) ((c .before .before .before .before .before .before .before .before .before .before .before .before .before .before) .args .place) (v .tree) i e) ((c .before .before) .bind2 .ensures (v .ctx) (type-at types i) sl (v .binders) (v .holds))
+    let x = c .before .before in
+    let y = x .before .before in
+    let a = y .before in
+    let j = a .before in
+    let d = read j in
+    enters-of (asked a v _ (y .if3 .taken))
+    (ap (first-context (type-at (T (start d))) (v .ctx)) (shape d v 11 (j .if2 .taken)))
+    (x .bind2 .ensures (v .ctx) (named-type d) (v .table .entry (I d) (mu-named j v .0)) (v .binders) (v .holds))
 
 returns-3 : tie.Need-returns-3
-returns-3 c =
-    λ v.
-    let q = sym ((c .before .before .before .before .before) .kind .ensures) ∙ (c .before .before) .if2 .taken in
-    let e = is-mu v ((c .before .before .before .before) .index .ensures) q in
-    let types = (c .before .before .before .before .before .before .before .before .before .before) .args .types .now in
-    let S = readers ((c .before .before .before .before .before .before .before .before .before .before) .args .groups .now) in
-    let i = (c .before .before .before .before) .index .result in
-    let sl = v .table .entry i (mu-index ((c .before .before .before .before .before .before .before .before .before .before) .args .types .now) ((c .before .before .before .before .before .before .before .before .before .before) .args .b) ((c .before .before .before .before) .index .result) (v .tree) (v .formed) e .0) in
-    let a = (c .before) .absorbs .ensures (type-at types i) (sl .held) in
-    stops-of
-    (mu-asked S (type-at types) (v .ctx) ((c .before .before .before .before .before .before .before .before .before .before) .args .place) (v .tree) i e
-    ∙ ap (λ u. ask 23 ((c .before .before .before .before .before .before .before .before .before .before) .args .place) (S .absorbs (top (type-at types i)) (top u))) (right-is (type-at types i) (function-kind v ((c .before .before .before .before) .index .ensures) q))
-    ∙ ap (ask 23 ((c .before .before .before .before .before .before .before .before .before .before) .args .place)) (sym a ∙ c .if3 .left))
+returns-3 c = λ v. stops-of (asked (c .before) v _ (c .if3 .left))
 
 returns-4 : tie.Need-returns-4
 returns-4 c =
     λ v.
-    let pl = plain (readers ((c .before .before .before .before .before .before .before .before) .args .groups .now)) (type-at ((c .before .before .before .before .before .before .before .before) .args .types .now)) (v .ctx) ((c .before .before .before .before .before .before .before .before) .args .place) (v .tree) (v .is) (λ z. (c .before) .if1 .left ((c .before .before .before) .kind .ensures ∙ z)) (λ z. c .if2 .left ((c .before .before .before) .kind .ensures ∙ z)) in
+    let d = c .before .before in
+    let s = start d in
+    let k = d .before .kind .ensures in
+    let pl = plain (S s) (type-at (T s)) (v .ctx) (s .args .place) (v .tree) (v .is)
+    (λ z. c .before .if1 .left (k ∙ z)) (λ z. c .if2 .left (k ∙ z)) in
     enters-of (pl .asked) (pl .context) (stayed (v .binders) (v .holds))
 
 pub enter-spec : {M : Type 1} → statement M

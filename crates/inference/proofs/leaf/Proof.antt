@@ -1,46 +1,28 @@
--- `inference::leaf` meets its contract.
+-- `inference::leaf` meets its contract: a node without operands is a variable or a unit.
 use mathlib.Core.Path.{_≡_, refl, sym, ap, _∙_, subst}
-use mathlib.Core.List.{List, [], _∷_}
-use Prim.Native.Nat.{ℕ, _<_}
+use mathlib.Core.List.{[], _∷_}
+use Prim.Native.Nat.{ℕ, _≤_, _<_}
 use native.Mathlib.Omega.{arith}
-use lib.ListN.{getD}
+use lib.ListN.{length}
 use Rattle.calculus.specs.Security.{Property}
-use Rattle.calculus.specs.Types.{Ty, one, sizeT}
-use Rattle.calculus.specs.Subtyping.{below}
+use Rattle.calculus.specs.Types.{one, sizeT}
 use Rattle.calculus.specs.Terms.{Term, var, unit}
-use Rattle.rules.specs.Answer.{Bytes, accepted}
-use Rattle.rules.specs.Types.{encode-type, no-type}
-use Rattle.rules.specs.Script.{kind, r, ir, number}
+use Rattle.rules.specs.Answer.{Bytes}
+use Rattle.rules.specs.Types.{encode-type}
+use Rattle.rules.specs.Script.{r, ir, number}
 use Rattle.inference.specs.Operands.{Formed}
 use Rattle.inference.specs.Memory.{finds}
 use Rattle.inference.specs.Stages.{leaf-type, Leaf}
 use Rattle.inference.proofs.Regions.{wrote-first}
-use Rattle.inference.proofs.Shapes.{long, of-kind, unit-kind, of-fields}
+use Rattle.inference.proofs.Shapes.{long, unit-kind, of-fields}
 use Rattle.inference.proofs.Rules.{meets-of}
 use borrow.Author.Needs.{needs}
 use Rattle.inference.proofs.leaf.Statement.{statement}
 use Rattle.inference.proofs.leaf.Tie as tie
 
-kind-requires : tie.Need-kind-requires
-kind-requires c κs = long ((c .before .before) .pre .tree) ((c .before .before) .pre .is)
-
-index-requires : tie.Need-index-requires
-index-requires c κs = long ((c .before .before .before .before) .pre .tree) ((c .before .before .before .before) .pre .is)
-
-var-is : (s : Bytes) (b : ℕ) (w : Bytes) (v : Leaf s b w) → kind s 0 ≡ 0 → v .tree ≡ var (number s 0)
-var-is s b w v q = of-kind s (v .tree) 0 (v .is) q
-
 in-scope : (t : Bytes) (b n : ℕ) (e : Term) → e ≡ var n → Formed t b e → n < b
 unfolding Formed
 in-scope t b n e p f = subst (λ d. Formed t b d) p f
-
-leaf-var : (Γ : List Ty) (n : ℕ) (e : Term) → e ≡ var n → leaf-type Γ e ≡ accepted (getD Γ n no-type)
-unfolding leaf-type
-leaf-var Γ n e p = ap (leaf-type Γ) p
-
-leaf-unit : (Γ : List Ty) (k : Property) (e : Term) → e ≡ unit k → leaf-type Γ e ≡ accepted (one k)
-unfolding leaf-type
-leaf-unit Γ k e p = ap (leaf-type Γ) p
 
 unit-bytes : (k : Property) → encode-type (one k) ≡ 0 ∷ k .r ∷ k .ir ∷ 0 ∷ []
 unfolding encode-type
@@ -50,15 +32,66 @@ unit-size : (k : Property) → 1 ≡ sizeT (one k)
 unfolding sizeT
 unit-size k = refl
 
+-- the call's script and node
+abbrev P : tie.Start → Bytes
+P s = s .args .s .now
+
+abbrev Node : tie.Start → Type 0
+Node s = Leaf (P s) (s .args .b) (s .args .w .now)
+
+-- the kind is read
+abbrev begin : tie.After-slice-known → tie.Start
+begin c = c .before .before
+
+abbrev start : tie.After-kind → tie.Start
+start c = begin (c .before)
+
+-- a variable: its index is read
+abbrev var-start : tie.After-index → tie.Start
+var-start c = start (c .before .before)
+
+is-var : (c : tie.After-index) (v : Node (var-start c)) → v .tree ≡ var (c .index .result)
+is-var c v =
+    let i = c .before in
+    let p = P (var-start c) in
+    of-fields p (v .tree) 0 {a = r p 0} {b = ir p 0} (v .is) (sym (i .before .kind .ensures) ∙ i .if1 .taken) refl refl (c .index .ensures)
+
+-- a unit: its property is read
+abbrev no-var : tie.After-indirect → tie.Else1
+no-var c = c .before .before .before
+
+abbrev unit-start : tie.After-indirect → tie.Start
+unit-start c = start (no-var c .before)
+
+abbrev K : tie.After-indirect → Property
+K c = record { r = c .before .reader .result .0; ir = c .indirect .result .0 }
+
+is-unit : (c : tie.After-indirect) (v : Node (unit-start c)) → v .tree ≡ unit (K c)
+is-unit c v =
+    let i = no-var c in
+    let p = P (unit-start c) in
+    let q = unit-kind (v .tree) (v .is) (v .leaf) (λ z. i .if1 .left (i .before .kind .ensures ∙ z)) in
+    of-fields p (v .tree) 1 {n = number p 0} (v .is) q (c .before .reader .ensures) (c .indirect .ensures) refl
+
+node-long : (s : tie.Start) → 6 ≤ length (P s)
+node-long s = long (s .pre .tree) (s .pre .is)
+
+kind-requires : tie.Need-kind-requires
+kind-requires c κs = node-long (begin c)
+
+index-requires : tie.Need-index-requires
+index-requires c κs = node-long (start (c .before))
+
 variable-requires : tie.Need-variable-requires
 variable-requires c κs =
-    let v = (c .before .before .before .before .before .before) .pre in
-    let q = sym ((c .before .before .before) .kind .ensures) ∙ (c .before .before) .if1 .taken in
+    let d = c .before in
+    let s = var-start d in
+    let v = s .pre in
     record {
       ctx = v .ctx;
       binders = v .binders;
       holds = v .holds;
-      below = subst (λ n. n < (c .before .before .before .before .before .before) .args .b) (sym ((c .before) .index .ensures)) (in-scope (v .types) ((c .before .before .before .before .before .before) .args .b) _ (v .tree) (var-is _ _ _ v q) (v .formed));
+      below = in-scope (v .types) (s .args .b) (d .index .result) (v .tree) (is-var d v) (v .formed);
       room = v .room;
     }
 
@@ -66,18 +99,17 @@ same-length : tie.Need-same-length
 same-length c = search needs
 
 returns : tie.Need-returns
+unfolding leaf-type
 returns c =
     λ v.
-    let q = sym ((c .before .before .before .before .before .before) .kind .ensures) ∙ (c .before .before .before .before .before) .if1 .taken in
-    meets-of
-    (leaf-var (v .ctx) _ (v .tree) (var-is _ _ _ v q) ∙ ap (λ n. accepted (getD (v .ctx) n no-type)) (sym ((c .before .before .before .before) .index .ensures)))
-    ((c .before .before) .variable .ensures (v .ctx) (v .binders) (v .holds))
+    let x = c .before .before in
+    meets-of (ap (leaf-type (v .ctx)) (is-var (x .before .before) v)) (x .variable .ensures (v .ctx) (v .binders) (v .holds))
 
 reader-requires : tie.Need-reader-requires
-reader-requires c κs = long ((c .before .before .before .before .before) .pre .tree) ((c .before .before .before .before .before) .pre .is)
+reader-requires c κs = node-long (start (c .before .before))
 
 indirect-requires : tie.Need-indirect-requires
-indirect-requires c κs = long ((c .before .before .before .before .before .before) .pre .tree) ((c .before .before .before .before .before .before) .pre .is)
+indirect-requires c κs = node-long (start (c .before .before .before))
 
 put-requires : tie.Need-put-requires
 put-requires c κs = search needs
@@ -86,13 +118,13 @@ same-length-2 : tie.Need-same-length-2
 same-length-2 c = search needs
 
 returns-2 : tie.Need-returns-2
+unfolding leaf-type
 returns-2 c =
     λ v.
-    let k : Property = record { r = (c .before .before .before .before) .reader .result .0; ir = (c .before .before .before) .indirect .result .0 } in
-    let q = unit-kind (v .tree) (v .is) (v .leaf) (λ z. (c .before .before .before .before .before .before) .if1 .left ((c .before .before .before .before .before .before .before) .kind .ensures ∙ z)) in
-    let e : v .tree ≡ unit k = of-fields ((c .before .before .before .before .before .before .before .before .before .before) .args .s .now) (v .tree) 1 {n = number ((c .before .before .before .before .before .before .before .before .before .before) .args .s .now) 0} (v .is) q ((c .before .before .before .before) .reader .ensures) ((c .before .before .before) .indirect .ensures) refl in
-    meets-of (leaf-unit (v .ctx) k (v .tree) e)
-    (finds (wrote-first (unit-size k) (omega (arith, unit-size k)) (sym (unit-bytes k)) (v .room) ((c .before .before) .put .ensures)))
+    let x = c .before .before in
+    let d = x .before in
+    meets-of (ap (leaf-type (v .ctx)) (is-unit d v))
+    (finds (wrote-first (unit-size (K d)) (omega (arith, unit-size (K d))) (sym (unit-bytes (K d))) (v .room) (x .put .ensures)))
 
 pub leaf-spec : {M : Type 1} → statement M
 leaf-spec =

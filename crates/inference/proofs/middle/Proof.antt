@@ -1,18 +1,18 @@
--- `inference::middle` meets its contract.
+-- `inference::middle` meets its contract: the node's shape from its fields, then the callee's answer for that shape.
 use mathlib.Core.Path.{_≡_, refl, sym, ap, _∙_}
-use mathlib.Core.List.{List, _∷_}
-use Prim.Native.Nat.{ℕ}
+use Prim.Native.Nat.{ℕ, _≤_}
 use native.Mathlib.Omega.{arith}
-use Rattle.calculus.specs.Security.{Property, Security}
-use Rattle.calculus.specs.Types.{sum, function, Ty}
-use Rattle.calculus.specs.Terms.{Term, pair, app, case}
-use Rattle.rules.specs.Answer.{Bytes, accepted}
+use lib.ListN.{length}
+use Rattle.calculus.specs.Security.{Security}
+use Rattle.calculus.specs.Types.{function, Ty}
+use Rattle.calculus.specs.Terms.{Term}
+use Rattle.rules.specs.Answer.{Bytes}
 use Rattle.rules.specs.Groups.{readers}
-use Rattle.rules.specs.Script.{ir, number}
-use Rattle.rules.specs.Typing.{left}
+use Rattle.rules.specs.Script.{kind, ir, number, make}
+use Rattle.records.specs.Operands.{first-operand, second-operand, third-operand}
 use Rattle.inference.specs.Operands.{operand-count}
 use Rattle.inference.specs.Memory.{Sized}
-use Rattle.inference.specs.Stages.{may-read, between, second-context, Aside}
+use Rattle.inference.specs.Stages.{between, second-context, Some, Aside}
 use Rattle.inference.proofs.Regions.{stayed}
 use Rattle.inference.proofs.Shapes.{long, of-kind, case-kind, of-fields}
 use Rattle.inference.proofs.Rules.{passes-of, front-passes, slot-passes}
@@ -20,60 +20,64 @@ use borrow.Author.Needs.{needs}
 use Rattle.inference.proofs.middle.Statement.{statement}
 use Rattle.inference.proofs.middle.Tie as tie
 
-kind-requires : tie.Need-kind-requires
-kind-requires c κs = long ((c .before .before .before) .pre .tree) ((c .before .before .before) .pre .is)
+-- the call's groups, script and node
+abbrev S : tie.Start → Security
+S s = readers (s .args .groups .now)
 
-module _ (S : Security) (p : ℕ) (Γ : List Ty) (s : Ty) (e : Term) where
-  pair-asked : {k : Property} {x y : Term} → e ≡ pair k x y → between S p e s ≡ accepted tt
-  unfolding between
-  pair-asked q = ap (λ d. between S p d s) q
+abbrev P : tie.Start → Bytes
+P s = s .args .s .now
 
-  pair-context : {k : Property} {x y : Term} → e ≡ pair k x y → second-context Γ e s ≡ Γ
-  unfolding second-context
-  pair-context q = ap (λ d. second-context Γ d s) q
+abbrev Node : tie.Start → Type 0
+Node s = Some (P s) (s .args .b) (s .args .w .now) (s .args .n)
 
-  pair-count : {k : Property} {x y : Term} → e ≡ pair k x y → operand-count e ≡ 2
-  unfolding operand-count
-  pair-count q = ap operand-count q
+-- the kind is read
+abbrev begin : tie.After-slice-known → tie.Start
+begin c = c .before .before .before
 
-  app-asked : {w : ℕ} {x y : Term} → e ≡ app w x y → between S p e s ≡ may-read S p function s w
-  unfolding between
-  app-asked q = ap (λ d. between S p d s) q
+-- and, where the node is no pair, the reader
+abbrev kinded : tie.After-reader → tie.After-kind
+kinded c = c .before .before
 
-  app-context : {w : ℕ} {x y : Term} → e ≡ app w x y → second-context Γ e s ≡ Γ
-  unfolding second-context
-  app-context q = ap (λ d. second-context Γ d s) q
+abbrev start : tie.After-reader → tie.Start
+start c = begin (kinded c .before)
 
-  app-count : {w : ℕ} {x y : Term} → e ≡ app w x y → operand-count e ≡ 2
-  unfolding operand-count
-  app-count q = ap operand-count q
+shape : (c : tie.After-reader) (v : Node (start c)) (j : ℕ) → kind (P (start c)) 0 ≡ j
+    → let p = P (start c) in let e = v .tree in
+    e ≡ make j (c .reader .result .0) (ir p 0) (number p 0) (first-operand e) (second-operand e) (third-operand e)
+shape c v j q =
+    let p = P (start c) in
+    of-fields p (v .tree) j {b = ir p 0} {n = number p 0} (v .is) q (c .reader .ensures) refl refl
 
-  case-asked : {w i : ℕ} {x y z : Term} → e ≡ case w i x y z → between S p e s ≡ may-read S p sum s w
-  unfolding between
-  case-asked q = ap (λ d. between S p d s) q
+-- the questions and the second operand's context, for a node of a shape
+asked : (s : tie.Start) (v : Node s) {e : Term} → v .tree ≡ e
+    → between (S s) (s .args .place) (v .tree) (v .type) ≡ between (S s) (s .args .place) e (v .type)
+asked s v q = ap (λ e. between (S s) (s .args .place) e (v .type)) q
 
-  case-context : {w i : ℕ} {x y z : Term} → e ≡ case w i x y z → second-context Γ e s ≡ left s ∷ Γ
-  unfolding second-context
-  case-context q = ap (λ d. second-context Γ d s) q
-
-  case-count : {w i : ℕ} {x y z : Term} → e ≡ case w i x y z → operand-count e ≡ 3
-  unfolding operand-count
-  case-count q = ap operand-count q
+context : (s : tie.Start) (v : Node s) {e : Term} → v .tree ≡ e
+    → second-context (v .ctx) (v .tree) (v .type) ≡ second-context (v .ctx) e (v .type)
+context s v q = ap (λ e. second-context (v .ctx) e (v .type)) q
 
 -- the first type stays in front
 front-aside : {e : Term} {s : Ty} {b : ℕ} {w : Bytes} {n : ℕ} → operand-count e ≡ 2 → Sized w n s → Aside e s b w n
 front-aside o h = record { front = λ z. h; slot = λ z. absurd (omega arith) }
 
+node-long : (s : tie.Start) → 6 ≤ length (P s)
+node-long s = long (s .pre .tree) (s .pre .is)
+
+kind-requires : tie.Need-kind-requires
+kind-requires c κs = node-long (begin c)
+
 returns : tie.Need-returns
+unfolding between second-context operand-count
 returns c =
     λ v.
-    let S = readers ((c .before .before .before .before .before) .args .groups .now) in
-    let e = of-kind ((c .before .before .before .before .before) .args .s .now) (v .tree) 3 (v .is) (sym ((c .before) .kind .ensures) ∙ c .if1 .taken) in
-    passes-of (pair-asked S ((c .before .before .before .before .before) .args .place) (v .ctx) (v .type) (v .tree) e) (pair-context S ((c .before .before .before .before .before) .args .place) (v .ctx) (v .type) (v .tree) e)
-    (stayed (v .binders) (v .holds)) (front-aside (pair-count S ((c .before .before .before .before .before) .args .place) (v .ctx) (v .type) (v .tree) e) (v .sized))
+    let k = c .before in
+    let s = begin (k .before) in
+    let e = of-kind (P s) (v .tree) 3 (v .is) (sym (k .kind .ensures) ∙ c .if1 .taken) in
+    passes-of (asked s v e) (context s v e) (stayed (v .binders) (v .holds)) (front-aside (ap operand-count e) (v .sized))
 
 reader-requires : tie.Need-reader-requires
-reader-requires c κs = long ((c .before .before .before .before .before) .pre .tree) ((c .before .before .before .before .before) .pre .is)
+reader-requires c κs = node-long (begin (c .before .before))
 
 asks-requires : tie.Need-asks-requires
 asks-requires c κs = search needs
@@ -82,13 +86,15 @@ same-length : tie.Need-same-length
 same-length c = search needs
 
 returns-2 : tie.Need-returns-2
+unfolding between second-context operand-count
 returns-2 c =
     λ v.
-    let S = readers ((c .before .before .before .before .before .before .before .before .before) .args .groups .now) in
-    let s = (c .before .before .before .before .before .before .before .before .before) .args .s .now in
-    let e = of-fields s (v .tree) 6 {b = ir s 0} {n = number s 0} (v .is) (sym ((c .before .before .before .before .before) .kind .ensures) ∙ (c .before .before) .if2 .taken) ((c .before .before .before) .reader .ensures) refl refl in
-    front-passes (c .asks .ensures function (v .type) refl (v .sized .held)) (app-asked S ((c .before .before .before .before .before .before .before .before .before) .args .place) (v .ctx) (v .type) (v .tree) e)
-    (app-context S ((c .before .before .before .before .before .before .before .before .before) .args .place) (v .ctx) (v .type) (v .tree) e) (stayed (v .binders) (v .holds)) (front-aside (app-count S ((c .before .before .before .before .before .before .before .before .before) .args .place) (v .ctx) (v .type) (v .tree) e) (v .sized))
+    let i = c .before .before in
+    let d = i .before in
+    let s = start d in
+    let e = shape d v 6 (sym (kinded d .kind .ensures) ∙ i .if2 .taken) in
+    front-passes (c .asks .ensures function (v .type) refl (v .sized .held)) (asked s v e) (context s v e)
+    (stayed (v .binders) (v .holds)) (front-aside (ap operand-count e) (v .sized))
 
 test-requires : tie.Need-test-requires
 test-requires c κs = search needs
@@ -97,14 +103,17 @@ same-length-2 : tie.Need-same-length-2
 same-length-2 c = search needs
 
 returns-3 : tie.Need-returns-3
+unfolding between second-context operand-count
 returns-3 c =
     λ v.
-    let S = readers ((c .before .before .before .before .before .before .before .before .before .before .before) .args .groups .now) in
-    let s = (c .before .before .before .before .before .before .before .before .before .before .before) .args .s .now in
-    let q = case-kind (v .tree) (v .is) (v .some) (λ z. (c .before .before .before .before .before .before) .if1 .left ((c .before .before .before .before .before .before .before) .kind .ensures ∙ z)) (λ z. (c .before .before .before .before) .if2 .left ((c .before .before .before .before .before .before .before) .kind .ensures ∙ z)) in
-    let e = of-fields s (v .tree) 9 {b = ir s 0} {n = number s 0} (v .is) q ((c .before .before .before .before .before) .reader .ensures) refl refl in
-    slot-passes ((c .before .before) .test .ensures (v .ctx) (v .type) (v .sized) (v .binders) (v .holds)) (case-asked S ((c .before .before .before .before .before .before .before .before .before .before .before) .args .place) (v .ctx) (v .type) (v .tree) e)
-    (case-context S ((c .before .before .before .before .before .before .before .before .before .before .before) .args .place) (v .ctx) (v .type) (v .tree) e) (case-count S ((c .before .before .before .before .before .before .before .before .before .before .before) .args .place) (v .ctx) (v .type) (v .tree) e)
+    let x = c .before .before in
+    let i = x .before .before in
+    let d = i .before in
+    let s = start d in
+    let k = kinded d .kind .ensures in
+    let q = case-kind (v .tree) (v .is) (v .some) (λ z. d .before .if1 .left (k ∙ z)) (λ z. i .if2 .left (k ∙ z)) in
+    let e = shape d v 9 q in
+    slot-passes (x .test .ensures (v .ctx) (v .type) (v .sized) (v .binders) (v .holds)) (asked s v e) (context s v e) (ap operand-count e)
 
 pub middle-spec : {M : Type 1} → statement M
 middle-spec =

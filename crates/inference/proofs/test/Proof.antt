@@ -1,12 +1,15 @@
--- `inference::test` meets its contract.
-use mathlib.Core.Path.{refl, sym, ap, _∙_, subst}
+-- `inference::test` meets its contract: a type that passes question 20 has two sides, and they are moved to the next slot.
+use mathlib.Core.Path.{_≡_, refl, sym, ap, _∙_, subst}
 use Prim.Native.Nat.{_+_, _-_, _*_, _≤_}
 use native.Mathlib.Omega.{arith}
 use lib.ListN.{length, take, drop}
-use Rattle.calculus.specs.Types.{sum}
+use Rattle.calculus.specs.Security.{Security}
+use Rattle.calculus.specs.Types.{sum, Ty}
+use Rattle.rules.specs.Answer.{Bytes, accepted}
 use Rattle.rules.specs.Groups.{readers}
+use Rattle.types.specs.Held.{Held}
 use Rattle.inference.specs.Memory.{high, Slot}
-use Rattle.inference.specs.Stages.{aside, fails}
+use Rattle.inference.specs.Stages.{may-read, aside, fails}
 use Rattle.inference.proofs.Front.{left-is, sides-bytes}
 use Rattle.types.proofs.Parts.{type-positive}
 use Rattle.inference.proofs.Regions.{entered, beside-written}
@@ -14,6 +17,24 @@ use Rattle.inference.proofs.Rules.{read-two, said-yes, says-refused}
 use borrow.Author.Needs.{needs}
 use Rattle.inference.proofs.test.Statement.{statement}
 use Rattle.inference.proofs.test.Tie as tie
+
+abbrev S : tie.Start → Security
+S s = readers (s .args .groups .now)
+
+abbrev W : tie.Start → Bytes
+W s = s .args .w .now
+
+-- questions 20 and 21 are asked
+abbrev begin : tie.After-asks → tie.Start
+begin c = c .before .before .before .before
+
+-- and answered yes
+abbrev start : tie.After-enum-told → tie.Start
+start c = begin (c .before .before)
+
+may : (c : tie.After-enum-told) (t : Ty) → Held (W (start c)) t
+    → let s = start c in may-read (S s) (s .args .place) sum t (s .args .r .0) ≡ accepted tt
+may c t h = let m = c .before in said-yes (m .match .keys1) (m .before .asks .ensures sum t refl h)
 
 add-asks : tie.Need-add-asks
 add-asks c = search needs
@@ -33,7 +54,8 @@ same-length c = search needs
 returns : tie.Need-returns
 returns c =
     λ Γ t h l k.
-    let z = says-refused ((c .before) .match .keys2) ((c .before .before) .asks .ensures sum t refl (h .held)) in
+    let m = c .before in
+    let z = says-refused (m .match .keys2) (m .before .asks .ensures sum t refl (h .held)) in
     fails (z .2) (z .3)
 
 add-at : tie.Need-add-at
@@ -46,7 +68,7 @@ sub-at : tie.Need-sub-at
 sub-at c = search needs
 
 sub-up : tie.Need-sub-up
-sub-up c = omega (arith, (c .before .before .before .before .before .before .before) .pre .0 .sized .count, type-positive ((c .before .before .before .before .before .before .before) .pre .0 .type))
+sub-up c = let p = start (c .before) .pre .0 in omega (arith, p .sized .count, type-positive (p .type))
 
 mul-up : tie.Need-mul-up
 mul-up c = search needs
@@ -63,12 +85,19 @@ same-length-2 c = search needs
 returns-2 : tie.Need-returns-2
 returns-2 c =
     λ Γ t h l k.
-    let w = (c .before .before .before .before .before .before .before .before .before .before) .args .w .now in
-    let ok = said-yes ((c .before .before .before .before .before) .match .keys1) ((c .before .before .before .before .before .before) .asks .ensures sum t refl (h .held)) in
-    let nz = read-two (readers ((c .before .before .before .before .before .before .before .before .before .before) .args .groups .now)) ((c .before .before .before .before .before .before .before .before .before .before) .args .place) sum t ((c .before .before .before .before .before .before .before .before .before .before) .args .r .0) ok in
-    let room : 252 * ((c .before .before .before .before .before .before .before .before .before .before) .args .b + 1) ≤ length w = omega (arith, (c .before .before .before .before .before .before .before .before .before .before) .pre .1) in
-    let d = beside-written {t = t} {b = (c .before .before .before .before .before .before .before .before .before .before) .args .b} w ((c .before .before) .up .last .0) nz (h .small) (ap (λ j. take (4 * (j - 1)) (drop 4 w)) (h .count) ∙ sides-bytes w t (h .held) nz) room ((c .before .before) .up .ensures) in
-    aside ok refl (d .0) (entered (subst (λ u. Slot (high ((c .before .before .before .before .before .before .before .before .before .before) .args .b + 1) ((c .before .before) .up .last .0)) u) (sym (left-is t nz)) (d .0 .left)) (d .1) (d .2) room l k)
+    let x = c .before .before in
+    let d = x .before .before in
+    let s = start d in
+    let w = W s in
+    let w′ = x .up .last .0 in
+    let b = s .args .b in
+    let ok = may d t (h .held) in
+    let nz = read-two (S s) (s .args .place) sum t (s .args .r .0) ok in
+    let room : 252 * (b + 1) ≤ length w = omega (arith, s .pre .1) in
+    let q = beside-written {t = t} {b = b} w w′ nz (h .small)
+    (ap (λ j. take (4 * (j - 1)) (drop 4 w)) (h .count) ∙ sides-bytes w t (h .held) nz) room (x .up .ensures) in
+    let left = subst (λ u. Slot (high (b + 1) w′) u) (sym (left-is t nz)) (q .0 .left) in
+    aside ok refl (q .0) (entered left (q .1) (q .2) room l k)
 
 pub test-spec : {M : Type 1} → statement M
 test-spec =

@@ -1,28 +1,31 @@
--- The two walks meet their contracts. The measure is the length of the first part. Each is given that the other meets its contract
--- on shorter parts; what is known at each place goes by both directions' laws, in `Order`.
+-- `subtyping::at_or_above` and `at_or_below` meet their contracts: each calls both on shorter parts, and `Order` has the laws once
+-- for both directions. The measure is the length of the first part.
 use mathlib.Core.Path.{_≡_, sym, ap, _∙_}
 use mathlib.Core.Logic.{⊎-elim}
-use Prim.Native.Nat.{ℕ, _<_}
+use Prim.Native.Nat.{ℕ, _+_, _*_, _≤_, _<_}
 use native.Mathlib.Omega.{arith}
 use borrow.Author.Needs.{needs}
 use borrow.Author.Tests.{not-true, not-false}
 use lib.ListN.{length}
-use Rattle.calculus.specs.Subtyping.{Direction, below, above}
+use Rattle.calculus.specs.Security.{Security}
+use Rattle.calculus.specs.Subtyping.{Direction, below, above, opposite}
+use Rattle.rules.specs.Answer.{Bytes}
 use Rattle.rules.specs.Groups.{readers}
 use Rattle.calculus.specs.Types.{Ty}
 use Rattle.subtyping.specs.declared.Compared.{Compared}
-use Rattle.types.specs.Held.{Held, left-of, right-of}
+use Rattle.types.specs.Held.{Held, kind-of, left-of, right-of}
 use Rattle.subtyping.specs.Compared.{compared}
 use Rattle.types.proofs.Parts.{parts}
-use Rattle.subtyping.proofs.Order.{turned, turned-function, turned-other, firsts-above, unrelated, is-unrelated, Alike, Lefts, Rights, at-unit, sided-a, sided-b, no-left, counted-a, counted-b, no-right, all-related, bounded}
+use Rattle.subtyping.proofs.Order.{turned, turned-function, turned-other, firsts-above, unrelated, is-unrelated}
+use Rattle.subtyping.proofs.Order.{Alike, at-unit, sided-a, sided-b}
+use Rattle.subtyping.proofs.Order.{Lefts, Rights, no-left, counted-a, counted-b, no-right, all-related, bounded}
 use borrow.Fn.Kinds.{In}
 use borrow.Fn.PlainCycle.{Measures, is, falls, and}
+use Rattle.subtyping.proofs.at_or_above.Kinds as kinds
 use Rattle.subtyping.proofs.at_or_above.Reads as at-or-above
-use Rattle.subtyping.proofs.at_or_above.Kinds as at-or-above-kinds
-use Rattle.subtyping.proofs.+at_or_above+at_or_below.Lts-at_or_above as at-or-above-lts
 use Rattle.subtyping.proofs.at_or_below.Reads as at-or-below
-use Rattle.subtyping.proofs.at_or_below.Kinds as at-or-below-kinds
-use Rattle.subtyping.proofs.+at_or_above+at_or_below.Lts-at_or_below as at-or-below-lts
+use Rattle.subtyping.proofs.+at_or_above+at_or_below.Lts-at_or_above as above-lts
+use Rattle.subtyping.proofs.+at_or_above+at_or_below.Lts-at_or_below as below-lts
 use Rattle.subtyping.proofs.first_below.Reads as first-below-reads
 use Rattle.types.proofs.kind.Reads as kind-reads
 use Rattle.types.proofs.left_side.Reads as left-side-reads
@@ -30,284 +33,482 @@ use Rattle.types.proofs.right_side.Reads as right-side-reads
 use Rattle.subtyping.proofs.+at_or_above+at_or_below.{statement}
 use Rattle.subtyping.proofs.+at_or_above+at_or_below.Tie.{close}
 
-abbrev μ-at-or-above : Measures 3 at-or-above-kinds.ps ℕ
-μ-at-or-above κs a = length (a .1 .0 .now)
+-- both functions take the same three slices
+abbrev μ : Measures 3 kinds.ps ℕ
+μ κs a = length (a .1 .0 .now)
 
-abbrev μ-at-or-below : Measures 3 at-or-below-kinds.ps ℕ
-μ-at-or-below κs a = length (a .1 .0 .now)
+abbrev sized : In 3 kinds.ps → ℕ → In 3 kinds.ps
+sized pre t = and 3 kinds.ps (is 3 kinds.ps μ t) pre
 
-abbrev at-or-above-at : ℕ → In 3 at-or-above-kinds.ps
-at-or-above-at t =
-    and 3 at-or-above-kinds.ps (is 3 at-or-above-kinds.ps μ-at-or-above t) at-or-above.Pre
+abbrev shorter : In 3 kinds.ps → ℕ → In 3 kinds.ps
+shorter pre t = and 3 kinds.ps (falls 3 kinds.ps _<_ μ t) pre
 
-abbrev at-or-above-below : ℕ → In 3 at-or-above-kinds.ps
-at-or-above-below t =
-    and 3 at-or-above-kinds.ps (falls 3 at-or-above-kinds.ps _<_ μ-at-or-above t) at-or-above.Pre
+-- what the left sides' walk says: at a function it is the other walk
+module _ (S : Security) (d : Direction) {k : ℕ} {x y : Compared} (v w : Ty) (kind-is : k ≡ kind-of v) (same : y ≡ x) where
+  turned-round : k ≡ 3 → x ≡ compared S (opposite d) (left-of v) (left-of w) → y ≡ compared S (turned v d) (left-of v) (left-of w)
+  turned-round f e =
+      same ∙ e ∙ ap (λ (d′ : Direction). compared S d′ (left-of v) (left-of w)) (sym (turned-function v d (sym kind-is ∙ f)))
 
-abbrev at-or-below-at : ℕ → In 3 at-or-below-kinds.ps
-at-or-below-at t =
-    and 3 at-or-below-kinds.ps (is 3 at-or-below-kinds.ps μ-at-or-below t) at-or-below.Pre
+  straight-on : (k ≡ 3 → ⊥) → x ≡ compared S d (left-of v) (left-of w) → y ≡ compared S (turned v d) (left-of v) (left-of w)
+  straight-on n e =
+      same ∙ e ∙ ap (λ (d′ : Direction). compared S d′ (left-of v) (left-of w)) (sym (turned-other v d (λ z. n (kind-is ∙ z))))
 
-abbrev at-or-below-below : ℕ → In 3 at-or-below-kinds.ps
-at-or-below-below t =
-    and 3 at-or-below-kinds.ps (falls 3 at-or-below-kinds.ps _<_ μ-at-or-below t) at-or-below.Pre
+-- what `at_or_above` is given of the functions that it calls
+abbrev above-claims : ℕ → above-lts.Claims
+above-claims t = (
+  first-below-reads.Asked,
+  first-below-reads.Learnt,
+  kind-reads.Asked,
+  kind-reads.Learnt,
+  left-side-reads.Asked,
+  left-side-reads.Learnt,
+  shorter at-or-below.Pre t,
+  at-or-below.Post,
+  shorter at-or-above.Pre t,
+  at-or-above.Post,
+  right-side-reads.Asked,
+  right-side-reads.Learnt,
+)
 
--- what `at-or-above` is given of the functions that it calls
-abbrev at-or-above-claims : ℕ → at-or-above-lts.Claims
-at-or-above-claims t = (first-below-reads.Asked, first-below-reads.Learnt, kind-reads.Asked, kind-reads.Learnt, left-side-reads.Asked, left-side-reads.Learnt, at-or-below-below t, at-or-below.Post, at-or-above-below t, at-or-above.Post, right-side-reads.Asked, right-side-reads.Learnt)
-
--- what `at-or-below` is given of the functions that it calls
-abbrev at-or-below-claims : ℕ → at-or-below-lts.Claims
-at-or-below-claims t = (first-below-reads.Asked, first-below-reads.Learnt, kind-reads.Asked, kind-reads.Learnt, left-side-reads.Asked, left-side-reads.Learnt, at-or-above-below t, at-or-above.Post, at-or-below-below t, at-or-below.Post, right-side-reads.Asked, right-side-reads.Learnt)
+abbrev above-at : ℕ → In 3 kinds.ps
+above-at t = sized at-or-above.Pre t
 
 module _ (t : ℕ) where
-  abbrev at-or-above-start : at-or-above-lts.After-kind (at-or-above-claims t) (at-or-above-at t) at-or-above.Post → at-or-above-lts.Start (at-or-above-claims t) (at-or-above-at t) at-or-above.Post
-  at-or-above-start c = c .before .before .before .before .before .before
+  -- the places: the start, the first records compared, the kind known, the left sides compared, and related, the right sides known,
+  -- and compared, and related
+  abbrev above-Start : Type 0
+  above-Start = above-lts.Start (above-claims t) (above-at t) at-or-above.Post
+
+  abbrev above-First : Type 0
+  above-First = above-lts.After-first-below (above-claims t) (above-at t) at-or-above.Post
+
+  abbrev above-Kind : Type 0
+  above-Kind = above-lts.After-kind (above-claims t) (above-at t) at-or-above.Post
+
+  abbrev above-Left : Type 0
+  above-Left = above-lts.Joined3 (above-claims t) (above-at t) at-or-above.Post
+
+  abbrev above-Half : Type 0
+  above-Half = above-lts.After-left (above-claims t) (above-at t) at-or-above.Post
+
+  abbrev above-Sides : Type 0
+  above-Sides = above-lts.After-right-side2 (above-claims t) (above-at t) at-or-above.Post
+
+  abbrev above-Right : Type 0
+  above-Right = above-lts.After-at-or-above2 (above-claims t) (above-at t) at-or-above.Post
+
+  abbrev above-Done : Type 0
+  above-Done = above-lts.After-known-told2 (above-claims t) (above-at t) at-or-above.Post
+
+  abbrev above-call : above-First → above-Start
+  above-call c = c .before .before .before .before
+
+  abbrev above-start : above-Kind → above-Start
+  above-start c = above-call (c .before .before)
+
+  abbrev above-kind : above-Left → above-Kind
+  above-kind c = c .before .before
+
+  abbrev above-entry : above-Left → above-Start
+  above-entry c = above-start (above-kind c)
+
+  abbrev above-half : above-Sides → above-Half
+  above-half c = c .before .before .before
+
+  abbrev above-left : above-Right → above-Left
+  above-left c = above-half (c .before) .before .before
+
+  abbrev above-right : above-Done → above-Right
+  above-right c = c .before .before .before
+
+  -- the call: the order, and the two parts
+  abbrev above-S : above-Start → Security
+  above-S s = readers (s .args .groups .now)
+
+  abbrev above-a : above-Start → Bytes
+  above-a s = s .args .upper .now
+
+  abbrev above-b : above-Start → Bytes
+  above-b s = s .args .lower .now
 
   -- past the first records
-  at-or-above-alike : (c : at-or-above-lts.After-kind (at-or-above-claims t) (at-or-above-at t) at-or-above.Post) → Alike (readers (at-or-above-start c .args .groups .now)) above (at-or-above-start c .args .upper .now) (at-or-above-start c .args .lower .now) (c .kind .result)
-  at-or-above-alike c =
+  above-alike : (c : above-Kind)
+      → Alike (above-S (above-start c)) above (above-a (above-start c)) (above-b (above-start c)) (c .kind .result)
+  above-alike c =
+      let s = above-start c in
+      let e = c .before in
       record {
-        sa = at-or-above-start c .pre .1 .0;
-        sb = at-or-above-start c .pre .1 .1;
+        sa = s .pre .1 .0;
+        sb = s .pre .1 .1;
         ka = c .kind .ensures;
-        ok = λ v w p q. firsts-above (readers (at-or-above-start c .args .groups .now)) v w ∙ sym (c .before .before .first-below .ensures w v q p) ∙ not-false _ (c .before .if1 .left);
+        ok = λ v w p q. firsts-above (above-S s) v w ∙ sym (e .before .first-below .ensures w v q p) ∙ not-false _ (e .if1 .left);
       }
 
   -- the left sides are compared, at a function the other way round
-  at-or-above-left-said : (c : at-or-above-lts.Joined3 (at-or-above-claims t) (at-or-above-at t) at-or-above.Post) → (v w : Ty) → Held (at-or-above-start (c .before .before) .args .upper .now) v → Held (at-or-above-start (c .before .before) .args .lower .now) w
-      → c .if3 .left ≡ compared (readers (at-or-above-start (c .before .before) .args .groups .now)) (turned v above) (left-of v) (left-of w)
-  at-or-above-left-said c v w p q =
-      let turn : Direction → Compared = λ d. compared (readers (at-or-above-start (c .before .before) .args .groups .now)) d (left-of v) (left-of w) in
-      let k = c .before .before .kind .ensures v p in
+  above-left-said : (c : above-Left) (v w : Ty) → Held (above-a (above-entry c)) v → Held (above-b (above-entry c)) w
+      → c .if3 .left ≡ compared (above-S (above-entry c)) (turned v above) (left-of v) (left-of w)
+  above-left-said c v w p q =
+      let S = above-S (above-entry c) in
+      let k = above-kind c .kind .ensures v p in
       ⊎-elim
-      (λ x. x .4 ∙ x .3 .ensures (left-of v) (left-of w) (x .1 .ensures .0 v p) (x .2 .ensures .0 w q) ∙ ap turn (sym (turned-function v above (sym k ∙ x .0 .taken))))
-      (λ x. x .4 ∙ x .3 .ensures (left-of v) (left-of w) (x .1 .ensures .0 v p) (x .2 .ensures .0 w q) ∙ ap turn (sym (turned-other v above (λ e. x .0 .left (k ∙ e)))))
+      (λ x. turned-round S above v w k (x .4) (x .0 .taken) (x .3 .ensures _ _ (x .1 .ensures .0 v p) (x .2 .ensures .0 w q)))
+      (λ x. straight-on S above v w k (x .4) (x .0 .left) (x .3 .ensures _ _ (x .1 .ensures .0 v p) (x .2 .ensures .0 w q)))
       (c .if3 .came)
 
-  at-or-above-lefts : (c : at-or-above-lts.Joined3 (at-or-above-claims t) (at-or-above-at t) at-or-above.Post) → Lefts (readers (at-or-above-start (c .before .before) .args .groups .now)) above (at-or-above-start (c .before .before) .args .upper .now) (at-or-above-start (c .before .before) .args .lower .now) (c .if3 .left)
-  at-or-above-lefts c =
-      let h = at-or-above-alike (c .before .before) in
-      record { sided-l = sided-a h (c .before .if2 .left); sided-r = sided-b h (c .before .if2 .left); ok = h .ok; said = at-or-above-left-said c }
+  above-lefts : (c : above-Left)
+      → Lefts (above-S (above-entry c)) above (above-a (above-entry c)) (above-b (above-entry c)) (c .if3 .left)
+  above-lefts c =
+      let h = above-alike (above-kind c) in
+      let n = c .before .if2 .left in
+      record { sided-l = sided-a h n; sided-r = sided-b h n; ok = h .ok; said = above-left-said c }
 
-  at-or-above-rights : (c : at-or-above-lts.After-at-or-above2 (at-or-above-claims t) (at-or-above-at t) at-or-above.Post) → Rights (readers (at-or-above-start (c .before .before .before .before .before .before .before .before) .args .groups .now)) above (at-or-above-start (c .before .before .before .before .before .before .before .before) .args .upper .now) (at-or-above-start (c .before .before .before .before .before .before .before .before) .args .lower .now) (c .at-or-above2 .result)
-  at-or-above-rights c v w p q =
-      c .at-or-above2 .ensures (right-of v) (right-of w) (c .before .before .right-side .ensures .0 v p) (c .before .right-side2 .ensures .0 w q)
+  above-rights : (c : above-Right)
+      → Rights (above-S (above-entry (above-left c))) above (above-a (above-entry (above-left c))) (above-b (above-entry (above-left c)))
+      (c .at-or-above2 .result)
+  above-rights c v w p q =
+      let d = c .before in
+      c .at-or-above2 .ensures (right-of v) (right-of w) (d .before .right-side .ensures .0 v p) (d .right-side2 .ensures .0 w q)
 
-  at-or-above-first-below-requires : at-or-above-lts.Need-first-below-requires (at-or-above-claims t) (at-or-above-at t) at-or-above.Post
-  at-or-above-first-below-requires c κs = (c .before .before .before .pre .1 .1, c .before .before .before .pre .1 .0)
+  -- the count of all the records is within the first part
+  above-few : (c : above-Done)
+      → 4 * (1 + (above-half (above-right c .before) .left .given .0 .0 + c .before .right .given .0 .0))
+      ≤ length (above-a (above-entry (above-left (above-right c))))
+  above-few c =
+      let r = above-right c in
+      bounded (above-lefts (above-left r)) (above-half (r .before) .left .given .1) (above-rights r) (c .before .right .given .1)
 
-  at-or-above-returns : at-or-above-lts.Need-returns (at-or-above-claims t) (at-or-above-at t) at-or-above.Post
-  at-or-above-returns c v w p q = unrelated (readers (c .before .before .before .before .before .args .groups .now)) above v w (firsts-above (readers (c .before .before .before .before .before .args .groups .now)) v w ∙ sym (c .before .first-below .ensures w v q p) ∙ not-true _ (c .if1 .taken))
+  above-first-below-requires : above-lts.Need-first-below-requires (above-claims t) (above-at t) at-or-above.Post
+  above-first-below-requires c κs = let q = c .before .before .before .pre .1 in (q .1, q .0)
 
-  at-or-above-kind-requires : at-or-above-lts.Need-kind-requires (at-or-above-claims t) (at-or-above-at t) at-or-above.Post
-  at-or-above-kind-requires c κs = c .before .before .before .before .before .pre .1 .0
+  above-returns : above-lts.Need-returns (above-claims t) (above-at t) at-or-above.Post
+  above-returns c v w p q =
+      let f = c .before in
+      let S = above-S (above-call f) in
+      unrelated S above v w (firsts-above S v w ∙ sym (f .first-below .ensures w v q p) ∙ not-true _ (c .if1 .taken))
 
-  at-or-above-returns-2 : at-or-above-lts.Need-returns-2 (at-or-above-claims t) (at-or-above-at t) at-or-above.Post
-  at-or-above-returns-2 c = at-unit (at-or-above-alike (c .before)) (c .if2 .taken)
+  above-kind-requires : above-lts.Need-kind-requires (above-claims t) (above-at t) at-or-above.Post
+  above-kind-requires c κs = above-call (c .before) .pre .1 .0
 
-  at-or-above-left-side-requires : at-or-above-lts.Need-left-side-requires (at-or-above-claims t) (at-or-above-at t) at-or-above.Post
-  at-or-above-left-side-requires c κs = sided-a (at-or-above-alike (c .before .before)) (c .before .if2 .left)
+  above-returns-2 : above-lts.Need-returns-2 (above-claims t) (above-at t) at-or-above.Post
+  above-returns-2 c = at-unit (above-alike (c .before)) (c .if2 .taken)
 
-  at-or-above-left-side-requires-2 : at-or-above-lts.Need-left-side-requires-2 (at-or-above-claims t) (at-or-above-at t) at-or-above.Post
-  at-or-above-left-side-requires-2 c κs = sided-b (at-or-above-alike (c .before .before .before)) (c .before .before .if2 .left)
+  above-left-side-requires : above-lts.Need-left-side-requires (above-claims t) (above-at t) at-or-above.Post
+  above-left-side-requires c κs = let n = c .before in sided-a (above-alike (n .before)) (n .if2 .left)
 
-  at-or-above-at-or-below-requires : at-or-above-lts.Need-at-or-below-requires (at-or-above-claims t) (at-or-above-at t) at-or-above.Post
-  at-or-above-at-or-below-requires c κs = parts left-of (at-or-above-start (c .before .before .before .before) .pre) (c .before .left-side .ensures) (c .left-side2 .ensures)
+  above-left-side-requires-2 : above-lts.Need-left-side-requires-2 (above-claims t) (above-at t) at-or-above.Post
+  above-left-side-requires-2 c κs = let n = c .before .before in sided-b (above-alike (n .before)) (n .if2 .left)
 
-  at-or-above-left-side-requires-3 : at-or-above-lts.Need-left-side-requires-3 (at-or-above-claims t) (at-or-above-at t) at-or-above.Post
-  at-or-above-left-side-requires-3 c κs = sided-a (at-or-above-alike (c .before .before)) (c .before .if2 .left)
+  above-at-or-below-requires : above-lts.Need-at-or-below-requires (above-claims t) (above-at t) at-or-above.Post
+  above-at-or-below-requires c κs =
+      let k = c .before .before .before .before in
+      parts left-of (above-start k .pre) (c .before .left-side .ensures) (c .left-side2 .ensures)
 
-  at-or-above-left-side-requires-4 : at-or-above-lts.Need-left-side-requires-4 (at-or-above-claims t) (at-or-above-at t) at-or-above.Post
-  at-or-above-left-side-requires-4 c κs = sided-b (at-or-above-alike (c .before .before .before)) (c .before .before .if2 .left)
+  above-left-side-requires-3 : above-lts.Need-left-side-requires-3 (above-claims t) (above-at t) at-or-above.Post
+  above-left-side-requires-3 c κs = let n = c .before in sided-a (above-alike (n .before)) (n .if2 .left)
 
-  at-or-above-at-or-above-requires : at-or-above-lts.Need-at-or-above-requires (at-or-above-claims t) (at-or-above-at t) at-or-above.Post
-  at-or-above-at-or-above-requires c κs = parts left-of (at-or-above-start (c .before .before .before .before) .pre) (c .before .left-side3 .ensures) (c .left-side4 .ensures)
+  above-left-side-requires-4 : above-lts.Need-left-side-requires-4 (above-claims t) (above-at t) at-or-above.Post
+  above-left-side-requires-4 c κs = let n = c .before .before in sided-b (above-alike (n .before)) (n .if2 .left)
 
-  at-or-above-enum-known-left : at-or-above-lts.Need-enum-known-left (at-or-above-claims t) (at-or-above-at t) at-or-above.Post
-  at-or-above-enum-known-left c = search needs
+  above-at-or-above-requires : above-lts.Need-at-or-above-requires (above-claims t) (above-at t) at-or-above.Post
+  above-at-or-above-requires c κs =
+      let k = c .before .before .before .before in
+      parts left-of (above-start k .pre) (c .before .left-side3 .ensures) (c .left-side4 .ensures)
 
-  at-or-above-enum-told : at-or-above-lts.Need-enum-told (at-or-above-claims t) (at-or-above-at t) at-or-above.Post
-  at-or-above-enum-told c = search needs
+  above-enum-known-left : above-lts.Need-enum-known-left (above-claims t) (above-at t) at-or-above.Post
+  above-enum-known-left c = search needs
 
-  at-or-above-returns-3 : at-or-above-lts.Need-returns-3 (at-or-above-claims t) (at-or-above-at t) at-or-above.Post
-  at-or-above-returns-3 c = no-left (at-or-above-lefts (c .before .before)) (is-unrelated _ (c .before .match .keys2))
+  above-enum-told : above-lts.Need-enum-told (above-claims t) (above-at t) at-or-above.Post
+  above-enum-told c = search needs
 
-  at-or-above-right-side-requires : at-or-above-lts.Need-right-side-requires (at-or-above-claims t) (at-or-above-at t) at-or-above.Post
-  at-or-above-right-side-requires c κs = counted-a (at-or-above-lefts (c .before .before .before)) (c .before .left .given .1)
+  above-returns-3 : above-lts.Need-returns-3 (above-claims t) (above-at t) at-or-above.Post
+  above-returns-3 c = no-left (above-lefts (c .before .before)) (is-unrelated _ (c .before .match .keys2))
 
-  at-or-above-right-side-requires-2 : at-or-above-lts.Need-right-side-requires-2 (at-or-above-claims t) (at-or-above-at t) at-or-above.Post
-  at-or-above-right-side-requires-2 c κs = counted-b (at-or-above-lefts (c .before .before .before .before)) (c .before .before .left .given .1)
+  above-right-side-requires : above-lts.Need-right-side-requires (above-claims t) (above-at t) at-or-above.Post
+  above-right-side-requires c κs = let l = c .before in counted-a (above-lefts (l .before .before)) (l .left .given .1)
 
-  at-or-above-at-or-above-requires-2 : at-or-above-lts.Need-at-or-above-requires-2 (at-or-above-claims t) (at-or-above-at t) at-or-above.Post
-  at-or-above-at-or-above-requires-2 c κs = parts right-of (at-or-above-start (c .before .before .before .before .before .before .before) .pre) (c .before .right-side .ensures) (c .right-side2 .ensures)
+  above-right-side-requires-2 : above-lts.Need-right-side-requires-2 (above-claims t) (above-at t) at-or-above.Post
+  above-right-side-requires-2 c κs = let l = c .before .before in counted-b (above-lefts (l .before .before)) (l .left .given .1)
 
-  at-or-above-enum-known-right : at-or-above-lts.Need-enum-known-right (at-or-above-claims t) (at-or-above-at t) at-or-above.Post
-  at-or-above-enum-known-right c = search needs
+  above-at-or-above-requires-2 : above-lts.Need-at-or-above-requires-2 (above-claims t) (above-at t) at-or-above.Post
+  above-at-or-above-requires-2 c κs =
+      let l = above-half c .before .before in
+      parts right-of (above-entry l .pre) (c .before .right-side .ensures) (c .right-side2 .ensures)
 
-  at-or-above-enum-told-2 : at-or-above-lts.Need-enum-told-2 (at-or-above-claims t) (at-or-above-at t) at-or-above.Post
-  at-or-above-enum-told-2 c = search needs
+  above-enum-known-right : above-lts.Need-enum-known-right (above-claims t) (above-at t) at-or-above.Post
+  above-enum-known-right c = search needs
 
-  at-or-above-returns-4 : at-or-above-lts.Need-returns-4 (at-or-above-claims t) (at-or-above-at t) at-or-above.Post
-  at-or-above-returns-4 c = no-right (at-or-above-lefts (c .before .before .before .before .before .before .before .before)) (c .before .before .before .before .before .before .left .given .1) (at-or-above-rights (c .before .before)) (is-unrelated _ (c .before .match2 .keys2))
+  above-enum-told-2 : above-lts.Need-enum-told-2 (above-claims t) (above-at t) at-or-above.Post
+  above-enum-told-2 c = search needs
 
-  at-or-above-add-t18 : at-or-above-lts.Need-add-t18 (at-or-above-claims t) (at-or-above-at t) at-or-above.Post
-  at-or-above-add-t18 c = omega (arith, bounded (at-or-above-lefts (c .before .before .before .before .before .before .before .before .before)) (c .before .before .before .before .before .before .before .left .given .1) (at-or-above-rights (c .before .before .before)) (c .before .right .given .1), at-or-above-start (c .before .before .before .before .before .before .before .before .before .before .before) .good)
+  above-returns-4 : above-lts.Need-returns-4 (above-claims t) (above-at t) at-or-above.Post
+  above-returns-4 c =
+      let r = c .before .before in
+      no-right (above-lefts (above-left r)) (above-half (r .before) .left .given .1) (above-rights r)
+      (is-unrelated _ (c .before .match2 .keys2))
 
-  at-or-above-add-t19 : at-or-above-lts.Need-add-t19 (at-or-above-claims t) (at-or-above-at t) at-or-above.Post
-  at-or-above-add-t19 c = omega (arith, bounded (at-or-above-lefts (c .before .before .before .before .before .before .before .before .before)) (c .before .before .before .before .before .before .before .left .given .1) (at-or-above-rights (c .before .before .before)) (c .before .right .given .1), at-or-above-start (c .before .before .before .before .before .before .before .before .before .before .before) .good)
+  above-add-t18 : above-lts.Need-add-t18 (above-claims t) (above-at t) at-or-above.Post
+  above-add-t18 c = omega (arith, above-few c, above-entry (above-left (above-right c)) .good)
 
-  at-or-above-returns-5 : at-or-above-lts.Need-returns-5 (at-or-above-claims t) (at-or-above-at t) at-or-above.Post
-  at-or-above-returns-5 c = all-related (at-or-above-lefts (c .before .before .before .before .before .before .before .before .before)) (c .before .before .before .before .before .before .before .left .given .1) (at-or-above-rights (c .before .before .before)) (c .before .right .given .1)
+  above-add-t19 : above-lts.Need-add-t19 (above-claims t) (above-at t) at-or-above.Post
+  above-add-t19 c = omega (arith, above-few c, above-entry (above-left (above-right c)) .good)
+
+  above-returns-5 : above-lts.Need-returns-5 (above-claims t) (above-at t) at-or-above.Post
+  above-returns-5 c =
+      let r = above-right c in
+      all-related (above-lefts (above-left r)) (above-half (r .before) .left .given .1) (above-rights r) (c .before .right .given .1)
+
+-- what `at_or_below` is given of the functions that it calls
+abbrev below-claims : ℕ → below-lts.Claims
+below-claims t = (
+  first-below-reads.Asked,
+  first-below-reads.Learnt,
+  kind-reads.Asked,
+  kind-reads.Learnt,
+  left-side-reads.Asked,
+  left-side-reads.Learnt,
+  shorter at-or-above.Pre t,
+  at-or-above.Post,
+  shorter at-or-below.Pre t,
+  at-or-below.Post,
+  right-side-reads.Asked,
+  right-side-reads.Learnt,
+)
+
+abbrev below-at : ℕ → In 3 kinds.ps
+below-at t = sized at-or-below.Pre t
 
 module _ (t : ℕ) where
-  abbrev at-or-below-start : at-or-below-lts.After-kind (at-or-below-claims t) (at-or-below-at t) at-or-below.Post → at-or-below-lts.Start (at-or-below-claims t) (at-or-below-at t) at-or-below.Post
-  at-or-below-start c = c .before .before .before .before .before .before
+  -- the places: the start, the first records compared, the kind known, the left sides compared, and related, the right sides known,
+  -- and compared, and related
+  abbrev below-Start : Type 0
+  below-Start = below-lts.Start (below-claims t) (below-at t) at-or-below.Post
+
+  abbrev below-First : Type 0
+  below-First = below-lts.After-first-below (below-claims t) (below-at t) at-or-below.Post
+
+  abbrev below-Kind : Type 0
+  below-Kind = below-lts.After-kind (below-claims t) (below-at t) at-or-below.Post
+
+  abbrev below-Left : Type 0
+  below-Left = below-lts.Joined3 (below-claims t) (below-at t) at-or-below.Post
+
+  abbrev below-Half : Type 0
+  below-Half = below-lts.After-left (below-claims t) (below-at t) at-or-below.Post
+
+  abbrev below-Sides : Type 0
+  below-Sides = below-lts.After-right-side2 (below-claims t) (below-at t) at-or-below.Post
+
+  abbrev below-Right : Type 0
+  below-Right = below-lts.After-at-or-below2 (below-claims t) (below-at t) at-or-below.Post
+
+  abbrev below-Done : Type 0
+  below-Done = below-lts.After-known-told2 (below-claims t) (below-at t) at-or-below.Post
+
+  abbrev below-call : below-First → below-Start
+  below-call c = c .before .before .before .before
+
+  abbrev below-start : below-Kind → below-Start
+  below-start c = below-call (c .before .before)
+
+  abbrev below-kind : below-Left → below-Kind
+  below-kind c = c .before .before
+
+  abbrev below-entry : below-Left → below-Start
+  below-entry c = below-start (below-kind c)
+
+  abbrev below-half : below-Sides → below-Half
+  below-half c = c .before .before .before
+
+  abbrev below-left : below-Right → below-Left
+  below-left c = below-half (c .before) .before .before
+
+  abbrev below-right : below-Done → below-Right
+  below-right c = c .before .before .before
+
+  -- the call: the order, and the two parts
+  abbrev below-S : below-Start → Security
+  below-S s = readers (s .args .groups .now)
+
+  abbrev below-a : below-Start → Bytes
+  below-a s = s .args .lower .now
+
+  abbrev below-b : below-Start → Bytes
+  below-b s = s .args .upper .now
 
   -- past the first records
-  at-or-below-alike : (c : at-or-below-lts.After-kind (at-or-below-claims t) (at-or-below-at t) at-or-below.Post) → Alike (readers (at-or-below-start c .args .groups .now)) below (at-or-below-start c .args .lower .now) (at-or-below-start c .args .upper .now) (c .kind .result)
-  at-or-below-alike c =
+  below-alike : (c : below-Kind)
+      → Alike (below-S (below-start c)) below (below-a (below-start c)) (below-b (below-start c)) (c .kind .result)
+  below-alike c =
+      let s = below-start c in
+      let e = c .before in
       record {
-        sa = at-or-below-start c .pre .1 .0;
-        sb = at-or-below-start c .pre .1 .1;
+        sa = s .pre .1 .0;
+        sb = s .pre .1 .1;
         ka = c .kind .ensures;
-        ok = λ v w p q. sym (c .before .before .first-below .ensures v w p q) ∙ not-false _ (c .before .if1 .left);
+        ok = λ v w p q. sym (e .before .first-below .ensures v w p q) ∙ not-false _ (e .if1 .left);
       }
 
   -- the left sides are compared, at a function the other way round
-  at-or-below-left-said : (c : at-or-below-lts.Joined3 (at-or-below-claims t) (at-or-below-at t) at-or-below.Post) → (v w : Ty) → Held (at-or-below-start (c .before .before) .args .lower .now) v → Held (at-or-below-start (c .before .before) .args .upper .now) w
-      → c .if3 .left ≡ compared (readers (at-or-below-start (c .before .before) .args .groups .now)) (turned v below) (left-of v) (left-of w)
-  at-or-below-left-said c v w p q =
-      let turn : Direction → Compared = λ d. compared (readers (at-or-below-start (c .before .before) .args .groups .now)) d (left-of v) (left-of w) in
-      let k = c .before .before .kind .ensures v p in
+  below-left-said : (c : below-Left) (v w : Ty) → Held (below-a (below-entry c)) v → Held (below-b (below-entry c)) w
+      → c .if3 .left ≡ compared (below-S (below-entry c)) (turned v below) (left-of v) (left-of w)
+  below-left-said c v w p q =
+      let S = below-S (below-entry c) in
+      let k = below-kind c .kind .ensures v p in
       ⊎-elim
-      (λ x. x .4 ∙ x .3 .ensures (left-of v) (left-of w) (x .1 .ensures .0 v p) (x .2 .ensures .0 w q) ∙ ap turn (sym (turned-function v below (sym k ∙ x .0 .taken))))
-      (λ x. x .4 ∙ x .3 .ensures (left-of v) (left-of w) (x .1 .ensures .0 v p) (x .2 .ensures .0 w q) ∙ ap turn (sym (turned-other v below (λ e. x .0 .left (k ∙ e)))))
+      (λ x. turned-round S below v w k (x .4) (x .0 .taken) (x .3 .ensures _ _ (x .1 .ensures .0 v p) (x .2 .ensures .0 w q)))
+      (λ x. straight-on S below v w k (x .4) (x .0 .left) (x .3 .ensures _ _ (x .1 .ensures .0 v p) (x .2 .ensures .0 w q)))
       (c .if3 .came)
 
-  at-or-below-lefts : (c : at-or-below-lts.Joined3 (at-or-below-claims t) (at-or-below-at t) at-or-below.Post) → Lefts (readers (at-or-below-start (c .before .before) .args .groups .now)) below (at-or-below-start (c .before .before) .args .lower .now) (at-or-below-start (c .before .before) .args .upper .now) (c .if3 .left)
-  at-or-below-lefts c =
-      let h = at-or-below-alike (c .before .before) in
-      record { sided-l = sided-a h (c .before .if2 .left); sided-r = sided-b h (c .before .if2 .left); ok = h .ok; said = at-or-below-left-said c }
+  below-lefts : (c : below-Left)
+      → Lefts (below-S (below-entry c)) below (below-a (below-entry c)) (below-b (below-entry c)) (c .if3 .left)
+  below-lefts c =
+      let h = below-alike (below-kind c) in
+      let n = c .before .if2 .left in
+      record { sided-l = sided-a h n; sided-r = sided-b h n; ok = h .ok; said = below-left-said c }
 
-  at-or-below-rights : (c : at-or-below-lts.After-at-or-below2 (at-or-below-claims t) (at-or-below-at t) at-or-below.Post) → Rights (readers (at-or-below-start (c .before .before .before .before .before .before .before .before) .args .groups .now)) below (at-or-below-start (c .before .before .before .before .before .before .before .before) .args .lower .now) (at-or-below-start (c .before .before .before .before .before .before .before .before) .args .upper .now) (c .at-or-below2 .result)
-  at-or-below-rights c v w p q =
-      c .at-or-below2 .ensures (right-of v) (right-of w) (c .before .before .right-side .ensures .0 v p) (c .before .right-side2 .ensures .0 w q)
+  below-rights : (c : below-Right)
+      → Rights (below-S (below-entry (below-left c))) below (below-a (below-entry (below-left c))) (below-b (below-entry (below-left c)))
+      (c .at-or-below2 .result)
+  below-rights c v w p q =
+      let d = c .before in
+      c .at-or-below2 .ensures (right-of v) (right-of w) (d .before .right-side .ensures .0 v p) (d .right-side2 .ensures .0 w q)
 
-  at-or-below-first-below-requires : at-or-below-lts.Need-first-below-requires (at-or-below-claims t) (at-or-below-at t) at-or-below.Post
-  at-or-below-first-below-requires c κs = (c .before .before .before .pre .1 .0, c .before .before .before .pre .1 .1)
+  -- the count of all the records is within the first part
+  below-few : (c : below-Done)
+      → 4 * (1 + (below-half (below-right c .before) .left .given .0 .0 + c .before .right .given .0 .0))
+      ≤ length (below-a (below-entry (below-left (below-right c))))
+  below-few c =
+      let r = below-right c in
+      bounded (below-lefts (below-left r)) (below-half (r .before) .left .given .1) (below-rights r) (c .before .right .given .1)
 
-  at-or-below-returns : at-or-below-lts.Need-returns (at-or-below-claims t) (at-or-below-at t) at-or-below.Post
-  at-or-below-returns c v w p q = unrelated (readers (c .before .before .before .before .before .args .groups .now)) below v w (sym (c .before .first-below .ensures v w p q) ∙ not-true _ (c .if1 .taken))
+  below-first-below-requires : below-lts.Need-first-below-requires (below-claims t) (below-at t) at-or-below.Post
+  below-first-below-requires c κs = let q = c .before .before .before .pre .1 in q
 
-  at-or-below-kind-requires : at-or-below-lts.Need-kind-requires (at-or-below-claims t) (at-or-below-at t) at-or-below.Post
-  at-or-below-kind-requires c κs = c .before .before .before .before .before .pre .1 .0
+  below-returns : below-lts.Need-returns (below-claims t) (below-at t) at-or-below.Post
+  below-returns c v w p q =
+      let f = c .before in
+      let S = below-S (below-call f) in
+      unrelated S below v w (sym (f .first-below .ensures v w p q) ∙ not-true _ (c .if1 .taken))
 
-  at-or-below-returns-2 : at-or-below-lts.Need-returns-2 (at-or-below-claims t) (at-or-below-at t) at-or-below.Post
-  at-or-below-returns-2 c = at-unit (at-or-below-alike (c .before)) (c .if2 .taken)
+  below-kind-requires : below-lts.Need-kind-requires (below-claims t) (below-at t) at-or-below.Post
+  below-kind-requires c κs = below-call (c .before) .pre .1 .0
 
-  at-or-below-left-side-requires : at-or-below-lts.Need-left-side-requires (at-or-below-claims t) (at-or-below-at t) at-or-below.Post
-  at-or-below-left-side-requires c κs = sided-a (at-or-below-alike (c .before .before)) (c .before .if2 .left)
+  below-returns-2 : below-lts.Need-returns-2 (below-claims t) (below-at t) at-or-below.Post
+  below-returns-2 c = at-unit (below-alike (c .before)) (c .if2 .taken)
 
-  at-or-below-left-side-requires-2 : at-or-below-lts.Need-left-side-requires-2 (at-or-below-claims t) (at-or-below-at t) at-or-below.Post
-  at-or-below-left-side-requires-2 c κs = sided-b (at-or-below-alike (c .before .before .before)) (c .before .before .if2 .left)
+  below-left-side-requires : below-lts.Need-left-side-requires (below-claims t) (below-at t) at-or-below.Post
+  below-left-side-requires c κs = let n = c .before in sided-a (below-alike (n .before)) (n .if2 .left)
 
-  at-or-below-at-or-above-requires : at-or-below-lts.Need-at-or-above-requires (at-or-below-claims t) (at-or-below-at t) at-or-below.Post
-  at-or-below-at-or-above-requires c κs = parts left-of (at-or-below-start (c .before .before .before .before) .pre) (c .before .left-side .ensures) (c .left-side2 .ensures)
+  below-left-side-requires-2 : below-lts.Need-left-side-requires-2 (below-claims t) (below-at t) at-or-below.Post
+  below-left-side-requires-2 c κs = let n = c .before .before in sided-b (below-alike (n .before)) (n .if2 .left)
 
-  at-or-below-left-side-requires-3 : at-or-below-lts.Need-left-side-requires-3 (at-or-below-claims t) (at-or-below-at t) at-or-below.Post
-  at-or-below-left-side-requires-3 c κs = sided-a (at-or-below-alike (c .before .before)) (c .before .if2 .left)
+  below-at-or-above-requires : below-lts.Need-at-or-above-requires (below-claims t) (below-at t) at-or-below.Post
+  below-at-or-above-requires c κs =
+      let k = c .before .before .before .before in
+      parts left-of (below-start k .pre) (c .before .left-side .ensures) (c .left-side2 .ensures)
 
-  at-or-below-left-side-requires-4 : at-or-below-lts.Need-left-side-requires-4 (at-or-below-claims t) (at-or-below-at t) at-or-below.Post
-  at-or-below-left-side-requires-4 c κs = sided-b (at-or-below-alike (c .before .before .before)) (c .before .before .if2 .left)
+  below-left-side-requires-3 : below-lts.Need-left-side-requires-3 (below-claims t) (below-at t) at-or-below.Post
+  below-left-side-requires-3 c κs = let n = c .before in sided-a (below-alike (n .before)) (n .if2 .left)
 
-  at-or-below-at-or-below-requires : at-or-below-lts.Need-at-or-below-requires (at-or-below-claims t) (at-or-below-at t) at-or-below.Post
-  at-or-below-at-or-below-requires c κs = parts left-of (at-or-below-start (c .before .before .before .before) .pre) (c .before .left-side3 .ensures) (c .left-side4 .ensures)
+  below-left-side-requires-4 : below-lts.Need-left-side-requires-4 (below-claims t) (below-at t) at-or-below.Post
+  below-left-side-requires-4 c κs = let n = c .before .before in sided-b (below-alike (n .before)) (n .if2 .left)
 
-  at-or-below-enum-known-left : at-or-below-lts.Need-enum-known-left (at-or-below-claims t) (at-or-below-at t) at-or-below.Post
-  at-or-below-enum-known-left c = search needs
+  below-at-or-below-requires : below-lts.Need-at-or-below-requires (below-claims t) (below-at t) at-or-below.Post
+  below-at-or-below-requires c κs =
+      let k = c .before .before .before .before in
+      parts left-of (below-start k .pre) (c .before .left-side3 .ensures) (c .left-side4 .ensures)
 
-  at-or-below-enum-told : at-or-below-lts.Need-enum-told (at-or-below-claims t) (at-or-below-at t) at-or-below.Post
-  at-or-below-enum-told c = search needs
+  below-enum-known-left : below-lts.Need-enum-known-left (below-claims t) (below-at t) at-or-below.Post
+  below-enum-known-left c = search needs
 
-  at-or-below-returns-3 : at-or-below-lts.Need-returns-3 (at-or-below-claims t) (at-or-below-at t) at-or-below.Post
-  at-or-below-returns-3 c = no-left (at-or-below-lefts (c .before .before)) (is-unrelated _ (c .before .match .keys2))
+  below-enum-told : below-lts.Need-enum-told (below-claims t) (below-at t) at-or-below.Post
+  below-enum-told c = search needs
 
-  at-or-below-right-side-requires : at-or-below-lts.Need-right-side-requires (at-or-below-claims t) (at-or-below-at t) at-or-below.Post
-  at-or-below-right-side-requires c κs = counted-a (at-or-below-lefts (c .before .before .before)) (c .before .left .given .1)
+  below-returns-3 : below-lts.Need-returns-3 (below-claims t) (below-at t) at-or-below.Post
+  below-returns-3 c = no-left (below-lefts (c .before .before)) (is-unrelated _ (c .before .match .keys2))
 
-  at-or-below-right-side-requires-2 : at-or-below-lts.Need-right-side-requires-2 (at-or-below-claims t) (at-or-below-at t) at-or-below.Post
-  at-or-below-right-side-requires-2 c κs = counted-b (at-or-below-lefts (c .before .before .before .before)) (c .before .before .left .given .1)
+  below-right-side-requires : below-lts.Need-right-side-requires (below-claims t) (below-at t) at-or-below.Post
+  below-right-side-requires c κs = let l = c .before in counted-a (below-lefts (l .before .before)) (l .left .given .1)
 
-  at-or-below-at-or-below-requires-2 : at-or-below-lts.Need-at-or-below-requires-2 (at-or-below-claims t) (at-or-below-at t) at-or-below.Post
-  at-or-below-at-or-below-requires-2 c κs = parts right-of (at-or-below-start (c .before .before .before .before .before .before .before) .pre) (c .before .right-side .ensures) (c .right-side2 .ensures)
+  below-right-side-requires-2 : below-lts.Need-right-side-requires-2 (below-claims t) (below-at t) at-or-below.Post
+  below-right-side-requires-2 c κs = let l = c .before .before in counted-b (below-lefts (l .before .before)) (l .left .given .1)
 
-  at-or-below-enum-known-right : at-or-below-lts.Need-enum-known-right (at-or-below-claims t) (at-or-below-at t) at-or-below.Post
-  at-or-below-enum-known-right c = search needs
+  below-at-or-below-requires-2 : below-lts.Need-at-or-below-requires-2 (below-claims t) (below-at t) at-or-below.Post
+  below-at-or-below-requires-2 c κs =
+      let l = below-half c .before .before in
+      parts right-of (below-entry l .pre) (c .before .right-side .ensures) (c .right-side2 .ensures)
 
-  at-or-below-enum-told-2 : at-or-below-lts.Need-enum-told-2 (at-or-below-claims t) (at-or-below-at t) at-or-below.Post
-  at-or-below-enum-told-2 c = search needs
+  below-enum-known-right : below-lts.Need-enum-known-right (below-claims t) (below-at t) at-or-below.Post
+  below-enum-known-right c = search needs
 
-  at-or-below-returns-4 : at-or-below-lts.Need-returns-4 (at-or-below-claims t) (at-or-below-at t) at-or-below.Post
-  at-or-below-returns-4 c = no-right (at-or-below-lefts (c .before .before .before .before .before .before .before .before)) (c .before .before .before .before .before .before .left .given .1) (at-or-below-rights (c .before .before)) (is-unrelated _ (c .before .match2 .keys2))
+  below-enum-told-2 : below-lts.Need-enum-told-2 (below-claims t) (below-at t) at-or-below.Post
+  below-enum-told-2 c = search needs
 
-  at-or-below-add-t18 : at-or-below-lts.Need-add-t18 (at-or-below-claims t) (at-or-below-at t) at-or-below.Post
-  at-or-below-add-t18 c = omega (arith, bounded (at-or-below-lefts (c .before .before .before .before .before .before .before .before .before)) (c .before .before .before .before .before .before .before .left .given .1) (at-or-below-rights (c .before .before .before)) (c .before .right .given .1), at-or-below-start (c .before .before .before .before .before .before .before .before .before .before .before) .good)
+  below-returns-4 : below-lts.Need-returns-4 (below-claims t) (below-at t) at-or-below.Post
+  below-returns-4 c =
+      let r = c .before .before in
+      no-right (below-lefts (below-left r)) (below-half (r .before) .left .given .1) (below-rights r)
+      (is-unrelated _ (c .before .match2 .keys2))
 
-  at-or-below-add-t19 : at-or-below-lts.Need-add-t19 (at-or-below-claims t) (at-or-below-at t) at-or-below.Post
-  at-or-below-add-t19 c = omega (arith, bounded (at-or-below-lefts (c .before .before .before .before .before .before .before .before .before)) (c .before .before .before .before .before .before .before .left .given .1) (at-or-below-rights (c .before .before .before)) (c .before .right .given .1), at-or-below-start (c .before .before .before .before .before .before .before .before .before .before .before) .good)
+  below-add-t18 : below-lts.Need-add-t18 (below-claims t) (below-at t) at-or-below.Post
+  below-add-t18 c = omega (arith, below-few c, below-entry (below-left (below-right c)) .good)
 
-  at-or-below-returns-5 : at-or-below-lts.Need-returns-5 (at-or-below-claims t) (at-or-below-at t) at-or-below.Post
-  at-or-below-returns-5 c = all-related (at-or-below-lefts (c .before .before .before .before .before .before .before .before .before)) (c .before .before .before .before .before .before .before .left .given .1) (at-or-below-rights (c .before .before .before)) (c .before .right .given .1)
+  below-add-t19 : below-lts.Need-add-t19 (below-claims t) (below-at t) at-or-below.Post
+  below-add-t19 c = omega (arith, below-few c, below-entry (below-left (below-right c)) .good)
+
+  below-returns-5 : below-lts.Need-returns-5 (below-claims t) (below-at t) at-or-below.Post
+  below-returns-5 c =
+      let r = below-right c in
+      all-related (below-lefts (below-left r)) (below-half (r .before) .left .given .1) (below-rights r) (c .before .right .given .1)
 
 pub +at-or-above+at-or-below-spec : {M : Type 1} → statement M
-+at-or-above+at-or-below-spec = close μ-at-or-above μ-at-or-below (λ t. at-or-above-lts.spec (at-or-above-claims t)
-    (at-or-above-at t)
-    at-or-above.Post
-    (at-or-above-first-below-requires t)
-    (at-or-above-returns t)
-    (at-or-above-kind-requires t)
-    (at-or-above-returns-2 t)
-    (at-or-above-left-side-requires t)
-    (at-or-above-left-side-requires-2 t)
-    (at-or-above-at-or-below-requires t)
-    (at-or-above-left-side-requires-3 t)
-    (at-or-above-left-side-requires-4 t)
-    (at-or-above-at-or-above-requires t)
-    (at-or-above-enum-known-left t)
-    (at-or-above-enum-told t)
-    (at-or-above-returns-3 t)
-    (at-or-above-right-side-requires t)
-    (at-or-above-right-side-requires-2 t)
-    (at-or-above-at-or-above-requires-2 t)
-    (at-or-above-enum-known-right t)
-    (at-or-above-enum-told-2 t)
-    (at-or-above-returns-4 t)
-    (at-or-above-add-t18 t)
-    (at-or-above-add-t19 t)
-    (at-or-above-returns-5 t))
-    λ t. at-or-below-lts.spec (at-or-below-claims t)
-    (at-or-below-at t)
-    at-or-below.Post
-    (at-or-below-first-below-requires t)
-    (at-or-below-returns t)
-    (at-or-below-kind-requires t)
-    (at-or-below-returns-2 t)
-    (at-or-below-left-side-requires t)
-    (at-or-below-left-side-requires-2 t)
-    (at-or-below-at-or-above-requires t)
-    (at-or-below-left-side-requires-3 t)
-    (at-or-below-left-side-requires-4 t)
-    (at-or-below-at-or-below-requires t)
-    (at-or-below-enum-known-left t)
-    (at-or-below-enum-told t)
-    (at-or-below-returns-3 t)
-    (at-or-below-right-side-requires t)
-    (at-or-below-right-side-requires-2 t)
-    (at-or-below-at-or-below-requires-2 t)
-    (at-or-below-enum-known-right t)
-    (at-or-below-enum-told-2 t)
-    (at-or-below-returns-4 t)
-    (at-or-below-add-t18 t)
-    (at-or-below-add-t19 t)
-    (at-or-below-returns-5 t)
++at-or-above+at-or-below-spec =
+    close μ μ
+    (λ t.
+    above-lts.spec (above-claims t) (above-at t) at-or-above.Post
+    (above-first-below-requires t)
+    (above-returns t)
+    (above-kind-requires t)
+    (above-returns-2 t)
+    (above-left-side-requires t)
+    (above-left-side-requires-2 t)
+    (above-at-or-below-requires t)
+    (above-left-side-requires-3 t)
+    (above-left-side-requires-4 t)
+    (above-at-or-above-requires t)
+    (above-enum-known-left t)
+    (above-enum-told t)
+    (above-returns-3 t)
+    (above-right-side-requires t)
+    (above-right-side-requires-2 t)
+    (above-at-or-above-requires-2 t)
+    (above-enum-known-right t)
+    (above-enum-told-2 t)
+    (above-returns-4 t)
+    (above-add-t18 t)
+    (above-add-t19 t)
+    (above-returns-5 t))
+    λ t.
+    below-lts.spec (below-claims t) (below-at t) at-or-below.Post
+    (below-first-below-requires t)
+    (below-returns t)
+    (below-kind-requires t)
+    (below-returns-2 t)
+    (below-left-side-requires t)
+    (below-left-side-requires-2 t)
+    (below-at-or-above-requires t)
+    (below-left-side-requires-3 t)
+    (below-left-side-requires-4 t)
+    (below-at-or-below-requires t)
+    (below-enum-known-left t)
+    (below-enum-told t)
+    (below-returns-3 t)
+    (below-right-side-requires t)
+    (below-right-side-requires-2 t)
+    (below-at-or-below-requires-2 t)
+    (below-enum-known-right t)
+    (below-enum-told-2 t)
+    (below-returns-4 t)
+    (below-add-t18 t)
+    (below-add-t19 t)
+    (below-returns-5 t)

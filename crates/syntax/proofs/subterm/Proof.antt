@@ -2,8 +2,9 @@
 use mathlib.Core.Path.{_≡_, sym, ap, _∙_}
 use native.Mathlib.Omega.{arith}
 use Prim.Native.Nat.{ℕ, _*_, _≤_}
-use mathlib.Core.Option.{some}
+use mathlib.Core.Option.{Option, some}
 use lib.ListN.{length}
+use Rattle.rules.specs.Answer.{Bytes}
 use Rattle.rules.specs.Script.{slice, subterm, term-end}
 use Rattle.syntax.specs.Check.{shape-check}
 use Rattle.records.proofs.Ends.{is-short, is-before, end-inside}
@@ -12,17 +13,47 @@ use borrow.Author.Needs.{needs}
 use Rattle.syntax.proofs.subterm.Statement.{statement}
 use Rattle.syntax.proofs.subterm.Tie as tie
 
+abbrev P : tie.Start → Bytes
+P s = s .args .script .now
+
+-- the bytes from the index on, to an end if there is one; and to where the subterm ends
+abbrev part : tie.Start → Option ℕ → Bytes
+part s e = slice (P s) (s .args .index) e
+
+abbrev found : tie.Start → Bytes
+found s = part s (term-end (P s) (s .args .index))
+
+-- the shape is checked
+abbrev begin : tie.After-shape-check → tie.Start
+begin c = c .before .before
+
+-- the script has a shape, and the end is looked for
+abbrev shaped : tie.After-term-end → tie.After-shape-check
+shaped c = c .before .before .before
+
+abbrev entry : tie.After-term-end → tie.Start
+entry c = begin (shaped c)
+
+whole : (c : tie.After-term-end) → subterm (P (entry c)) (entry c .args .index) ≡ found (entry c)
+unfolding subterm shape-check
+whole c =
+    let d = shaped c in
+    whole-part (d .shape-check .result) _ (found (begin d)) (c .before .before .match .keys1) (d .shape-check .ensures)
+
 -- where the subterm ends, and that it ends within the script
+abbrev ended : tie.After-known-told → tie.After-term-end
+ended c = c .before .before .before
+
 abbrev start : tie.After-known-told → tie.Start
-start c = c .before .before .before .before .before .before .before .before
+start c = entry (ended c)
 
 abbrev end : tie.After-known-told → ℕ
 end c = c .before .e .given .0 .0
 
-ends : (c : tie.After-known-told) → term-end (start c .args .script .now) (start c .args .index) ≡ some (end c)
-ends c = is-before (c .before .before .before .term-end .result) _ (end c) (c .before .e .given .1) (c .before .before .before .term-end .ensures)
+ends : (c : tie.After-known-told) → term-end (P (start c)) (start c .args .index) ≡ some (end c)
+ends c = let t = ended c .term-end in is-before (t .result) _ (end c) (c .before .e .given .1) (t .ensures)
 
-inside : (c : tie.After-known-told) → (start c .args .index ≤ end c) × (6 * end c ≤ length (start c .args .script .now))
+inside : (c : tie.After-known-told) → (start c .args .index ≤ end c) × (6 * end c ≤ length (P (start c)))
 inside c = end-inside _ _ (end c) (ends c)
 
 shape-check-requires : tie.Need-shape-check-requires
@@ -46,9 +77,8 @@ part-result-end c = search needs
 returns : tie.Need-returns
 unfolding subterm shape-check
 returns c =
-    sym (no-part (c .before .before .before .shape-check .result) _ (slice (c .before .before .before .before .before .args .script .now) (c .before .before .before .before .before .args .index)
-    (term-end (c .before .before .before .before .before .args .script .now) (c .before .before .before .before .before .args .index))) (c .before .before .match .keys2)
-    (c .before .before .before .shape-check .ensures))
+    let d = c .before .before .before in
+    sym (no-part (d .shape-check .result) _ (found (begin d)) (c .before .before .match .keys2) (d .shape-check .ensures))
 
 term-end-requires : tie.Need-term-end-requires
 term-end-requires c κs = search needs
@@ -69,14 +99,10 @@ part-result-end-2 : tie.Need-part-result-end-2
 part-result-end-2 c = search needs
 
 returns-2 : tie.Need-returns-2
-unfolding subterm shape-check
 returns-2 c =
-    sym (whole-part (c .before .before .before .before .before .before .shape-check .result) _ (slice (c .before .before .before .before .before .before .before .before .args .script .now)
-    (c .before .before .before .before .before .before .before .before .args .index) (term-end (c .before .before .before .before .before .before .before .before .args .script .now)
-    (c .before .before .before .before .before .before .before .before .args .index))) (c .before .before .before .before .before .match .keys1)
-    (c .before .before .before .before .before .before .shape-check .ensures) ∙ ap (slice (c .before .before .before .before .before .before .before .before .args .script .now)
-    (c .before .before .before .before .before .before .before .before .args .index)) (is-short (c .before .before .before .term-end .result)
-    _ (c .before .before .match2 .keys2) (c .before .before .before .term-end .ensures)))
+    let e = c .before .before .before in
+    let t = e .term-end in
+    sym (whole e ∙ ap (part (entry e)) (is-short (t .result) _ (c .before .before .match2 .keys2) (t .ensures)))
 
 mul-from : tie.Need-mul-from
 mul-from c = omega (arith, inside c)
@@ -94,14 +120,10 @@ part-result-end-3 : tie.Need-part-result-end-3
 part-result-end-3 c = omega (arith, inside c)
 
 returns-3 : tie.Need-returns-3
-unfolding subterm shape-check
 returns-3 c =
-    slice-is (c .before .before .before .before .before .before .before .before .before .args .script .now) (c .before .before .before .before .before .before .before .before .before .args .index)
-    (end (c .before)) ∙ sym (whole-part (c .before .before .before .before .before .before .before .shape-check .result) _ (slice (c .before .before .before .before .before .before .before .before .before .args .script .now)
-    (c .before .before .before .before .before .before .before .before .before .args .index) (term-end (c .before .before .before .before .before .before .before .before .before .args .script .now)
-    (c .before .before .before .before .before .before .before .before .before .args .index))) (c .before .before .before .before .before .before .match .keys1)
-    (c .before .before .before .before .before .before .before .shape-check .ensures) ∙ ap (slice (c .before .before .before .before .before .before .before .before .before .args .script .now)
-    (c .before .before .before .before .before .before .before .before .before .args .index)) (ends (c .before)))
+    let d = c .before in
+    let s = start d in
+    slice-is (P s) (s .args .index) (end d) ∙ sym (whole (ended d) ∙ ap (part s) (ends d))
 
 pub subterm-spec : {M : Type 1} → statement M
 subterm-spec =

@@ -1,605 +1,1061 @@
--- `typing::type_node` meets its contract: the checker calls itself on the part of each operand.
+-- `typing::type_node` meets its contract: the checker calls itself on the part of each operand. The measure is the length of the
+-- node's part of the script. What each stage of a call knows is in `Steps`; here the places of the code are given to it.
 use mathlib.Core.Path.{_≡_, refl, sym, ap, _∙_}
-use mathlib.Core.List.{[], _∷_}
-use Prim.Native.Nat.{_+_, _-_, _≤_}
+use mathlib.Core.List.{List, [], _∷_}
+use Prim.Native.Nat.{ℕ, _+_, _-_, _≤_, _<_}
 use native.Mathlib.Omega.{arith}
+use borrow.Author.Needs.{needs}
+use borrow.Fn.Kinds.{In}
+use borrow.Fn.PlainCycle.{Measures, is, falls, and}
+use borrow.Rule.Slice.PartMut.{putMid, same-len-mid}
 use lib.ListN.{length, take, drop}
 use Rattle.calculus.specs.Types.{Ty, top}
-use Rattle.rules.specs.Answer.{Bytes}
+use Rattle.calculus.specs.Terms.{Term}
+use Rattle.rules.specs.Answer.{Bytes, Answer}
 use Rattle.rules.specs.Groups.{readers}
 use Rattle.rules.specs.Types.{type-at}
 use Rattle.rules.specs.Script.{number, encode, size}
 use Rattle.rules.specs.Typing.{right, q22, typing}
-use Rattle.types.specs.Held.{right-of}
-use Rattle.inference.specs.Operands.{operand-count}
+use Rattle.records.specs.Place.{At}
 use Rattle.records.specs.Operands.{first-operand, second-operand, third-operand}
+use Rattle.types.specs.Held.{right-of}
+use Rattle.types.proofs.Parts.{to-end}
+use Rattle.inference.specs.Operands.{operand-count}
 use Rattle.inference.specs.Memory.{Sized, Meets, Ready, Enters}
 use Rattle.inference.specs.Stages.{first-context, kept-front, second-context, Leaf, Some}
-use Rattle.typing.specs.Parts.{kept-between}
-use Rattle.types.proofs.Parts.{to-end}
-use Rattle.inference.proofs.Regions.{entered}
 use Rattle.inference.proofs.Shapes.{long, counted-of}
 use Rattle.inference.proofs.Rules.{meets-of}
-use borrow.Author.Needs.{needs}
-use borrow.Rule.Slice.PartMut.{putMid, same-len-mid}
-use Rattle.records.specs.Place.{At}
+use Rattle.typing.specs.Parts.{kept-between}
 use Rattle.typing.proofs.Apart.{typing-leaf}
-use Rattle.typing.proofs.Below.{first-at, second-at, third-at, first-whole, second-whole, third-whole, at-most-three, branch-binders}
-use Rattle.typing.proofs.Steps.{went, Went, Done1, Done2, Done3, Done5, Done6, level, enter-refuses, low-within, ready1, first-refuses, done1, room2, one-of, last-meets, front, some-of, middle-refuses, done2, mid-within, second-placed, ready2, second-refuses, done3, two-of as both-of, ends-meets, case-named, branch-held, turn-asks, holds4, turn-refuses, done5, third-placed, ready3, third-refuses, done6, done-room, done-asks, done-meets}
-use Prim.Native.Nat.{ℕ, _<_}
-use borrow.Fn.Kinds.{In}
-use borrow.Fn.PlainCycle.{Measures, is, falls, and}
-use Rattle.typing.proofs.type_node.Reads as type-node
-use Rattle.typing.proofs.type_node.Kinds as type-node-kinds
-use Rattle.typing.proofs.+type_node.Lts-type_node as type-node-lts
+use Rattle.typing.proofs.Below.{
+  first-at,
+  second-at,
+  third-at,
+  first-whole,
+  second-whole,
+  third-whole,
+  at-most-three,
+  branch-binders,
+}
+use Rattle.typing.proofs.Steps as steps
+use Rattle.typing.proofs.type_node.Reads as node
+use Rattle.typing.proofs.type_node.Kinds as node-kinds
+use Rattle.typing.proofs.+type_node.Lts-type_node as lts
 use Rattle.types.proofs.indirect.Reads as indirect-reads
 use Rattle.inference.proofs.done.Reads as done-reads
 use Rattle.inference.proofs.ends.Reads as ends-reads
 use Rattle.inference.proofs.enter.Reads as enter-reads
 use Rattle.inference.proofs.index.Reads as index-reads
-use Rattle.typing.proofs.kept_between.Reads as kept-between-reads
 use Rattle.inference.proofs.kept_front.Reads as kept-front-reads
 use Rattle.inference.proofs.last.Reads as last-reads
 use Rattle.inference.proofs.leaf.Reads as leaf-reads
 use Rattle.inference.proofs.middle.Reads as middle-reads
+use Rattle.inference.proofs.turn.Reads as turn-reads
+use Rattle.typing.proofs.kept_between.Reads as kept-between-reads
 use Rattle.typing.proofs.operand.Reads as operand-reads
 use Rattle.typing.proofs.operand_end.Reads as operand-end-reads
 use Rattle.typing.proofs.operands.Reads as operands-reads
-use Rattle.inference.proofs.turn.Reads as turn-reads
 use Rattle.typing.proofs.+type_node.{statement}
 use Rattle.typing.proofs.+type_node.Tie.{close}
 
-abbrev μ-type-node : Measures 4 type-node-kinds.ps ℕ
-μ-type-node κs a = length (a .1 .1 .0 .now)
+abbrev μ-node : Measures 4 node-kinds.ps ℕ
+μ-node κs a = length (a .1 .1 .0 .now)
 
-abbrev type-node-at : ℕ → In 4 type-node-kinds.ps
-type-node-at t = and 4 type-node-kinds.ps (is 4 type-node-kinds.ps μ-type-node t) type-node.Pre
+abbrev node-at : ℕ → In 4 node-kinds.ps
+node-at t = and 4 node-kinds.ps (is 4 node-kinds.ps μ-node t) node.Pre
 
-abbrev type-node-below : ℕ → In 4 type-node-kinds.ps
-type-node-below t =
-    and 4 type-node-kinds.ps (falls 4 type-node-kinds.ps _<_ μ-type-node t) type-node.Pre
+abbrev node-below : ℕ → In 4 node-kinds.ps
+node-below t = and 4 node-kinds.ps (falls 4 node-kinds.ps _<_ μ-node t) node.Pre
 
--- what `type-node` is given of the functions that it calls
-abbrev type-node-claims : ℕ → type-node-lts.Claims
-type-node-claims t = (operands-reads.Asked, operands-reads.Learnt, leaf-reads.Asked, leaf-reads.Learnt, enter-reads.Asked, enter-reads.Learnt, operand-end-reads.Asked, operand-end-reads.Learnt, kept-front-reads.Asked, kept-front-reads.Learnt, operand-reads.Asked, operand-reads.Learnt, type-node-below t, type-node.Post, last-reads.Asked, last-reads.Learnt, indirect-reads.Asked, indirect-reads.Learnt, middle-reads.Asked, middle-reads.Learnt, kept-between-reads.Asked, kept-between-reads.Learnt, ends-reads.Asked, ends-reads.Learnt, index-reads.Asked, index-reads.Learnt, turn-reads.Asked, turn-reads.Learnt, done-reads.Asked, done-reads.Learnt)
+-- what `type_node` is given of the functions that it calls
+abbrev claims : ℕ → lts.Claims
+claims t = (
+  operands-reads.Asked,
+  operands-reads.Learnt,
+  leaf-reads.Asked,
+  leaf-reads.Learnt,
+  enter-reads.Asked,
+  enter-reads.Learnt,
+  operand-end-reads.Asked,
+  operand-end-reads.Learnt,
+  kept-front-reads.Asked,
+  kept-front-reads.Learnt,
+  operand-reads.Asked,
+  operand-reads.Learnt,
+  node-below t,
+  node.Post,
+  last-reads.Asked,
+  last-reads.Learnt,
+  indirect-reads.Asked,
+  indirect-reads.Learnt,
+  middle-reads.Asked,
+  middle-reads.Learnt,
+  kept-between-reads.Asked,
+  kept-between-reads.Learnt,
+  ends-reads.Asked,
+  ends-reads.Learnt,
+  index-reads.Asked,
+  index-reads.Learnt,
+  turn-reads.Asked,
+  turn-reads.Learnt,
+  done-reads.Asked,
+  done-reads.Learnt,
+)
 
+abbrev leaf-of : {types s : Bytes} {place b : ℕ} {w : Bytes} (v : Ready types s place b w)
+    → operand-count (v .tree) ≡ 0 → Leaf s b w
+leaf-of {types} v o =
+    record {
+      ctx = v .ctx;
+      binders = v .binders;
+      holds = v .holds;
+      tree = v .tree;
+      is = v .is;
+      leaf = o;
+      types = types;
+      formed = v .formed;
+      room = steps.level [] v;
+    }
+
+-- A place of the code is a type, as `Entered`; the path back to it from the next place has its name, as `entered`, and a longer
+-- one is `to-entered`; `to-first` and `to-second` go to where that operand has its type. w₁ to w₆ are the work buffer after each
+-- call that writes to it; c₁, i₂, low, n, c₂, i₃, mid, m and i are the code's locals.
+-- In a proof x is the place after the call that answered, z a branch's, p a part's, e that of an operand's context, and d that of
+-- an operand that is done; o says how many operands there are, and k what is known by then.
 module _ (t : ℕ) where
-  abbrev start : type-node-lts.After-operands (type-node-claims t) (type-node-at t) type-node.Post → type-node-lts.Start (type-node-claims t) (type-node-at t) type-node.Post
-  start c = (c .before .before .before .before .before)
+  -- ---- before the first operand
 
-  abbrev gr : type-node-lts.After-operands (type-node-claims t) (type-node-at t) type-node.Post → Bytes
-  gr c = start c .args .groups .now
+  abbrev Start : Type 0
+  Start = lts.Start (claims t) (node-at t) node.Post
 
-  abbrev ty : type-node-lts.After-operands (type-node-claims t) (type-node-at t) type-node.Post → Bytes
-  ty c = start c .args .types .now
+  -- after operands(s)
+  abbrev Counted : Type 0
+  Counted = lts.After-operands (claims t) (node-at t) node.Post
 
-  abbrev sc : type-node-lts.After-operands (type-node-claims t) (type-node-at t) type-node.Post → Bytes
-  sc c = start c .args .s .now
+  -- o == 0
+  abbrev Zero : Type 0
+  Zero = lts.Then1 (claims t) (node-at t) node.Post
 
-  abbrev pl : type-node-lts.After-operands (type-node-claims t) (type-node-at t) type-node.Post → ℕ
-  pl c = start c .args .place
+  abbrev start : Counted → Start
+  start c = c .before .before .before .before .before
 
-  abbrev bi : type-node-lts.After-operands (type-node-claims t) (type-node-at t) type-node.Post → ℕ
-  bi c = start c .args .b
+  abbrev G : Start → Bytes
+  G s = s .args .groups .now
 
-  abbrev w0 : type-node-lts.After-operands (type-node-claims t) (type-node-at t) type-node.Post → Bytes
-  w0 c = start c .args .w .now
+  abbrev T : Start → Bytes
+  T s = s .args .types .now
 
-  abbrev Rd : type-node-lts.After-operands (type-node-claims t) (type-node-at t) type-node.Post → Type 0
-  Rd c = Ready (ty c) (sc c) (pl c) (bi c) (w0 c)
+  abbrev S : Start → Bytes
+  S s = s .args .s .now
 
-  abbrev rd : (c : type-node-lts.After-operands (type-node-claims t) (type-node-at t) type-node.Post) → Rd c
-  rd c = start c .pre .1
+  abbrev W : Start → Bytes
+  W s = s .args .w .now
 
-  count : (c : type-node-lts.After-operands (type-node-claims t) (type-node-at t) type-node.Post) (v : Rd c) → c .operands .result ≡ operand-count (v .tree)
+  abbrev place : Start → ℕ
+  place s = s .args .place
+
+  -- the typing of the term e at record p, in the context Γ
+  abbrev says : Start → List Ty → ℕ → Term → Answer Ty
+  says s Γ p e = typing (readers (G s)) (type-at (T s)) Γ p e
+
+  -- what the contract requires; the facts below are of any v : Given, as what it ensures is
+  abbrev Given : Start → Type 0
+  Given s = Ready (T s) (S s) (place s) (s .args .b) (W s)
+
+  abbrev given : (s : Start) → Given s
+  given s = s .pre .1
+
+  count : (c : Counted) (v : Given (start c)) → c .operands .result ≡ operand-count (v .tree)
   count c v = c .operands .ensures ∙ counted-of (v .tree) (v .is)
 
-  abbrev leaf-of : {types s : Bytes} {place b : ℕ} {w : Bytes} (v : Ready types s place b w) → operand-count (v .tree) ≡ 0 → Leaf s b w
-  leaf-of {types} v o =
+  is-zero : (c : Zero) (v : Given (start (c .before))) → operand-count (v .tree) ≡ 0
+  is-zero c v = sym (count (c .before) v) ∙ c .if1 .taken
+
+  operands-requires : lts.Need-operands-requires (claims t) (node-at t) node.Post
+  operands-requires c κs = let v = given (c .before .before .before .before) in long (v .tree) (v .is)
+
+  leaf-requires : lts.Need-leaf-requires (claims t) (node-at t) node.Post
+  leaf-requires c κs = let v = given (start (c .before .before)) in leaf-of v (is-zero (c .before) v)
+
+  same-length : lts.Need-same-length (claims t) (node-at t) node.Post
+  same-length c = c .before .before .leaf .kept .1 .1 .0
+
+  returns : lts.Need-returns (claims t) (node-at t) node.Post
+  returns c v =
+      let x = c .before .before in
+      let z = x .before .before in
+      let s = start (z .before) in
+      let o = is-zero z v in
+      meets-of (typing-leaf (readers (G s)) (type-at (T s)) (v .ctx) (place s) (v .tree) o) (x .leaf .ensures (leaf-of v o))
+
+  -- ---- entering: the questions before the first operand, and its context
+
+  -- after inference::enter(..)
+  abbrev Enter : Type 0
+  Enter = lts.After-enter (claims t) (node-at t) node.Post
+
+  -- c is known
+  abbrev Entered : Type 0
+  Entered = lts.After-known-told (claims t) (node-at t) node.Post
+
+  abbrev counted : Enter → Counted
+  counted c = c .before .before .before
+
+  abbrev enter : Entered → Enter
+  enter c = c .before .before .before .before .before
+
+  abbrev start₁ : Entered → Start
+  start₁ c = start (counted (enter c))
+
+  abbrev w₁ : Enter → Bytes
+  w₁ c = c .enter .last .1 .1 .1 .1 .1 .0
+
+  abbrev c₁ : Entered → ℕ
+  c₁ c = c .before .e .given .0 .0
+
+  w₁-length : (c : Enter) → length (w₁ c) ≡ length (W (start (counted c)))
+  w₁-length c = c .enter .kept .1 .1 .1 .1 .1 .0
+
+  module _ (c : Entered) (v : Given (start₁ c)) where
+    o-is : counted (enter c) .operands .result ≡ operand-count (v .tree)
+    o-is = count (counted (enter c)) v
+
+    has-one : 1 ≤ operand-count (v .tree)
+    has-one = let o : operand-count (v .tree) ≡ 0 → ⊥ = λ z. enter c .before .before .if1 .left (o-is ∙ z) in omega arith
+
+    went : steps.Went (G (start₁ c)) v (c₁ c) (w₁ (enter c))
+    went =
+        let p = steps.went (c .before .e .given .1) (enter c .enter .ensures v) in
+        record { asked = p .0; entered = p .1; same = w₁-length (enter c) }
+
+    first-stands : At (S (start₁ c)) 1 (first-operand (v .tree))
+    first-stands = first-at (S (start₁ c)) (v .tree) (v .is) has-one
+
+  enter-requires : lts.Need-enter-requires (claims t) (node-at t) node.Post
+  enter-requires c κs = given (start (c .before .before))
+
+  enum-known-e : lts.Need-enum-known-e (claims t) (node-at t) node.Post
+  enum-known-e c = c .match .keys1
+
+  enum-told : lts.Need-enum-told (claims t) (node-at t) node.Post
+  enum-told c = c .match .keys2
+
+  same-length-2 : lts.Need-same-length-2 (claims t) (node-at t) node.Post
+  same-length-2 c = w₁-length (c .before .before .before .before)
+
+  returns-2 : lts.Need-returns-2 (claims t) (node-at t) node.Post
+  returns-2 c v =
+      let x = c .before .before .before .before in
+      steps.enter-refuses (G (start (counted x))) v (c .before .match .keys2) (x .enter .ensures v)
+
+  -- ---- the first operand
+
+  -- after inference::kept_front(s)
+  abbrev Front : Type 0
+  Front = lts.After-kept-front (claims t) (node-at t) node.Post
+
+  -- after operand(s, 1, i2)
+  abbrev First-part : Type 0
+  First-part = lts.After-operand (claims t) (node-at t) node.Post
+
+  -- after type_node(.., first, ..)
+  abbrev First : Type 0
+  First = lts.After-type-node (claims t) (node-at t) node.Post
+
+  -- n is known
+  abbrev First-typed : Type 0
+  First-typed = lts.After-known-told2 (claims t) (node-at t) node.Post
+
+  abbrev entered : Front → Entered
+  entered c = c .before .before
+
+  abbrev front : First → Front
+  front c = c .before .before .before
+
+  abbrev first : First-typed → First
+  first c = c .before .before .before .before .before
+
+  abbrev i₂ : Front → ℕ
+  i₂ c = c .before .operand-end .result
+
+  abbrev low : Front → ℕ
+  low c = c .kept-front .result
+
+  -- the part of the work buffer that is lent, and that part after the call
+  abbrev u₁ : Front → Bytes
+  u₁ c = let w = w₁ (enter (entered c)) in take (length w - low c) (drop (low c) w)
+
+  abbrev z₁ : First → Bytes
+  z₁ c = c .type-node .last .1 .1 .1 .1 .1 .0
+
+  abbrev w₂ : First → Bytes
+  w₂ c = let w = w₁ (enter (entered (front c))) in putMid (low (front c)) (length w - low (front c)) w (z₁ c)
+
+  module _ (c : Front) (v : Given (start₁ (entered c))) where
+    i₂-is : i₂ c ≡ 1 + size (first-operand (v .tree))
+    i₂-is = c .before .operand-end .ensures (first-operand (v .tree)) (first-stands (entered c) v)
+
+    low-is : low c ≡ kept-front (v .tree)
+    low-is = c .kept-front .ensures (v .tree) (v .is)
+
+  low-within : (c : Front) → low c ≤ length (w₁ (enter (entered c)))
+  low-within c =
+      let e = entered c in
+      let v = given (start₁ e) in
+      steps.low-within (G (start₁ e)) v (has-one e v) (went e v) (low-is c v)
+
+  module _ (c : First-part) (v : Given (start₁ (entered (c .before)))) where
+    first-part : c .operand .result .now ≡ encode (first-operand (v .tree))
+    first-part = c .operand .ensures .0 (first-operand (v .tree)) (first-stands (entered (c .before)) v) (i₂-is (c .before) v)
+
+    abbrev ready₁ : let e = entered (c .before) in
+        Ready (T (start₁ e)) (c .operand .result .now) (place (start₁ e) + 1) (c₁ e) (u₁ (c .before))
+    ready₁ =
+        let f = c .before in
+        let e = entered f in
+        steps.ready1 (G (start₁ e)) v (has-one e v) (went e v) (low-is f v) first-part (to-end (low f) (w₁ (enter e)))
+
+  z₁-length : (c : First) → length (z₁ c) ≡ length (u₁ (front c))
+  z₁-length c = c .type-node .kept .1 .1 .1 .1 .1 .0
+
+  w₂-length : (c : First) → length (w₂ c) ≡ length (w₁ (enter (entered (front c))))
+  w₂-length c =
+      let w = w₁ (enter (entered (front c))) in
+      same-len-mid (low (front c)) (length w - low (front c)) w (z₁ c) (z₁-length c)
+
+  -- what the call on the first operand answers
+  met₁ : (c : First) (v : Given (start₁ (entered (front c))))
+      → let e = entered (front c) in
+      let s = start₁ e in
+      Meets (says s (first-context (type-at (T s)) (v .ctx) (v .tree)) (place s + 1) (first-operand (v .tree)))
+      (c₁ e) (u₁ (front c)) (c .type-node .result) (z₁ c)
+  met₁ c v = c .type-node .ensures (ready₁ (c .before .before) v)
+
+  operand-end-requires : lts.Need-operand-end-requires (claims t) (node-at t) node.Post
+  operand-end-requires c κs =
+      let v = given (start₁ c) in
       record {
-        ctx = v .ctx;
-        binders = v .binders;
-        holds = v .holds;
-        tree = v .tree;
-        is = v .is;
-        leaf = o;
-        types = types;
-        formed = v .formed;
-        room = level [] v;
+        tree = first-operand (v .tree);
+        at = first-stands c v;
+        whole = λ z. first-whole (S (start₁ c)) (v .tree) (v .is) (sym (o-is c v) ∙ sym z);
       }
 
-  type-node-operands-requires : type-node-lts.Need-operands-requires (type-node-claims t) (type-node-at t) type-node.Post
-  type-node-operands-requires c κs = long ((c .before .before .before .before) .pre .1 .tree) ((c .before .before .before .before) .pre .1 .is)
+  kept-front-requires : lts.Need-kept-front-requires (claims t) (node-at t) node.Post
+  kept-front-requires c κs = let v = given (start₁ (c .before)) in long (v .tree) (v .is)
+
+  operand-requires : lts.Need-operand-requires (claims t) (node-at t) node.Post
+  operand-requires c κs =
+      let v = given (start₁ (entered c)) in
+      record { tree = first-operand (v .tree); at = first-stands (entered c) v; ends = i₂-is c v }
+
+  add-type-node : lts.Need-add-type-node (claims t) (node-at t) node.Post
+  add-type-node c = omega (arith, given (start₁ (entered (c .before))) .placed)
+
+  sub-type-node : lts.Need-sub-type-node (claims t) (node-at t) node.Post
+  sub-type-node c = low-within (c .before)
+
+  part-type-node-start : lts.Need-part-type-node-start (claims t) (node-at t) node.Post
+  part-type-node-start c = low-within (c .before)
 
-  type-node-leaf-requires : type-node-lts.Need-leaf-requires (type-node-claims t) (type-node-at t) type-node.Post
-  type-node-leaf-requires c κs = leaf-of (rd (c .before .before)) (sym (count (c .before .before) (rd (c .before .before))) ∙ (c .before) .if1 .taken)
+  part-type-node-end : lts.Need-part-type-node-end (claims t) (node-at t) node.Post
+  part-type-node-end c = omega arith
 
-  type-node-same-length : type-node-lts.Need-same-length (type-node-claims t) (type-node-at t) type-node.Post
-  type-node-same-length c = (c .before .before) .leaf .kept .1 .1 .0
+  type-node-requires : lts.Need-type-node-requires (claims t) (node-at t) node.Post
+  type-node-requires c κs =
+      let p = c .before in
+      let s = start₁ (entered (p .before)) in
+      (omega (arith, p .operand .ensures .1 (omega arith), s .pre .0), ready₁ p (given s))
 
-  type-node-returns : type-node-lts.Need-returns (type-node-claims t) (type-node-at t) type-node.Post
-  type-node-returns c =
-      λ v.
-      let o = sym (count (c .before .before .before .before .before) v) ∙ (c .before .before .before .before) .if1 .taken in
-      meets-of (typing-leaf (readers (gr (c .before .before .before .before .before))) (type-at (ty (c .before .before .before .before .before))) (v .ctx) (pl (c .before .before .before .before .before)) (v .tree) o) ((c .before .before) .leaf .ensures (leaf-of v o))
+  enum-known-x1 : lts.Need-enum-known-x1 (claims t) (node-at t) node.Post
+  enum-known-x1 c = c .match2 .keys1
 
-  type-node-enter-requires : type-node-lts.Need-enter-requires (type-node-claims t) (type-node-at t) type-node.Post
-  type-node-enter-requires c κs = rd (c .before .before)
+  enum-told-2 : lts.Need-enum-told-2 (claims t) (node-at t) node.Post
+  enum-told-2 c = c .match2 .keys2
+
+  same-length-3 : lts.Need-same-length-3 (claims t) (node-at t) node.Post
+  same-length-3 c = let x = c .before .before .before .before in w₂-length x ∙ w₁-length (enter (entered (front x)))
+
+  returns-3 : lts.Need-returns-3 (claims t) (node-at t) node.Post
+  returns-3 c v =
+      let x = c .before .before .before .before in
+      let e = entered (front x) in
+      steps.first-refuses (G (start₁ e)) v (has-one e v) (went e v) (low-is (front x) v) (met₁ x v) (c .before .match2 .keys2)
 
-  type-node-enum-known-e : type-node-lts.Need-enum-known-e (type-node-claims t) (type-node-at t) type-node.Post
-  type-node-enum-known-e c = c .match .keys1
+  -- the first operand has a type
+  abbrev to-entered : First-typed → Entered
+  to-entered c = entered (front (first c))
 
-  type-node-enum-told : type-node-lts.Need-enum-told (type-node-claims t) (type-node-at t) type-node.Post
-  type-node-enum-told c = c .match .keys2
+  abbrev start₂ : First-typed → Start
+  start₂ c = start₁ (to-entered c)
 
-  type-node-same-length-2 : type-node-lts.Need-same-length-2 (type-node-claims t) (type-node-at t) type-node.Post
-  type-node-same-length-2 c = (c .before .before .before .before) .enter .kept .1 .1 .1 .1 .1 .0
+  abbrev n : First-typed → ℕ
+  n c = c .before .x1 .given .0 .0
+
+  done₁ : (c : First-typed) (v : Given (start₂ c)) → steps.Done1 (G (start₂ c)) v (n c) (w₂ (first c))
+  done₁ c v =
+      let x = first c in
+      let f = front x in
+      let e = entered f in
+      steps.done1 (G (start₁ e)) v (has-one e v) (went e v) (low-is f v) (met₁ x v) (to-end (low f) (w₁ (enter e)))
+      (z₁-length x) (c .before .x1 .given .1) refl
 
-  type-node-returns-2 : type-node-lts.Need-returns-2 (type-node-claims t) (type-node-at t) type-node.Post
-  type-node-returns-2 c = λ v. enter-refuses (gr (c .before .before .before .before .before .before .before)) v ((c .before) .match .keys2) ((c .before .before .before .before) .enter .ensures v)
+  -- ---- after one operand
 
-  -- entered: the first operand's context
-  abbrev ops1 : type-node-lts.After-known-told (type-node-claims t) (type-node-at t) type-node.Post → type-node-lts.After-operands (type-node-claims t) (type-node-at t) type-node.Post
-  ops1 c = (c .before .before .before .before .before .before .before .before)
+  -- o == 1
+  abbrev One : Type 0
+  One = lts.Then2 (claims t) (node-at t) node.Post
 
-  abbrev c1 : type-node-lts.After-known-told (type-node-claims t) (type-node-at t) type-node.Post → ℕ
-  c1 c = (c .before) .e .given .0 .0
+  is-one : (c : One) (v : Given (start₂ (c .before))) → operand-count (v .tree) ≡ 1
+  is-one c v = sym (o-is (to-entered (c .before)) v) ∙ c .if2 .taken
 
-  abbrev w1 : type-node-lts.After-known-told (type-node-claims t) (type-node-at t) type-node.Post → Bytes
-  w1 c = (c .before .before .before .before .before) .enter .last .1 .1 .1 .1 .1 .0
+  last-requires : lts.Need-last-requires (claims t) (node-at t) node.Post
+  last-requires c κs =
+      let d = c .before .before in
+      let v = given (start₂ d) in
+      steps.one-of (G (start₂ d)) v (done₁ d v) (is-one (c .before) v)
+
+  same-length-4 : lts.Need-same-length-4 (claims t) (node-at t) node.Post
+  same-length-4 c =
+      let x = c .before .before in
+      let d = x .before .before .before in
+      x .last .kept .1 .1 .1 .1 .0 ∙ done₁ d (given (start₂ d)) .same
+
+  returns-4 : lts.Need-returns-4 (claims t) (node-at t) node.Post
+  returns-4 c v =
+      let x = c .before .before in
+      let z = x .before .before in
+      let s = start₂ (z .before) in
+      let o = is-one z v in
+      let k = done₁ (z .before) v in
+      steps.last-meets (G s) v k o (x .last .ensures (steps.one-of (G s) v k o) (s .args .b) (steps.room2 (G s) v k))
+
+  -- ---- between the first operand and the second
+
+  -- o is 2 or 3
+  abbrev Several : Type 0
+  Several = lts.Else2 (claims t) (node-at t) node.Post
+
+  -- after inference::middle(..)
+  abbrev Middle : Type 0
+  Middle = lts.After-middle (claims t) (node-at t) node.Post
+
+  -- c2 is known
+  abbrev Between : Type 0
+  Between = lts.After-known-told3 (claims t) (node-at t) node.Post
 
-  some1 : (c : type-node-lts.After-known-told (type-node-claims t) (type-node-at t) type-node.Post) (v : Rd (ops1 c)) → 1 ≤ operand-count (v .tree)
-  some1 c v = let e : operand-count (v .tree) ≡ 0 → ⊥ = λ z. (c .before .before .before .before .before .before .before) .if1 .left (count (ops1 c) v ∙ z) in omega arith
+  abbrev several : Middle → Several
+  several c = c .before .before .before .before
 
-  went1 : (c : type-node-lts.After-known-told (type-node-claims t) (type-node-at t) type-node.Post) (v : Rd (ops1 c)) → Went (gr (ops1 c)) v (c1 c) (w1 c)
-  went1 c v = let p = went ((c .before) .e .given .1) ((c .before .before .before .before .before) .enter .ensures v) in record { asked = p .0; entered = p .1; same = (c .before .before .before .before .before) .enter .kept .1 .1 .1 .1 .1 .0 }
+  abbrev middle : Between → Middle
+  middle c = c .before .before .before .before .before
 
-  at1 : (c : type-node-lts.After-known-told (type-node-claims t) (type-node-at t) type-node.Post) (v : Rd (ops1 c)) → At (sc (ops1 c)) 1 (first-operand (v .tree))
-  at1 c v = first-at (sc (ops1 c)) (v .tree) (v .is) (some1 c v)
+  abbrev to-several : Between → Several
+  to-several c = several (middle c)
 
-  type-node-operand-end-requires : type-node-lts.Need-operand-end-requires (type-node-claims t) (type-node-at t) type-node.Post
-  type-node-operand-end-requires c κs = record { tree = first-operand (rd (ops1 c) .tree); at = at1 c (rd (ops1 c)); whole = λ z. first-whole (sc (ops1 c)) (rd (ops1 c) .tree) (rd (ops1 c) .is) (sym (count (ops1 c) (rd (ops1 c))) ∙ sym z) }
+  abbrev to-first : Between → First-typed
+  to-first c = to-several c .before
 
-  type-node-kept-front-requires : type-node-lts.Need-kept-front-requires (type-node-claims t) (type-node-at t) type-node.Post
-  type-node-kept-front-requires c κs = long (rd (ops1 (c .before)) .tree) (rd (ops1 (c .before)) .is)
+  abbrev start₃ : Between → Start
+  start₃ c = start₂ (to-first c)
 
-  end1 : (c : type-node-lts.After-kept-front (type-node-claims t) (type-node-at t) type-node.Post) (v : Rd (ops1 (c .before .before))) → (c .before) .operand-end .result ≡ 1 + size (first-operand (v .tree))
-  end1 c v = (c .before) .operand-end .ensures (first-operand (v .tree)) (at1 (c .before .before) v)
+  abbrev w₃ : Middle → Bytes
+  w₃ c = c .middle .last .1 .1 .1 .1 .0
 
-  low1 : (c : type-node-lts.After-kept-front (type-node-claims t) (type-node-at t) type-node.Post) (v : Rd (ops1 (c .before .before))) → c .kept-front .result ≡ kept-front (v .tree)
-  low1 c v = c .kept-front .ensures (v .tree) (v .is)
+  abbrev c₂ : Between → ℕ
+  c₂ c = c .before .t .given .0 .0
 
-  low-le : (c : type-node-lts.After-kept-front (type-node-claims t) (type-node-at t) type-node.Post) → c .kept-front .result ≤ length (w1 (c .before .before))
-  low-le c = let v = rd (ops1 (c .before .before)) in low-within (gr (ops1 (c .before .before))) v (some1 (c .before .before) v) (went1 (c .before .before) v) (low1 c v)
+  module _ (c : Several) (v : Given (start₂ (c .before))) where
+    has-two : 2 ≤ operand-count (v .tree)
+    has-two =
+        let e = to-entered (c .before) in
+        let h = has-one e v in
+        let o : operand-count (v .tree) ≡ 1 → ⊥ = λ z. c .if2 .left (o-is e v ∙ z) in
+        omega arith
 
-  type-node-operand-requires : type-node-lts.Need-operand-requires (type-node-claims t) (type-node-at t) type-node.Post
-  type-node-operand-requires c κs = let v = rd (ops1 (c .before .before)) in record { tree = first-operand (v .tree); at = at1 (c .before .before) v; ends = end1 c v }
+    first-held : Sized (w₂ (first (c .before))) (n (c .before)) (done₁ (c .before) v .type)
+    first-held = steps.front (G (start₂ (c .before))) v (done₁ (c .before) v) has-two
 
-  part1 : (c : type-node-lts.After-operand (type-node-claims t) (type-node-at t) type-node.Post) (v : Rd (ops1 (c .before .before .before))) → c .operand .result .now ≡ encode (first-operand (v .tree))
-  part1 c v = c .operand .ensures .0 (first-operand (v .tree)) (at1 (c .before .before .before) v) (end1 (c .before) v)
+    abbrev some : let s = start₂ (c .before) in Some (S s) (s .args .b) (w₂ (first (c .before))) (n (c .before))
+    some = steps.some-of (G (start₂ (c .before))) v (done₁ (c .before) v) has-two
 
-  abbrev u1 : type-node-lts.After-operand (type-node-claims t) (type-node-at t) type-node.Post → Bytes
-  u1 c = take (length (w1 (c .before .before .before)) - (c .before) .kept-front .result) (drop ((c .before) .kept-front .result) (w1 (c .before .before .before)))
+  -- the first operand's indirection, kept for a case's answer
+  by-is : (c : Middle) (v : Given (start₂ (several c .before)))
+      → c .before .before .indirect .result .0 ≡ top (done₁ (several c .before) v .type) .ir
+  by-is c v = c .before .before .indirect .ensures (done₁ (several c .before) v .type) (first-held (several c) v .held)
 
-  abbrev ready1-at : (c : type-node-lts.After-operand (type-node-claims t) (type-node-at t) type-node.Post) (v : Rd (ops1 (c .before .before .before))) → Ready (ty (ops1 (c .before .before .before))) (c .operand .result .now) (pl (ops1 (c .before .before .before)) + 1) (c1 (c .before .before .before)) (u1 c)
-  ready1-at c v = ready1 (gr (ops1 (c .before .before .before))) v (some1 (c .before .before .before) v) (went1 (c .before .before .before) v) (low1 (c .before) v) (part1 c v) (to-end ((c .before) .kept-front .result) (w1 (c .before .before .before)))
+  w₃-length : (c : Middle) → length (w₃ c) ≡ length (W (start₂ (several c .before)))
+  w₃-length c = let d = several c .before in c .middle .kept .1 .1 .1 .1 .0 ∙ done₁ d (given (start₂ d)) .same
 
-  type-node-add-type-node : type-node-lts.Need-add-type-node (type-node-claims t) (type-node-at t) type-node.Post
-  type-node-add-type-node c = omega (arith, rd (ops1 (c .before .before .before)) .placed)
+  indirect-requires : lts.Need-indirect-requires (claims t) (node-at t) node.Post
+  indirect-requires c κs =
+      let d = c .before .before in
+      let v = given (start₂ d) in
+      record { type = done₁ d v .type; held = first-held (c .before) v .held }
 
-  type-node-sub-type-node : type-node-lts.Need-sub-type-node (type-node-claims t) (type-node-at t) type-node.Post
-  type-node-sub-type-node c = low-le (c .before)
+  middle-requires : lts.Need-middle-requires (claims t) (node-at t) node.Post
+  middle-requires c κs = let z = c .before .before .before in some z (given (start₂ (z .before)))
 
-  type-node-part-type-node-start : type-node-lts.Need-part-type-node-start (type-node-claims t) (type-node-at t) type-node.Post
-  type-node-part-type-node-start c = low-le (c .before)
+  enum-known-t : lts.Need-enum-known-t (claims t) (node-at t) node.Post
+  enum-known-t c = c .match3 .keys1
 
-  type-node-part-type-node-end : type-node-lts.Need-part-type-node-end (type-node-claims t) (type-node-at t) type-node.Post
-  type-node-part-type-node-end c = omega arith
+  enum-told-3 : lts.Need-enum-told-3 (claims t) (node-at t) node.Post
+  enum-told-3 c = c .match3 .keys2
 
-  type-node-type-node-requires : type-node-lts.Need-type-node-requires (type-node-claims t) (type-node-at t) type-node.Post
-  type-node-type-node-requires c κs = (omega (arith, (c .before) .operand .ensures .1 (omega arith), start (ops1 (c .before .before .before .before)) .pre .0), ready1-at (c .before) (rd (ops1 (c .before .before .before .before))))
+  same-length-5 : lts.Need-same-length-5 (claims t) (node-at t) node.Post
+  same-length-5 c = w₃-length (c .before .before .before .before)
 
-  type-node-enum-known-x1 : type-node-lts.Need-enum-known-x1 (type-node-claims t) (type-node-at t) type-node.Post
-  type-node-enum-known-x1 c = c .match2 .keys1
+  returns-5 : lts.Need-returns-5 (claims t) (node-at t) node.Post
+  returns-5 c v =
+      let x = c .before .before .before .before in
+      let z = several x in
+      let d = z .before in
+      steps.middle-refuses (G (start₂ d)) v (done₁ d v) (has-two z v) (c .before .match3 .keys2) (x .middle .ensures (some z v))
 
-  type-node-enum-told-2 : type-node-lts.Need-enum-told-2 (type-node-claims t) (type-node-at t) type-node.Post
-  type-node-enum-told-2 c = c .match2 .keys2
+  -- the second operand's context is there
+  abbrev first-type : (c : Between) → Given (start₃ c) → Ty
+  first-type c v = done₁ (to-first c) v .type
 
-  abbrev z1 : type-node-lts.After-type-node (type-node-claims t) (type-node-at t) type-node.Post → Bytes
-  z1 c = c .type-node .last .1 .1 .1 .1 .1 .0
-
-  len-z1 : (c : type-node-lts.After-type-node (type-node-claims t) (type-node-at t) type-node.Post) → length (z1 c) ≡ length (u1 (c .before .before))
-  len-z1 c = c .type-node .kept .1 .1 .1 .1 .1 .0
-
-  met1 : (c : type-node-lts.After-type-node (type-node-claims t) (type-node-at t) type-node.Post) (v : Rd (ops1 (c .before .before .before .before .before)))
-      → Meets (typing (readers (gr (ops1 (c .before .before .before .before .before)))) (type-at (ty (ops1 (c .before .before .before .before .before)))) (first-context (type-at (ty (ops1 (c .before .before .before .before .before)))) (v .ctx) (v .tree)) (pl (ops1 (c .before .before .before .before .before)) + 1) (first-operand (v .tree))) (c1 (c .before .before .before .before .before)) (u1 (c .before .before)) (c .type-node .result) (z1 c)
-  met1 c v = c .type-node .ensures (ready1-at (c .before .before) v)
-
-  abbrev w2 : type-node-lts.After-type-node (type-node-claims t) (type-node-at t) type-node.Post → Bytes
-  w2 c = putMid ((c .before .before .before) .kept-front .result) (length (w1 (c .before .before .before .before .before)) - (c .before .before .before) .kept-front .result) (w1 (c .before .before .before .before .before)) (z1 c)
-
-  len2 : (c : type-node-lts.After-type-node (type-node-claims t) (type-node-at t) type-node.Post) → length (w2 c) ≡ length (w1 (c .before .before .before .before .before))
-  len2 c = same-len-mid ((c .before .before .before) .kept-front .result) (length (w1 (c .before .before .before .before .before)) - (c .before .before .before) .kept-front .result) (w1 (c .before .before .before .before .before)) (z1 c) (len-z1 c)
-
-  type-node-same-length-3 : type-node-lts.Need-same-length-3 (type-node-claims t) (type-node-at t) type-node.Post
-  type-node-same-length-3 c = len2 (c .before .before .before .before) ∙ (c .before .before .before .before .before .before .before .before .before .before .before .before .before .before) .enter .kept .1 .1 .1 .1 .1 .0
-
-  type-node-returns-3 : type-node-lts.Need-returns-3 (type-node-claims t) (type-node-at t) type-node.Post
-  type-node-returns-3 c = λ v. first-refuses (gr (ops1 (c .before .before .before .before .before .before .before .before .before))) v (some1 (c .before .before .before .before .before .before .before .before .before) v) (went1 (c .before .before .before .before .before .before .before .before .before) v) (low1 (c .before .before .before .before .before .before .before) v) (met1 (c .before .before .before .before) v) ((c .before) .match2 .keys2)
-
-  -- the first operand typed
-  abbrev ops2 : type-node-lts.After-known-told2 (type-node-claims t) (type-node-at t) type-node.Post → type-node-lts.After-operands (type-node-claims t) (type-node-at t) type-node.Post
-  ops2 c = (c .before .before .before .before .before .before .before .before .before .before .before .before .before .before .before .before .before .before)
-
-  abbrev n1 : type-node-lts.After-known-told2 (type-node-claims t) (type-node-at t) type-node.Post → ℕ
-  n1 c = (c .before) .x1 .given .0 .0
-
-  done-1 : (c : type-node-lts.After-known-told2 (type-node-claims t) (type-node-at t) type-node.Post) (v : Rd (ops2 c)) → Done1 (gr (ops2 c)) v (n1 c) (w2 (c .before .before .before .before .before))
-  done-1 c v =
-      done1 (gr (ops2 c)) v (some1 (c .before .before .before .before .before .before .before .before .before .before) v) (went1 (c .before .before .before .before .before .before .before .before .before .before) v) (low1 (c .before .before .before .before .before .before .before .before) v) (met1 (c .before .before .before .before .before) v) (to-end ((c .before .before .before .before .before .before .before .before) .kept-front .result) (w1 (c .before .before .before .before .before .before .before .before .before .before))) (len-z1 (c .before .before .before .before .before)) ((c .before) .x1 .given .1) refl
-
-  is-one : (c : type-node-lts.Then2 (type-node-claims t) (type-node-at t) type-node.Post) (v : Rd (ops2 (c .before))) → operand-count (v .tree) ≡ 1
-  is-one c v = sym (count (ops2 (c .before)) v) ∙ c .if2 .taken
-
-  type-node-last-requires : type-node-lts.Need-last-requires (type-node-claims t) (type-node-at t) type-node.Post
-  type-node-last-requires c κs = let v = rd (ops2 (c .before .before)) in one-of (gr (ops2 (c .before .before))) v (done-1 (c .before .before) v) (is-one (c .before) v)
-
-  type-node-same-length-4 : type-node-lts.Need-same-length-4 (type-node-claims t) (type-node-at t) type-node.Post
-  type-node-same-length-4 c = (c .before .before) .last .kept .1 .1 .1 .1 .0 ∙ done-1 (c .before .before .before .before .before) (rd (ops2 (c .before .before .before .before .before))) .same
-
-  type-node-returns-4 : type-node-lts.Need-returns-4 (type-node-claims t) (type-node-at t) type-node.Post
-  type-node-returns-4 c =
-      λ v.
-      let g = gr (ops2 (c .before .before .before .before .before)) in
-      let d = done-1 (c .before .before .before .before .before) v in
-      last-meets g v d (is-one (c .before .before .before .before) v) ((c .before .before) .last .ensures (one-of g v d (is-one (c .before .before .before .before) v)) (bi (ops2 (c .before .before .before .before .before))) (room2 g v d))
-
-  some2 : (c : type-node-lts.Else2 (type-node-claims t) (type-node-at t) type-node.Post) (v : Rd (ops2 (c .before))) → 2 ≤ operand-count (v .tree)
-  some2 c v =
-      let s = some1 (c .before .before .before .before .before .before .before .before .before .before .before) v in
-      let e : operand-count (v .tree) ≡ 1 → ⊥ = λ z. c .if2 .left (count (ops2 (c .before)) v ∙ z) in
-      omega arith
-
-  front-1 : (c : type-node-lts.Else2 (type-node-claims t) (type-node-at t) type-node.Post) (v : Rd (ops2 (c .before))) → Sized (w2 (c .before .before .before .before .before .before)) (n1 (c .before)) (done-1 (c .before) v .type)
-  front-1 c v = front (gr (ops2 (c .before))) v (done-1 (c .before) v) (some2 c v)
-
-  abbrev some-at : (c : type-node-lts.Else2 (type-node-claims t) (type-node-at t) type-node.Post) (v : Rd (ops2 (c .before))) → Some (sc (ops2 (c .before))) (bi (ops2 (c .before))) (w2 (c .before .before .before .before .before .before)) (n1 (c .before))
-  some-at c v = some-of (gr (ops2 (c .before))) v (done-1 (c .before) v) (some2 c v)
-
-  type-node-indirect-requires : type-node-lts.Need-indirect-requires (type-node-claims t) (type-node-at t) type-node.Post
-  type-node-indirect-requires c κs = let v = rd (ops2 (c .before .before)) in record { type = done-1 (c .before .before) v .type; held = front-1 (c .before) v .held }
-
-  type-node-middle-requires : type-node-lts.Need-middle-requires (type-node-claims t) (type-node-at t) type-node.Post
-  type-node-middle-requires c κs = some-at (c .before .before .before) (rd (ops2 (c .before .before .before .before)))
-
-  type-node-enum-known-t : type-node-lts.Need-enum-known-t (type-node-claims t) (type-node-at t) type-node.Post
-  type-node-enum-known-t c = c .match3 .keys1
-
-  type-node-enum-told-3 : type-node-lts.Need-enum-told-3 (type-node-claims t) (type-node-at t) type-node.Post
-  type-node-enum-told-3 c = c .match3 .keys2
-
-  type-node-same-length-5 : type-node-lts.Need-same-length-5 (type-node-claims t) (type-node-at t) type-node.Post
-  type-node-same-length-5 c = (c .before .before .before .before) .middle .kept .1 .1 .1 .1 .0 ∙ done-1 (c .before .before .before .before .before .before .before .before .before) (rd (ops2 (c .before .before .before .before .before .before .before .before .before))) .same
-
-  type-node-returns-5 : type-node-lts.Need-returns-5 (type-node-claims t) (type-node-at t) type-node.Post
-  type-node-returns-5 c = λ v. middle-refuses (gr (ops2 (c .before .before .before .before .before .before .before .before .before))) v (done-1 (c .before .before .before .before .before .before .before .before .before) v) (some2 (c .before .before .before .before .before .before .before .before) v) ((c .before) .match3 .keys2) ((c .before .before .before .before) .middle .ensures (some-at (c .before .before .before .before .before .before .before .before) v))
-
-  -- the second operand's context
-  abbrev ops3 : type-node-lts.After-known-told3 (type-node-claims t) (type-node-at t) type-node.Post → type-node-lts.After-operands (type-node-claims t) (type-node-at t) type-node.Post
-  ops3 c = ops2 (c .before .before .before .before .before .before .before .before .before .before)
-
-  abbrev w3 : type-node-lts.After-known-told3 (type-node-claims t) (type-node-at t) type-node.Post → Bytes
-  w3 c = (c .before .before .before .before .before) .middle .last .1 .1 .1 .1 .0
-
-  abbrev c2 : type-node-lts.After-known-told3 (type-node-claims t) (type-node-at t) type-node.Post → ℕ
-  c2 c = (c .before) .t .given .0 .0
-
-  abbrev t1 : (c : type-node-lts.After-known-told3 (type-node-claims t) (type-node-at t) type-node.Post) → Rd (ops3 c) → Ty
-  t1 c v = done-1 (c .before .before .before .before .before .before .before .before .before .before) v .type
-
-  done-2 : (c : type-node-lts.After-known-told3 (type-node-claims t) (type-node-at t) type-node.Post) (v : Rd (ops3 c)) → Done2 (gr (ops3 c)) v (t1 c v) (n1 (c .before .before .before .before .before .before .before .before .before .before)) (c2 c) (w3 c)
-  done-2 c v = done2 (gr (ops3 c)) v (some2 (c .before .before .before .before .before .before .before .before .before) v) (done-1 (c .before .before .before .before .before .before .before .before .before .before) v) ((c .before) .t .given .1) ((c .before .before .before .before .before) .middle .kept .1 .1 .1 .1 .0) ((c .before .before .before .before .before) .middle .ensures (some-at (c .before .before .before .before .before .before .before .before .before) v))
-
-  by-is : (c : type-node-lts.After-known-told3 (type-node-claims t) (type-node-at t) type-node.Post) (v : Rd (ops3 c)) → (c .before .before .before .before .before .before .before) .indirect .result .0 ≡ top (t1 c v) .ir
-  by-is c v = (c .before .before .before .before .before .before .before) .indirect .ensures (t1 c v) (front-1 (c .before .before .before .before .before .before .before .before .before) v .held)
-
-  at2 : (c : type-node-lts.After-known-told3 (type-node-claims t) (type-node-at t) type-node.Post) (v : Rd (ops3 c)) → At (sc (ops3 c)) ((c .before .before .before .before .before .before .before .before .before .before .before .before .before .before .before .before .before .before .before) .operand-end .result) (second-operand (v .tree))
-  at2 c v = second-at (sc (ops3 c)) (v .tree) ((c .before .before .before .before .before .before .before .before .before .before .before .before .before .before .before .before .before .before .before) .operand-end .result) (v .is) (some2 (c .before .before .before .before .before .before .before .before .before) v) (end1 (c .before .before .before .before .before .before .before .before .before .before .before .before .before .before .before .before .before .before) v)
-
-  type-node-operand-end-requires-2 : type-node-lts.Need-operand-end-requires-2 (type-node-claims t) (type-node-at t) type-node.Post
-  type-node-operand-end-requires-2 c κs = record { tree = second-operand (rd (ops3 c) .tree); at = at2 c (rd (ops3 c)); whole = λ z. second-whole (sc (ops3 c)) (rd (ops3 c) .tree) (rd (ops3 c) .is) ((c .before .before .before .before .before .before .before .before .before .before .before .before .before .before .before .before .before .before .before) .operand-end .result) (end1 (c .before .before .before .before .before .before .before .before .before .before .before .before .before .before .before .before .before .before) (rd (ops3 c))) (sym (count (ops3 c) (rd (ops3 c))) ∙ sym z) }
-
-  type-node-kept-between-requires : type-node-lts.Need-kept-between-requires (type-node-claims t) (type-node-at t) type-node.Post
-  type-node-kept-between-requires c κs = search needs
-
-  end2 : (c : type-node-lts.After-kept-between (type-node-claims t) (type-node-at t) type-node.Post) (v : Rd (ops3 (c .before .before))) → (c .before) .operand-end2 .result ≡ (c .before .before .before .before .before .before .before .before .before .before .before .before .before .before .before .before .before .before .before .before .before) .operand-end .result + size (second-operand (v .tree))
-  end2 c v = (c .before) .operand-end2 .ensures (second-operand (v .tree)) (at2 (c .before .before) v)
-
-  mid2 : (c : type-node-lts.After-kept-between (type-node-claims t) (type-node-at t) type-node.Post) (v : Rd (ops3 (c .before .before))) → c .kept-between .result ≡ kept-between (operand-count (v .tree))
-  mid2 c v = c .kept-between .ensures ∙ ap kept-between (count (ops3 (c .before .before)) v)
-
-  mid-le : (c : type-node-lts.After-kept-between (type-node-claims t) (type-node-at t) type-node.Post) → c .kept-between .result ≤ length (w3 (c .before .before))
-  mid-le c = let v = rd (ops3 (c .before .before)) in mid-within (gr (ops3 (c .before .before))) v (some2 (c .before .before .before .before .before .before .before .before .before .before .before) v) (done-2 (c .before .before) v) (mid2 c v) (end1 (c .before .before .before .before .before .before .before .before .before .before .before .before .before .before .before .before .before .before .before .before) v)
-
-  type-node-operand-requires-2 : type-node-lts.Need-operand-requires-2 (type-node-claims t) (type-node-at t) type-node.Post
-  type-node-operand-requires-2 c κs = let v = rd (ops3 (c .before .before)) in record { tree = second-operand (v .tree); at = at2 (c .before .before) v; ends = end2 c v }
-
-  part2 : (c : type-node-lts.After-operand2 (type-node-claims t) (type-node-at t) type-node.Post) (v : Rd (ops3 (c .before .before .before))) → c .operand2 .result .now ≡ encode (second-operand (v .tree))
-  part2 c v = c .operand2 .ensures .0 (second-operand (v .tree)) (at2 (c .before .before .before) v) (end2 (c .before) v)
-
-  abbrev u2 : type-node-lts.After-operand2 (type-node-claims t) (type-node-at t) type-node.Post → Bytes
-  u2 c = take (length (w3 (c .before .before .before)) - (c .before) .kept-between .result) (drop ((c .before) .kept-between .result) (w3 (c .before .before .before)))
-
-  abbrev ready2-at : (c : type-node-lts.After-operand2 (type-node-claims t) (type-node-at t) type-node.Post) (v : Rd (ops3 (c .before .before .before))) → Ready (ty (ops3 (c .before .before .before))) (c .operand2 .result .now) (pl (ops3 (c .before .before .before)) + (c .before .before .before .before .before .before .before .before .before .before .before .before .before .before .before .before .before .before .before .before .before .before) .operand-end .result) (c2 (c .before .before .before)) (u2 c)
-  ready2-at c v = ready2 (gr (ops3 (c .before .before .before))) v (some2 (c .before .before .before .before .before .before .before .before .before .before .before .before) v) (done-2 (c .before .before .before) v) (mid2 (c .before) v) (end1 (c .before .before .before .before .before .before .before .before .before .before .before .before .before .before .before .before .before .before .before .before .before) v) (part2 c v) (to-end ((c .before) .kept-between .result) (w3 (c .before .before .before)))
-
-  type-node-add-type-node-2 : type-node-lts.Need-add-type-node-2 (type-node-claims t) (type-node-at t) type-node.Post
-  type-node-add-type-node-2 c = let v = rd (ops3 (c .before .before .before)) in omega (arith, second-placed (gr (ops3 (c .before .before .before))) v (some2 (c .before .before .before .before .before .before .before .before .before .before .before .before) v) (done-2 (c .before .before .before) v) (mid2 (c .before) v) (end1 (c .before .before .before .before .before .before .before .before .before .before .before .before .before .before .before .before .before .before .before .before .before) v))
-
-  type-node-sub-type-node-2 : type-node-lts.Need-sub-type-node-2 (type-node-claims t) (type-node-at t) type-node.Post
-  type-node-sub-type-node-2 c = mid-le (c .before)
-
-  type-node-part-type-node-start-2 : type-node-lts.Need-part-type-node-start-2 (type-node-claims t) (type-node-at t) type-node.Post
-  type-node-part-type-node-start-2 c = mid-le (c .before)
-
-  type-node-part-type-node-end-2 : type-node-lts.Need-part-type-node-end-2 (type-node-claims t) (type-node-at t) type-node.Post
-  type-node-part-type-node-end-2 c = omega arith
-
-  type-node-type-node-requires-2 : type-node-lts.Need-type-node-requires-2 (type-node-claims t) (type-node-at t) type-node.Post
-  type-node-type-node-requires-2 c κs =
-      let v = rd (ops3 (c .before .before .before .before)) in
-      let i = end1 (c .before .before .before .before .before .before .before .before .before .before .before .before .before .before .before .before .before .before .before .before .before .before) v in
-      (omega (arith, (c .before) .operand2 .ensures .1 (omega arith), start (ops3 (c .before .before .before .before)) .pre .0), ready2-at (c .before) v)
-
-  type-node-enum-known-x2 : type-node-lts.Need-enum-known-x2 (type-node-claims t) (type-node-at t) type-node.Post
-  type-node-enum-known-x2 c = c .match4 .keys1
-
-  type-node-enum-told-4 : type-node-lts.Need-enum-told-4 (type-node-claims t) (type-node-at t) type-node.Post
-  type-node-enum-told-4 c = c .match4 .keys2
-
-  abbrev z2 : type-node-lts.After-type-node2 (type-node-claims t) (type-node-at t) type-node.Post → Bytes
-  z2 c = c .type-node2 .last .1 .1 .1 .1 .1 .0
-
-  len-z2 : (c : type-node-lts.After-type-node2 (type-node-claims t) (type-node-at t) type-node.Post) → length (z2 c) ≡ length (u2 (c .before .before))
-  len-z2 c = c .type-node2 .kept .1 .1 .1 .1 .1 .0
-
-  met2 : (c : type-node-lts.After-type-node2 (type-node-claims t) (type-node-at t) type-node.Post) (v : Rd (ops3 (c .before .before .before .before .before)))
-      → Meets (typing (readers (gr (ops3 (c .before .before .before .before .before)))) (type-at (ty (ops3 (c .before .before .before .before .before)))) (second-context (v .ctx) (v .tree) (t1 (c .before .before .before .before .before) v)) (pl (ops3 (c .before .before .before .before .before)) + (c .before .before .before .before .before .before .before .before .before .before .before .before .before .before .before .before .before .before .before .before .before .before .before .before) .operand-end .result) (second-operand (v .tree))) (c2 (c .before .before .before .before .before)) (u2 (c .before .before)) (c .type-node2 .result) (z2 c)
-  met2 c v = c .type-node2 .ensures (ready2-at (c .before .before) v)
-
-  abbrev w4 : type-node-lts.After-type-node2 (type-node-claims t) (type-node-at t) type-node.Post → Bytes
-  w4 c = putMid ((c .before .before .before) .kept-between .result) (length (w3 (c .before .before .before .before .before)) - (c .before .before .before) .kept-between .result) (w3 (c .before .before .before .before .before)) (z2 c)
-
-  len4 : (c : type-node-lts.After-type-node2 (type-node-claims t) (type-node-at t) type-node.Post) → length (w4 c) ≡ length (w3 (c .before .before .before .before .before))
-  len4 c = same-len-mid ((c .before .before .before) .kept-between .result) (length (w3 (c .before .before .before .before .before)) - (c .before .before .before) .kept-between .result) (w3 (c .before .before .before .before .before)) (z2 c) (len-z2 c)
-
-  type-node-same-length-6 : type-node-lts.Need-same-length-6 (type-node-claims t) (type-node-at t) type-node.Post
-  type-node-same-length-6 c = len4 (c .before .before .before .before) ∙ done-2 (c .before .before .before .before .before .before .before .before .before) (rd (ops3 (c .before .before .before .before .before .before .before .before .before))) .same
-
-  type-node-returns-6 : type-node-lts.Need-returns-6 (type-node-claims t) (type-node-at t) type-node.Post
-  type-node-returns-6 c = λ v. second-refuses (gr (ops3 (c .before .before .before .before .before .before .before .before .before))) v (some2 (c .before .before .before .before .before .before .before .before .before .before .before .before .before .before .before .before .before .before) v) (done-2 (c .before .before .before .before .before .before .before .before .before) v) (mid2 (c .before .before .before .before .before .before .before) v) (end1 (c .before .before .before .before .before .before .before .before .before .before .before .before .before .before .before .before .before .before .before .before .before .before .before .before .before .before .before) v) (met2 (c .before .before .before .before) v) ((c .before) .match4 .keys2)
-
-  -- the second operand typed
-  abbrev ops4 : type-node-lts.After-known-told4 (type-node-claims t) (type-node-at t) type-node.Post → type-node-lts.After-operands (type-node-claims t) (type-node-at t) type-node.Post
-  ops4 c = ops3 (c .before .before .before .before .before .before .before .before .before .before)
-
-  abbrev m1 : type-node-lts.After-known-told4 (type-node-claims t) (type-node-at t) type-node.Post → ℕ
-  m1 c = (c .before) .x2 .given .0 .0
-
-  abbrev t2 : (c : type-node-lts.After-known-told4 (type-node-claims t) (type-node-at t) type-node.Post) → Rd (ops4 c) → Ty
-  t2 c v = t1 (c .before .before .before .before .before .before .before .before .before .before) v
-
-  done-3 : (c : type-node-lts.After-known-told4 (type-node-claims t) (type-node-at t) type-node.Post) (v : Rd (ops4 c)) → Done3 (gr (ops4 c)) v (t2 c v) (n1 (c .before .before .before .before .before .before .before .before .before .before .before .before .before .before .before .before .before .before .before .before)) (m1 c) (w4 (c .before .before .before .before .before))
-  done-3 c v =
-      done3 (gr (ops4 c)) v (some2 (c .before .before .before .before .before .before .before .before .before .before .before .before .before .before .before .before .before .before .before) v) (done-2 (c .before .before .before .before .before .before .before .before .before .before) v) (mid2 (c .before .before .before .before .before .before .before .before) v) (end1 (c .before .before .before .before .before .before .before .before .before .before .before .before .before .before .before .before .before .before .before .before .before .before .before .before .before .before .before .before) v) (met2 (c .before .before .before .before .before) v) (to-end ((c .before .before .before .before .before .before .before .before) .kept-between .result) (w3 (c .before .before .before .before .before .before .before .before .before .before))) (len-z2 (c .before .before .before .before .before)) ((c .before) .x2 .given .1) refl
-
-  is-two : (c : type-node-lts.Then3 (type-node-claims t) (type-node-at t) type-node.Post) (v : Rd (ops4 (c .before))) → operand-count (v .tree) ≡ 2
-  is-two c v = sym (count (ops4 (c .before)) v) ∙ c .if3 .taken
-
-  type-node-ends-requires : type-node-lts.Need-ends-requires (type-node-claims t) (type-node-at t) type-node.Post
-  type-node-ends-requires c κs = let v = rd (ops4 (c .before .before)) in both-of (gr (ops4 (c .before .before))) v (is-two (c .before) v) (done-3 (c .before .before) v)
-
-  type-node-same-length-7 : type-node-lts.Need-same-length-7 (type-node-claims t) (type-node-at t) type-node.Post
-  type-node-same-length-7 c = (c .before .before) .ends .kept .1 .1 .1 .0 ∙ done-3 (c .before .before .before .before .before) (rd (ops4 (c .before .before .before .before .before))) .same
-
-  type-node-returns-7 : type-node-lts.Need-returns-7 (type-node-claims t) (type-node-at t) type-node.Post
-  type-node-returns-7 c =
-      λ v.
-      let g = gr (ops4 (c .before .before .before .before .before)) in
-      let d = done-3 (c .before .before .before .before .before) v in
-      let o = is-two (c .before .before .before .before) v in
-      ends-meets g v o d ((c .before .before) .ends .ensures (both-of g v o d) (bi (ops4 (c .before .before .before .before .before))) (omega (arith, level g v, d .same)))
-
-  three : (c : type-node-lts.Else3 (type-node-claims t) (type-node-at t) type-node.Post) (v : Rd (ops4 (c .before))) → operand-count (v .tree) ≡ 3
-  three c v =
-      let s = some2 (c .before .before .before .before .before .before .before .before .before .before .before .before .before .before .before .before .before .before .before .before) v in
-      let e : operand-count (v .tree) ≡ 2 → ⊥ = λ z. c .if3 .left (count (ops4 (c .before)) v ∙ z) in
+  done₂ : (c : Between) (v : Given (start₃ c))
+      → steps.Done2 (G (start₃ c)) v (first-type c v) (n (to-first c)) (c₂ c) (w₃ (middle c))
+  done₂ c v =
+      let x = middle c in
+      let z = several x in
+      steps.done2 (G (start₃ c)) v (has-two z v) (done₁ (z .before) v) (c .before .t .given .1) (x .middle .kept .1 .1 .1 .1 .0)
+      (x .middle .ensures (some z v))
+
+  -- ---- the second operand
+
+  -- after kept_between(o)
+  abbrev Gap : Type 0
+  Gap = lts.After-kept-between (claims t) (node-at t) node.Post
+
+  -- after operand(s, i2, i3)
+  abbrev Second-part : Type 0
+  Second-part = lts.After-operand2 (claims t) (node-at t) node.Post
+
+  -- after type_node(.., second, ..)
+  abbrev Second : Type 0
+  Second = lts.After-type-node2 (claims t) (node-at t) node.Post
+
+  -- m is known
+  abbrev Second-typed : Type 0
+  Second-typed = lts.After-known-told4 (claims t) (node-at t) node.Post
+
+  abbrev between : Gap → Between
+  between c = c .before .before
+
+  abbrev gap : Second → Gap
+  gap c = c .before .before .before
+
+  abbrev second : Second-typed → Second
+  second c = c .before .before .before .before .before
+
+  -- where the second operand starts, and ends
+  abbrev from₂ : Between → ℕ
+  from₂ c = i₂ (front (first (to-first c)))
+
+  abbrev i₃ : Gap → ℕ
+  i₃ c = c .before .operand-end2 .result
+
+  abbrev mid : Gap → ℕ
+  mid c = c .kept-between .result
+
+  -- the part of the work buffer that is lent, and that part after the call
+  abbrev u₂ : Gap → Bytes
+  u₂ c = let w = w₃ (middle (between c)) in take (length w - mid c) (drop (mid c) w)
+
+  abbrev z₂ : Second → Bytes
+  z₂ c = c .type-node2 .last .1 .1 .1 .1 .1 .0
+
+  abbrev w₄ : Second → Bytes
+  w₄ c = let w = w₃ (middle (between (gap c))) in putMid (mid (gap c)) (length w - mid (gap c)) w (z₂ c)
+
+  module _ (c : Between) (v : Given (start₃ c)) where
+    from₂-is : from₂ c ≡ 1 + size (first-operand (v .tree))
+    from₂-is = i₂-is (front (first (to-first c))) v
+
+    second-stands : At (S (start₃ c)) (from₂ c) (second-operand (v .tree))
+    second-stands = second-at (S (start₃ c)) (v .tree) (from₂ c) (v .is) (has-two (to-several c) v) from₂-is
+
+  module _ (c : Gap) (v : Given (start₃ (between c))) where
+    i₃-is : i₃ c ≡ from₂ (between c) + size (second-operand (v .tree))
+    i₃-is = c .before .operand-end2 .ensures (second-operand (v .tree)) (second-stands (between c) v)
+
+    mid-is : mid c ≡ kept-between (operand-count (v .tree))
+    mid-is = c .kept-between .ensures ∙ ap kept-between (o-is (to-entered (to-first (between c))) v)
+
+  mid-within : (c : Gap) → mid c ≤ length (w₃ (middle (between c)))
+  mid-within c =
+      let e = between c in
+      let v = given (start₃ e) in
+      steps.mid-within (G (start₃ e)) v (has-two (to-several e) v) (done₂ e v) (mid-is c v) (from₂-is e v)
+
+  module _ (c : Second-part) (v : Given (start₃ (between (c .before)))) where
+    second-part : c .operand2 .result .now ≡ encode (second-operand (v .tree))
+    second-part = c .operand2 .ensures .0 (second-operand (v .tree)) (second-stands (between (c .before)) v) (i₃-is (c .before) v)
+
+    abbrev ready₂ : let e = between (c .before) in
+        Ready (T (start₃ e)) (c .operand2 .result .now) (place (start₃ e) + from₂ e) (c₂ e) (u₂ (c .before))
+    ready₂ =
+        let g = c .before in
+        let e = between g in
+        steps.ready2 (G (start₃ e)) v (has-two (to-several e) v) (done₂ e v) (mid-is g v) (from₂-is e v) second-part
+        (to-end (mid g) (w₃ (middle e)))
+
+  z₂-length : (c : Second) → length (z₂ c) ≡ length (u₂ (gap c))
+  z₂-length c = c .type-node2 .kept .1 .1 .1 .1 .1 .0
+
+  w₄-length : (c : Second) → length (w₄ c) ≡ length (w₃ (middle (between (gap c))))
+  w₄-length c =
+      let w = w₃ (middle (between (gap c))) in
+      same-len-mid (mid (gap c)) (length w - mid (gap c)) w (z₂ c) (z₂-length c)
+
+  -- what the call on the second operand answers
+  met₂ : (c : Second) (v : Given (start₃ (between (gap c))))
+      → let e = between (gap c) in
+      let s = start₃ e in
+      Meets (says s (second-context (v .ctx) (v .tree) (first-type e v)) (place s + from₂ e) (second-operand (v .tree)))
+      (c₂ e) (u₂ (gap c)) (c .type-node2 .result) (z₂ c)
+  met₂ c v = c .type-node2 .ensures (ready₂ (c .before .before) v)
+
+  operand-end-requires-2 : lts.Need-operand-end-requires-2 (claims t) (node-at t) node.Post
+  operand-end-requires-2 c κs =
+      let s = start₃ c in
+      let v = given s in
+      let o = o-is (to-entered (to-first c)) v in
+      record {
+        tree = second-operand (v .tree);
+        at = second-stands c v;
+        whole = λ z. second-whole (S s) (v .tree) (v .is) (from₂ c) (from₂-is c v) (sym o ∙ sym z);
+      }
+
+  kept-between-requires : lts.Need-kept-between-requires (claims t) (node-at t) node.Post
+  kept-between-requires c κs = search needs
+
+  operand-requires-2 : lts.Need-operand-requires-2 (claims t) (node-at t) node.Post
+  operand-requires-2 c κs =
+      let v = given (start₃ (between c)) in
+      record { tree = second-operand (v .tree); at = second-stands (between c) v; ends = i₃-is c v }
+
+  add-type-node-2 : lts.Need-add-type-node-2 (claims t) (node-at t) node.Post
+  add-type-node-2 c =
+      let e = between (c .before) in
+      let v = given (start₃ e) in
+      omega (arith, steps.second-placed (G (start₃ e)) v (has-two (to-several e) v) (done₂ e v) (mid-is (c .before) v) (from₂-is e v))
+
+  sub-type-node-2 : lts.Need-sub-type-node-2 (claims t) (node-at t) node.Post
+  sub-type-node-2 c = mid-within (c .before)
+
+  part-type-node-start-2 : lts.Need-part-type-node-start-2 (claims t) (node-at t) node.Post
+  part-type-node-start-2 c = mid-within (c .before)
+
+  part-type-node-end-2 : lts.Need-part-type-node-end-2 (claims t) (node-at t) node.Post
+  part-type-node-end-2 c = omega arith
+
+  type-node-requires-2 : lts.Need-type-node-requires-2 (claims t) (node-at t) node.Post
+  type-node-requires-2 c κs =
+      let p = c .before in
+      let e = between (p .before) in
+      let v = given (start₃ e) in
+      (omega (arith, p .operand2 .ensures .1 (omega (arith, from₂-is e v)), start₃ e .pre .0), ready₂ p v)
+
+  enum-known-x2 : lts.Need-enum-known-x2 (claims t) (node-at t) node.Post
+  enum-known-x2 c = c .match4 .keys1
+
+  enum-told-4 : lts.Need-enum-told-4 (claims t) (node-at t) node.Post
+  enum-told-4 c = c .match4 .keys2
+
+  same-length-6 : lts.Need-same-length-6 (claims t) (node-at t) node.Post
+  same-length-6 c = let x = c .before .before .before .before in w₄-length x ∙ w₃-length (middle (between (gap x)))
+
+  returns-6 : lts.Need-returns-6 (claims t) (node-at t) node.Post
+  returns-6 c v =
+      let x = c .before .before .before .before in
+      let e = between (gap x) in
+      steps.second-refuses (G (start₃ e)) v (has-two (to-several e) v) (done₂ e v) (mid-is (gap x) v) (from₂-is e v) (met₂ x v)
+      (c .before .match4 .keys2)
+
+  -- the second operand has a type
+  abbrev to-between : Second-typed → Between
+  to-between c = between (gap (second c))
+
+  abbrev start₄ : Second-typed → Start
+  start₄ c = start₃ (to-between c)
+
+  abbrev m : Second-typed → ℕ
+  m c = c .before .x2 .given .0 .0
+
+  done₃ : (c : Second-typed) (v : Given (start₄ c))
+      → steps.Done3 (G (start₄ c)) v (first-type (to-between c) v) (n (to-first (to-between c))) (m c) (w₄ (second c))
+  done₃ c v =
+      let x = second c in
+      let g = gap x in
+      let e = between g in
+      steps.done3 (G (start₃ e)) v (has-two (to-several e) v) (done₂ e v) (mid-is g v) (from₂-is e v) (met₂ x v)
+      (to-end (mid g) (w₃ (middle e))) (z₂-length x) (c .before .x2 .given .1) refl
+
+  -- ---- after two operands
+
+  -- o == 2
+  abbrev Two : Type 0
+  Two = lts.Then3 (claims t) (node-at t) node.Post
+
+  is-two : (c : Two) (v : Given (start₄ (c .before))) → operand-count (v .tree) ≡ 2
+  is-two c v = sym (o-is (to-entered (to-first (to-between (c .before)))) v) ∙ c .if3 .taken
+
+  ends-requires : lts.Need-ends-requires (claims t) (node-at t) node.Post
+  ends-requires c κs =
+      let d = c .before .before in
+      let v = given (start₄ d) in
+      steps.two-of (G (start₄ d)) v (is-two (c .before) v) (done₃ d v)
+
+  same-length-7 : lts.Need-same-length-7 (claims t) (node-at t) node.Post
+  same-length-7 c =
+      let x = c .before .before in
+      let d = x .before .before .before in
+      x .ends .kept .1 .1 .1 .0 ∙ done₃ d (given (start₄ d)) .same
+
+  returns-7 : lts.Need-returns-7 (claims t) (node-at t) node.Post
+  returns-7 c v =
+      let x = c .before .before in
+      let z = x .before .before in
+      let s = start₄ (z .before) in
+      let o = is-two z v in
+      let k = done₃ (z .before) v in
+      steps.ends-meets (G s) v o k
+      (x .ends .ensures (steps.two-of (G s) v o k) (s .args .b) (omega (arith, steps.level (G s) v, k .same)))
+
+  -- ---- a case, between its two branches
+
+  -- after inference::index(s), where o is 3
+  abbrev Index : Type 0
+  Index = lts.After-index (claims t) (node-at t) node.Post
+
+  -- after inference::turn(..)
+  abbrev Turn : Type 0
+  Turn = lts.After-turn (claims t) (node-at t) node.Post
+
+  -- u is typed
+  abbrev Turned : Type 0
+  Turned = lts.After-enum-told5 (claims t) (node-at t) node.Post
+
+  abbrev two : Index → Second-typed
+  two c = c .before .before
+
+  abbrev index : Turn → Index
+  index c = c .before .before
+
+  abbrev turn : Turned → Turn
+  turn c = c .before .before .before .before
+
+  abbrev i : Index → ℕ
+  i c = c .index .result
+
+  abbrev w₅ : Turn → Bytes
+  w₅ c = c .turn .last .1 .1 .1 .1 .1 .0
+
+  has-three : (c : Index) (v : Given (start₄ (two c))) → operand-count (v .tree) ≡ 3
+  has-three c v =
+      let e = to-between (two c) in
+      let h = has-two (to-several e) v in
+      let o : operand-count (v .tree) ≡ 2 → ⊥ = λ z. c .before .if3 .left (o-is (to-entered (to-first e)) v ∙ z) in
       omega (arith, at-most-three (v .tree))
 
-  type-node-index-requires : type-node-lts.Need-index-requires (type-node-claims t) (type-node-at t) type-node.Post
-  type-node-index-requires c κs = long (rd (ops4 (c .before)) .tree) (rd (ops4 (c .before)) .is)
+  i-is : (c : Index) → i c ≡ number (S (start₄ (two c))) 0
+  i-is c = c .index .ensures
 
-  i4 : (c : type-node-lts.After-index (type-node-claims t) (type-node-at t) type-node.Post) → c .index .result ≡ number (sc (ops4 (c .before .before))) 0
-  i4 c = c .index .ensures
+  w₅-length : (c : Turn) → length (w₅ c) ≡ length (w₄ (second (two (index c))))
+  w₅-length c = c .turn .kept .1 .1 .1 .1 .1 .0
 
-  type-node-turn-requires : type-node-lts.Need-turn-requires (type-node-claims t) (type-node-at t) type-node.Post
-  type-node-turn-requires c κs = let v = rd (ops4 (c .before .before .before)) in turn-asks (gr (ops4 (c .before .before .before))) v (three (c .before .before) v) (i4 (c .before)) (done-3 (c .before .before .before) v)
+  -- what turning from the first branch to the second answers
+  turns : (c : Turn) (v : Given (start₄ (two (index c))))
+      → let d = two (index c) in
+      let s = start₄ d in
+      Enters (q22 (readers (G s)) (place s) (done₃ d v .other) (type-at (T s) (i (index c))))
+      (right-of (first-type (to-between d) v) ∷ v .ctx) (s .args .b) (w₄ (second d)) (c .turn .result) (w₅ c)
+  turns c v =
+      let y = index c in
+      let s = start₄ (two y) in
+      let o = has-three y v in
+      let j = i-is y in
+      let k = done₃ (two y) v in
+      c .turn .ensures (v .ctx) (first-type (to-between (two y)) v) (k .other) (type-at (T s) (i y)) (k .slot o)
+      (steps.branch-held (G s) v o j k) (v .table .entry (i y) (steps.case-named (G s) v o j) .held) (v .binders)
+      (steps.holds4 (G s) v o j k)
 
-  type-node-enum-told-5 : type-node-lts.Need-enum-told-5 (type-node-claims t) (type-node-at t) type-node.Post
-  type-node-enum-told-5 c = c .match5 .keys1
+  index-requires : lts.Need-index-requires (claims t) (node-at t) node.Post
+  index-requires c κs = let v = given (start₄ (c .before)) in long (v .tree) (v .is)
 
-  type-node-enum-told-6 : type-node-lts.Need-enum-told-6 (type-node-claims t) (type-node-at t) type-node.Post
-  type-node-enum-told-6 c = c .match5 .keys2
+  turn-requires : lts.Need-turn-requires (claims t) (node-at t) node.Post
+  turn-requires c κs =
+      let y = c .before in
+      let d = two y in
+      let v = given (start₄ d) in
+      steps.turn-asks (G (start₄ d)) v (has-three y v) (i-is y) (done₃ d v)
 
-  abbrev w5 : type-node-lts.After-turn (type-node-claims t) (type-node-at t) type-node.Post → Bytes
-  w5 c = c .turn .last .1 .1 .1 .1 .1 .0
+  enum-told-5 : lts.Need-enum-told-5 (claims t) (node-at t) node.Post
+  enum-told-5 c = c .match5 .keys1
 
-  len5 : (c : type-node-lts.After-turn (type-node-claims t) (type-node-at t) type-node.Post) → length (w5 c) ≡ length (w4 (c .before .before .before .before .before .before .before .before .before))
-  len5 c = c .turn .kept .1 .1 .1 .1 .1 .0
+  enum-told-6 : lts.Need-enum-told-6 (claims t) (node-at t) node.Post
+  enum-told-6 c = c .match5 .keys2
 
-  turned : (c : type-node-lts.After-turn (type-node-claims t) (type-node-at t) type-node.Post) (v : Rd (ops4 (c .before .before .before .before)))
-      → Enters (q22 (readers (gr (ops4 (c .before .before .before .before)))) (pl (ops4 (c .before .before .before .before))) (done-3 (c .before .before .before .before) v .other) (type-at (ty (ops4 (c .before .before .before .before))) ((c .before .before) .index .result))) (right-of (t2 (c .before .before .before .before) v) ∷ v .ctx) (bi (ops4 (c .before .before .before .before))) (w4 (c .before .before .before .before .before .before .before .before .before)) (c .turn .result) (w5 c)
-  turned c v =
-      let g = gr (ops4 (c .before .before .before .before)) in
-      let d = done-3 (c .before .before .before .before) v in
-      let o = three (c .before .before .before) v in
-      let i = (c .before .before) .index .result in
-      c .turn .ensures (v .ctx) (t2 (c .before .before .before .before) v) (d .other) (type-at (ty (ops4 (c .before .before .before .before))) i) (d .slot o) (branch-held g v o (i4 (c .before .before)) d)
-      (v .table .entry i (case-named g v o (i4 (c .before .before))) .held) (v .binders) (holds4 g v o (i4 (c .before .before)) d)
+  same-length-8 : lts.Need-same-length-8 (claims t) (node-at t) node.Post
+  same-length-8 c =
+      let x = c .before .before .before .before in
+      let d = two (index x) in
+      w₅-length x ∙ done₃ d (given (start₄ d)) .same
 
-  type-node-same-length-8 : type-node-lts.Need-same-length-8 (type-node-claims t) (type-node-at t) type-node.Post
-  type-node-same-length-8 c = len5 (c .before .before .before .before) ∙ done-3 (c .before .before .before .before .before .before .before .before) (rd (ops4 (c .before .before .before .before .before .before .before .before))) .same
+  returns-8 : lts.Need-returns-8 (claims t) (node-at t) node.Post
+  returns-8 c v =
+      let x = c .before .before .before .before in
+      let y = index x in
+      let d = two y in
+      steps.turn-refuses (G (start₄ d)) v (has-three y v) (i-is y) (done₃ d v) (turns x v) (c .before .match5 .keys2)
 
-  type-node-returns-8 : type-node-lts.Need-returns-8 (type-node-claims t) (type-node-at t) type-node.Post
-  type-node-returns-8 c = λ v. turn-refuses (gr (ops4 (c .before .before .before .before .before .before .before .before))) v (three (c .before .before .before .before .before .before .before) v) (i4 (c .before .before .before .before .before .before)) (done-3 (c .before .before .before .before .before .before .before .before) v) (turned (c .before .before .before .before) v) ((c .before) .match5 .keys2)
+  -- the second branch's context is there
+  abbrev to-index : Turned → Index
+  to-index c = index (turn c)
 
-  -- the second branch's context
-  abbrev ops5 : type-node-lts.After-enum-told5 (type-node-claims t) (type-node-at t) type-node.Post → type-node-lts.After-operands (type-node-claims t) (type-node-at t) type-node.Post
-  ops5 c = ops4 (c .before .before .before .before .before .before .before .before)
+  abbrev to-second : Turned → Second-typed
+  to-second c = two (to-index c)
 
-  done-5 : (c : type-node-lts.After-enum-told5 (type-node-claims t) (type-node-at t) type-node.Post) (v : Rd (ops5 c)) → Done5 (gr (ops5 c)) v ((c .before .before .before .before .before .before) .index .result) (t2 (c .before .before .before .before .before .before .before .before) v) (c2 (c .before .before .before .before .before .before .before .before .before .before .before .before .before .before .before .before .before .before)) (w5 (c .before .before .before .before))
-  done-5 c v =
-      done5 (gr (ops5 c)) v (three (c .before .before .before .before .before .before .before) v) (i4 (c .before .before .before .before .before .before)) (done-3 (c .before .before .before .before .before .before .before .before) v) (turned (c .before .before .before .before) v) ((c .before) .match5 .keys1) (len5 (c .before .before .before .before))
-      (omega (arith, branch-binders (v .ctx) (t2 (c .before .before .before .before .before .before .before .before) v) (v .tree) (three (c .before .before .before .before .before .before .before) v), done-2 (c .before .before .before .before .before .before .before .before .before .before .before .before .before .before .before .before .before .before) v .binders, v .binders))
+  abbrev start₅ : Turned → Start
+  start₅ c = start₄ (to-second c)
 
-  start3 : (c : type-node-lts.After-enum-told5 (type-node-claims t) (type-node-at t) type-node.Post) (v : Rd (ops5 c)) → (c .before .before .before .before .before .before .before .before .before .before .before .before .before .before .before .before .before) .operand-end2 .result ≡ 1 + size (first-operand (v .tree)) + size (second-operand (v .tree))
-  start3 c v = omega (arith, end2 (c .before .before .before .before .before .before .before .before .before .before .before .before .before .before .before .before) v, end1 (c .before .before .before .before .before .before .before .before .before .before .before .before .before .before .before .before .before .before .before .before .before .before .before .before .before .before .before .before .before .before .before .before .before .before .before .before) v)
+  done₅ : (c : Turned) (v : Given (start₅ c))
+      → let e = to-between (to-second c) in
+      steps.Done5 (G (start₅ c)) v (i (to-index c)) (first-type e v) (c₂ e) (w₅ (turn c))
+  done₅ c v =
+      let x = turn c in
+      let y = index x in
+      let e = to-between (two y) in
+      let o = has-three y v in
+      steps.done5 (G (start₅ c)) v o (i-is y) (done₃ (two y) v) (turns x v) (c .before .match5 .keys1) (w₅-length x)
+      (omega (arith, branch-binders (v .ctx) (first-type e v) (v .tree) o, done₂ e v .binders, v .binders))
 
-  at3 : (c : type-node-lts.After-enum-told5 (type-node-claims t) (type-node-at t) type-node.Post) (v : Rd (ops5 c)) → At (sc (ops5 c)) ((c .before .before .before .before .before .before .before .before .before .before .before .before .before .before .before .before .before) .operand-end2 .result) (third-operand (v .tree))
-  at3 c v = third-at (sc (ops5 c)) (v .tree) ((c .before .before .before .before .before .before .before .before .before .before .before .before .before .before .before .before .before) .operand-end2 .result) (v .is) (omega (arith, three (c .before .before .before .before .before .before .before) v)) (start3 c v)
+  -- ---- a case's third operand
 
-  type-node-operand-end-requires-3 : type-node-lts.Need-operand-end-requires-3 (type-node-claims t) (type-node-at t) type-node.Post
-  type-node-operand-end-requires-3 c κs = record { tree = third-operand (rd (ops5 c) .tree); at = at3 c (rd (ops5 c)); whole = λ z. third-whole (sc (ops5 c)) (rd (ops5 c) .tree) (rd (ops5 c) .is) ((c .before .before .before .before .before .before .before .before .before .before .before .before .before .before .before .before .before) .operand-end2 .result) (start3 c (rd (ops5 c))) (sym (count (ops5 c) (rd (ops5 c))) ∙ sym z) }
+  -- after operand_end(s, o, 3, i3)
+  abbrev Third-end : Type 0
+  Third-end = lts.After-operand-end3 (claims t) (node-at t) node.Post
 
-  end3 : (c : type-node-lts.After-operand-end3 (type-node-claims t) (type-node-at t) type-node.Post) (v : Rd (ops5 (c .before))) → c .operand-end3 .result ≡ (c .before .before .before .before .before .before .before .before .before .before .before .before .before .before .before .before .before .before) .operand-end2 .result + size (third-operand (v .tree))
-  end3 c v = c .operand-end3 .ensures (third-operand (v .tree)) (at3 (c .before) v)
+  -- after operand(s, i3, end)
+  abbrev Third-part : Type 0
+  Third-part = lts.After-operand3 (claims t) (node-at t) node.Post
 
-  type-node-operand-requires-3 : type-node-lts.Need-operand-requires-3 (type-node-claims t) (type-node-at t) type-node.Post
-  type-node-operand-requires-3 c κs = let v = rd (ops5 (c .before)) in record { tree = third-operand (v .tree); at = at3 (c .before) v; ends = end3 c v }
+  -- after type_node(.., third, ..)
+  abbrev Third : Type 0
+  Third = lts.After-type-node3 (claims t) (node-at t) node.Post
 
-  part3 : (c : type-node-lts.After-operand3 (type-node-claims t) (type-node-at t) type-node.Post) (v : Rd (ops5 (c .before .before))) → c .operand3 .result .now ≡ encode (third-operand (v .tree))
-  part3 c v = c .operand3 .ensures .0 (third-operand (v .tree)) (at3 (c .before .before) v) (end3 (c .before) v)
+  -- x3 is typed
+  abbrev Third-typed : Type 0
+  Third-typed = lts.After-enum-told7 (claims t) (node-at t) node.Post
 
-  abbrev ready3-at : (c : type-node-lts.After-operand3 (type-node-claims t) (type-node-at t) type-node.Post) (v : Rd (ops5 (c .before .before))) → Ready (ty (ops5 (c .before .before))) (c .operand3 .result .now) (pl (ops5 (c .before .before)) + (c .before .before .before .before .before .before .before .before .before .before .before .before .before .before .before .before .before .before .before) .operand-end2 .result) (c2 (c .before .before .before .before .before .before .before .before .before .before .before .before .before .before .before .before .before .before .before .before)) (w5 (c .before .before .before .before .before .before))
-  ready3-at c v = ready3 (gr (ops5 (c .before .before))) v (three (c .before .before .before .before .before .before .before .before .before) v) (i4 (c .before .before .before .before .before .before .before .before)) (done-5 (c .before .before) v) (start3 (c .before .before) v) (part3 c v)
+  abbrev turned : Third → Turned
+  turned c = c .before .before .before .before
 
-  type-node-add-type-node-3 : type-node-lts.Need-add-type-node-3 (type-node-claims t) (type-node-at t) type-node.Post
-  type-node-add-type-node-3 c = let v = rd (ops5 (c .before .before)) in omega (arith, third-placed (gr (ops5 (c .before .before))) v (three (c .before .before .before .before .before .before .before .before .before) v) (i4 (c .before .before .before .before .before .before .before .before)) (done-5 (c .before .before) v) (start3 (c .before .before) v))
+  abbrev third : Third-typed → Third
+  third c = c .before .before .before .before
 
-  type-node-type-node-requires-3 : type-node-lts.Need-type-node-requires-3 (type-node-claims t) (type-node-at t) type-node.Post
-  type-node-type-node-requires-3 c κs =
-      let v = rd (ops5 (c .before .before .before)) in
-      let i = start3 (c .before .before .before) v in
-      (omega (arith, (c .before) .operand3 .ensures .1 (omega arith), start (ops5 (c .before .before .before)) .pre .0), ready3-at (c .before) v)
+  -- where the third operand starts
+  abbrev from₃ : Turned → ℕ
+  from₃ c = i₃ (gap (second (to-second c)))
 
-  type-node-enum-told-7 : type-node-lts.Need-enum-told-7 (type-node-claims t) (type-node-at t) type-node.Post
-  type-node-enum-told-7 c = c .match6 .keys1
+  abbrev w₆ : Third → Bytes
+  w₆ c = c .type-node3 .last .1 .1 .1 .1 .1 .0
 
-  type-node-enum-told-8 : type-node-lts.Need-enum-told-8 (type-node-claims t) (type-node-at t) type-node.Post
-  type-node-enum-told-8 c = c .match6 .keys2
+  module _ (c : Turned) (v : Given (start₅ c)) where
+    from₃-is : from₃ c ≡ 1 + size (first-operand (v .tree)) + size (second-operand (v .tree))
+    from₃-is = omega (arith, i₃-is (gap (second (to-second c))) v, from₂-is (to-between (to-second c)) v)
 
-  abbrev w6 : type-node-lts.After-type-node3 (type-node-claims t) (type-node-at t) type-node.Post → Bytes
-  w6 c = c .type-node3 .last .1 .1 .1 .1 .1 .0
+    third-stands : At (S (start₅ c)) (from₃ c) (third-operand (v .tree))
+    third-stands = third-at (S (start₅ c)) (v .tree) (from₃ c) (v .is) (omega (arith, has-three (to-index c) v)) from₃-is
 
-  len6 : (c : type-node-lts.After-type-node3 (type-node-claims t) (type-node-at t) type-node.Post) → length (w6 c) ≡ length (w5 (c .before .before .before .before .before .before .before .before))
-  len6 c = c .type-node3 .kept .1 .1 .1 .1 .1 .0
+  end-is : (c : Third-end) (v : Given (start₅ (c .before)))
+      → c .operand-end3 .result ≡ from₃ (c .before) + size (third-operand (v .tree))
+  end-is c v = c .operand-end3 .ensures (third-operand (v .tree)) (third-stands (c .before) v)
 
-  met3 : (c : type-node-lts.After-type-node3 (type-node-claims t) (type-node-at t) type-node.Post) (v : Rd (ops5 (c .before .before .before .before)))
-      → Meets (typing (readers (gr (ops5 (c .before .before .before .before)))) (type-at (ty (ops5 (c .before .before .before .before)))) (right (t2 (c .before .before .before .before .before .before .before .before .before .before .before .before) v) ∷ v .ctx) (pl (ops5 (c .before .before .before .before)) + (c .before .before .before .before .before .before .before .before .before .before .before .before .before .before .before .before .before .before .before .before .before) .operand-end2 .result) (third-operand (v .tree))) (c2 (c .before .before .before .before .before .before .before .before .before .before .before .before .before .before .before .before .before .before .before .before .before .before)) (w5 (c .before .before .before .before .before .before .before .before)) (c .type-node3 .result) (w6 c)
-  met3 c v = c .type-node3 .ensures (ready3-at (c .before .before) v)
+  module _ (c : Third-part) (v : Given (start₅ (c .before .before))) where
+    third-part : c .operand3 .result .now ≡ encode (third-operand (v .tree))
+    third-part = c .operand3 .ensures .0 (third-operand (v .tree)) (third-stands (c .before .before) v) (end-is (c .before) v)
 
-  type-node-same-length-9 : type-node-lts.Need-same-length-9 (type-node-claims t) (type-node-at t) type-node.Post
-  type-node-same-length-9 c = len6 (c .before .before .before .before) ∙ done-5 (c .before .before .before .before .before .before .before .before) (rd (ops5 (c .before .before .before .before .before .before .before .before))) .same
+    abbrev ready₃ : let d = c .before .before in
+        Ready (T (start₅ d)) (c .operand3 .result .now) (place (start₅ d) + from₃ d) (c₂ (to-between (to-second d))) (w₅ (turn d))
+    ready₃ =
+        let d = c .before .before in
+        let y = to-index d in
+        steps.ready3 (G (start₅ d)) v (has-three y v) (i-is y) (done₅ d v) (from₃-is d v) third-part
 
-  type-node-returns-9 : type-node-lts.Need-returns-9 (type-node-claims t) (type-node-at t) type-node.Post
-  type-node-returns-9 c = λ v. third-refuses (gr (ops5 (c .before .before .before .before .before .before .before .before))) v (three (c .before .before .before .before .before .before .before .before .before .before .before .before .before .before .before) v) (i4 (c .before .before .before .before .before .before .before .before .before .before .before .before .before .before)) (done-5 (c .before .before .before .before .before .before .before .before) v) (start3 (c .before .before .before .before .before .before .before .before) v) (met3 (c .before .before .before .before) v) ((c .before) .match6 .keys2)
+  w₆-length : (c : Third) → length (w₆ c) ≡ length (w₅ (turn (turned c)))
+  w₆-length c = c .type-node3 .kept .1 .1 .1 .1 .1 .0
 
-  abbrev ops6 : type-node-lts.After-enum-told7 (type-node-claims t) (type-node-at t) type-node.Post → type-node-lts.After-operands (type-node-claims t) (type-node-at t) type-node.Post
-  ops6 c = ops5 (c .before .before .before .before .before .before .before .before)
+  -- what the call on the third operand answers
+  met₃ : (c : Third) (v : Given (start₅ (turned c)))
+      → let d = turned c in
+      let e = to-between (to-second d) in
+      let s = start₅ d in
+      Meets (says s (right (first-type e v) ∷ v .ctx) (place s + from₃ d) (third-operand (v .tree)))
+      (c₂ e) (w₅ (turn d)) (c .type-node3 .result) (w₆ c)
+  met₃ c v = c .type-node3 .ensures (ready₃ (c .before .before) v)
 
-  done-6 : (c : type-node-lts.After-enum-told7 (type-node-claims t) (type-node-at t) type-node.Post) (v : Rd (ops6 c)) → Done6 (gr (ops6 c)) v ((c .before .before .before .before .before .before .before .before .before .before .before .before .before .before) .index .result) (t2 (c .before .before .before .before .before .before .before .before .before .before .before .before .before .before .before .before) v) (w6 (c .before .before .before .before))
-  done-6 c v = done6 (gr (ops6 c)) v (three (c .before .before .before .before .before .before .before .before .before .before .before .before .before .before .before) v) (i4 (c .before .before .before .before .before .before .before .before .before .before .before .before .before .before)) (done-5 (c .before .before .before .before .before .before .before .before) v) (start3 (c .before .before .before .before .before .before .before .before) v) (met3 (c .before .before .before .before) v) ((c .before) .match6 .keys1) (len6 (c .before .before .before .before))
+  operand-end-requires-3 : lts.Need-operand-end-requires-3 (claims t) (node-at t) node.Post
+  operand-end-requires-3 c κs =
+      let s = start₅ c in
+      let v = given s in
+      let o = o-is (to-entered (to-first (to-between (to-second c)))) v in
+      record {
+        tree = third-operand (v .tree);
+        at = third-stands c v;
+        whole = λ z. third-whole (S s) (v .tree) (v .is) (from₃ c) (from₃-is c v) (sym o ∙ sym z);
+      }
 
-  type-node-done-requires : type-node-lts.Need-done-requires (type-node-claims t) (type-node-at t) type-node.Post
-  type-node-done-requires c κs = let v = rd (ops6 (c .before)) in done-asks (gr (ops6 (c .before))) v (three (c .before .before .before .before .before .before .before .before .before .before .before .before .before .before .before .before) v) (i4 (c .before .before .before .before .before .before .before .before .before .before .before .before .before .before .before)) (done-6 (c .before) v)
+  operand-requires-3 : lts.Need-operand-requires-3 (claims t) (node-at t) node.Post
+  operand-requires-3 c κs =
+      let v = given (start₅ (c .before)) in
+      record { tree = third-operand (v .tree); at = third-stands (c .before) v; ends = end-is c v }
 
-  type-node-same-length-10 : type-node-lts.Need-same-length-10 (type-node-claims t) (type-node-at t) type-node.Post
-  type-node-same-length-10 c = (c .before .before) .done .kept .1 .1 .1 .1 .1 .0 ∙ done-6 (c .before .before .before .before) (rd (ops6 (c .before .before .before .before))) .same
+  add-type-node-3 : lts.Need-add-type-node-3 (claims t) (node-at t) node.Post
+  add-type-node-3 c =
+      let d = c .before .before in
+      let y = to-index d in
+      let v = given (start₅ d) in
+      omega (arith, steps.third-placed (G (start₅ d)) v (has-three y v) (i-is y) (done₅ d v) (from₃-is d v))
 
-  type-node-returns-10 : type-node-lts.Need-returns-10 (type-node-claims t) (type-node-at t) type-node.Post
-  type-node-returns-10 c =
-      λ v.
-      let g = gr (ops6 (c .before .before .before .before)) in
-      let o = three (c .before .before .before .before .before .before .before .before .before .before .before .before .before .before .before .before .before .before .before) v in
-      let e = i4 (c .before .before .before .before .before .before .before .before .before .before .before .before .before .before .before .before .before .before) in
-      let d = done-6 (c .before .before .before .before) v in
-      let i = (c .before .before .before .before .before .before .before .before .before .before .before .before .before .before .before .before .before .before) .index .result in
-      done-meets g v o e d (by-is (c .before .before .before .before .before .before .before .before .before .before .before .before .before .before .before .before .before .before .before .before .before .before .before .before .before .before .before .before .before .before) v)
-      ((c .before .before) .done .ensures (d .type) (type-at (ty (ops6 (c .before .before .before .before))) i) (bi (ops6 (c .before .before .before .before))) (d .held) (v .table .entry i (case-named g v o e)) (done-room g v o e d))
+  type-node-requires-3 : lts.Need-type-node-requires-3 (claims t) (node-at t) node.Post
+  type-node-requires-3 c κs =
+      let p = c .before in
+      let d = p .before .before in
+      let v = given (start₅ d) in
+      (omega (arith, p .operand3 .ensures .1 (omega (arith, from₃-is d v)), start₅ d .pre .0), ready₃ p v)
+
+  enum-told-7 : lts.Need-enum-told-7 (claims t) (node-at t) node.Post
+  enum-told-7 c = c .match6 .keys1
+
+  enum-told-8 : lts.Need-enum-told-8 (claims t) (node-at t) node.Post
+  enum-told-8 c = c .match6 .keys2
+
+  same-length-9 : lts.Need-same-length-9 (claims t) (node-at t) node.Post
+  same-length-9 c =
+      let x = c .before .before .before .before in
+      let d = turned x in
+      w₆-length x ∙ done₅ d (given (start₅ d)) .same
+
+  returns-9 : lts.Need-returns-9 (claims t) (node-at t) node.Post
+  returns-9 c v =
+      let x = c .before .before .before .before in
+      let d = turned x in
+      let y = to-index d in
+      steps.third-refuses (G (start₅ d)) v (has-three y v) (i-is y) (done₅ d v) (from₃-is d v) (met₃ x v)
+      (c .before .match6 .keys2)
+
+  -- the third operand has a type
+  abbrev to-turned : Third-typed → Turned
+  to-turned c = turned (third c)
+
+  abbrev start₆ : Third-typed → Start
+  start₆ c = start₅ (to-turned c)
+
+  done₆ : (c : Third-typed) (v : Given (start₆ c))
+      → let d = to-turned c in
+      steps.Done6 (G (start₆ c)) v (i (to-index d)) (first-type (to-between (to-second d)) v) (w₆ (third c))
+  done₆ c v =
+      let x = third c in
+      let d = turned x in
+      let y = to-index d in
+      steps.done6 (G (start₅ d)) v (has-three y v) (i-is y) (done₅ d v) (from₃-is d v) (met₃ x v)
+      (c .before .match6 .keys1) (w₆-length x)
+
+  -- ---- after three operands
+
+  done-requires : lts.Need-done-requires (claims t) (node-at t) node.Post
+  done-requires c κs =
+      let d = c .before in
+      let y = to-index (to-turned d) in
+      let v = given (start₆ d) in
+      steps.done-asks (G (start₆ d)) v (has-three y v) (i-is y) (done₆ d v)
+
+  same-length-10 : lts.Need-same-length-10 (claims t) (node-at t) node.Post
+  same-length-10 c =
+      let x = c .before .before in
+      let d = x .before .before in
+      x .done .kept .1 .1 .1 .1 .1 .0 ∙ done₆ d (given (start₆ d)) .same
+
+  returns-10 : lts.Need-returns-10 (claims t) (node-at t) node.Post
+  returns-10 c v =
+      let x = c .before .before in
+      let d = x .before .before in
+      let y = to-index (to-turned d) in
+      let s = start₆ d in
+      let o = has-three y v in
+      let j = i-is y in
+      let k = done₆ d v in
+      steps.done-meets (G s) v o j k (by-is (middle (to-between (two y))) v)
+      (x .done .ensures (k .type) (type-at (T s) (i y)) (s .args .b) (k .held)
+      (v .table .entry (i y) (steps.case-named (G s) v o j)) (steps.done-room (G s) v o j k))
 
 pub +type-node-spec : {M : Type 1} → statement M
-+type-node-spec = close μ-type-node λ t. type-node-lts.spec (type-node-claims t)
-    (type-node-at t)
-    type-node.Post
-    (type-node-operands-requires t)
-    (type-node-leaf-requires t)
-    (type-node-same-length t)
-    (type-node-returns t)
-    (type-node-enter-requires t)
-    (type-node-enum-known-e t)
-    (type-node-enum-told t)
-    (type-node-same-length-2 t)
-    (type-node-returns-2 t)
-    (type-node-operand-end-requires t)
-    (type-node-kept-front-requires t)
-    (type-node-operand-requires t)
-    (type-node-add-type-node t)
-    (type-node-sub-type-node t)
-    (type-node-part-type-node-start t)
-    (type-node-part-type-node-end t)
-    (type-node-type-node-requires t)
-    (type-node-enum-known-x1 t)
-    (type-node-enum-told-2 t)
-    (type-node-same-length-3 t)
-    (type-node-returns-3 t)
-    (type-node-last-requires t)
-    (type-node-same-length-4 t)
-    (type-node-returns-4 t)
-    (type-node-indirect-requires t)
-    (type-node-middle-requires t)
-    (type-node-enum-known-t t)
-    (type-node-enum-told-3 t)
-    (type-node-same-length-5 t)
-    (type-node-returns-5 t)
-    (type-node-operand-end-requires-2 t)
-    (type-node-kept-between-requires t)
-    (type-node-operand-requires-2 t)
-    (type-node-add-type-node-2 t)
-    (type-node-sub-type-node-2 t)
-    (type-node-part-type-node-start-2 t)
-    (type-node-part-type-node-end-2 t)
-    (type-node-type-node-requires-2 t)
-    (type-node-enum-known-x2 t)
-    (type-node-enum-told-4 t)
-    (type-node-same-length-6 t)
-    (type-node-returns-6 t)
-    (type-node-ends-requires t)
-    (type-node-same-length-7 t)
-    (type-node-returns-7 t)
-    (type-node-index-requires t)
-    (type-node-turn-requires t)
-    (type-node-enum-told-5 t)
-    (type-node-enum-told-6 t)
-    (type-node-same-length-8 t)
-    (type-node-returns-8 t)
-    (type-node-operand-end-requires-3 t)
-    (type-node-operand-requires-3 t)
-    (type-node-add-type-node-3 t)
-    (type-node-type-node-requires-3 t)
-    (type-node-enum-told-7 t)
-    (type-node-enum-told-8 t)
-    (type-node-same-length-9 t)
-    (type-node-returns-9 t)
-    (type-node-done-requires t)
-    (type-node-same-length-10 t)
-    (type-node-returns-10 t)
++type-node-spec =
+    close μ-node λ t.
+    lts.spec (claims t) (node-at t) node.Post
+    (operands-requires t)
+    (leaf-requires t)
+    (same-length t)
+    (returns t)
+    (enter-requires t)
+    (enum-known-e t)
+    (enum-told t)
+    (same-length-2 t)
+    (returns-2 t)
+    (operand-end-requires t)
+    (kept-front-requires t)
+    (operand-requires t)
+    (add-type-node t)
+    (sub-type-node t)
+    (part-type-node-start t)
+    (part-type-node-end t)
+    (type-node-requires t)
+    (enum-known-x1 t)
+    (enum-told-2 t)
+    (same-length-3 t)
+    (returns-3 t)
+    (last-requires t)
+    (same-length-4 t)
+    (returns-4 t)
+    (indirect-requires t)
+    (middle-requires t)
+    (enum-known-t t)
+    (enum-told-3 t)
+    (same-length-5 t)
+    (returns-5 t)
+    (operand-end-requires-2 t)
+    (kept-between-requires t)
+    (operand-requires-2 t)
+    (add-type-node-2 t)
+    (sub-type-node-2 t)
+    (part-type-node-start-2 t)
+    (part-type-node-end-2 t)
+    (type-node-requires-2 t)
+    (enum-known-x2 t)
+    (enum-told-4 t)
+    (same-length-6 t)
+    (returns-6 t)
+    (ends-requires t)
+    (same-length-7 t)
+    (returns-7 t)
+    (index-requires t)
+    (turn-requires t)
+    (enum-told-5 t)
+    (enum-told-6 t)
+    (same-length-8 t)
+    (returns-8 t)
+    (operand-end-requires-3 t)
+    (operand-requires-3 t)
+    (add-type-node-3 t)
+    (type-node-requires-3 t)
+    (enum-told-7 t)
+    (enum-told-8 t)
+    (same-length-9 t)
+    (returns-9 t)
+    (done-requires t)
+    (same-length-10 t)
+    (returns-10 t)

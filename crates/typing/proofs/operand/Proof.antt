@@ -1,10 +1,10 @@
--- `typing::operand` meets its contract.
+-- `typing::operand` meets its contract: the part is the operand's records, and is shorter than the node's.
 use mathlib.Core.Path.{ap, _∙_}
-use Prim.Native.Nat.{_-_, _*_}
+use Prim.Native.Nat.{_+_, _-_, _*_, _≤_}
 use native.Mathlib.Omega.{arith}
-use lib.ListN.{take, drop, length-drop, length-take}
+use lib.ListN.{length, take, drop, length-drop, length-take}
 use lib.Seq.{take-at}
-use Rattle.rules.specs.Script.{encode}
+use Rattle.rules.specs.Script.{encode, size}
 use Rattle.rules.proofs.PrefixLaws.{encode-length, size-positive}
 use Rattle.rules.proofs.TermCode.{term-code}
 use Rattle.records.proofs.Stands.{room}
@@ -12,11 +12,15 @@ use borrow.Author.Needs.{needs}
 use Rattle.typing.proofs.operand.Statement.{statement}
 use Rattle.typing.proofs.operand.Tie as tie
 
+-- the operand ends within the script
+within : (c : tie.Start) → 6 * c .args .i + 6 * size (c .pre .tree) ≤ length (c .args .s .now)
+within c = room (c .args .s .now) (c .args .i) (c .pre .tree) (c .pre .at)
+
 mul-from : tie.Need-mul-from
-mul-from c = omega (arith, room (c .args .s .now) (c .args .i) (c .pre .tree) (c .pre .at))
+mul-from c = omega (arith, within c)
 
 mul-to : tie.Need-mul-to
-mul-to c = omega (arith, room (c .args .s .now) (c .args .i) (c .pre .tree) (c .pre .at), c .pre .ends)
+mul-to c = omega (arith, within c, c .pre .ends)
 
 sub-result : tie.Need-sub-result
 sub-result c = search needs
@@ -25,17 +29,17 @@ part-result-start : tie.Need-part-result-start
 part-result-start c = search needs
 
 part-result-end : tie.Need-part-result-end
-part-result-end c = omega (arith, room (c .args .s .now) (c .args .i) (c .pre .tree) (c .pre .at), c .pre .ends)
+part-result-end c = omega (arith, within c, c .pre .ends)
 
 returns : tie.Need-returns
 returns c =
-    let s = (c .before) .args .s .now in
-    let i = (c .before) .args .i in
-    let d = (c .before) .args .end in
-    let n = room s i ((c .before) .pre .tree) ((c .before) .pre .at) in
-    let p = size-positive term-code ((c .before) .pre .tree) in (
-      λ e a z. ap (take (6 * d - 6 * i)) (a .stands) ∙ take-at (encode e) (a .rest) (6 * d - 6 * i) (omega (arith, encode-length term-code e)),
-      λ l. omega (arith, length-take (6 * d - 6 * i) (drop (6 * i) s), length-drop (6 * i) s),
+    let start = c .before in
+    let from = 6 * start .args .i in
+    let count = 6 * start .args .end - from in
+    let n = within start in
+    let p = size-positive term-code (start .pre .tree) in (
+      λ e a z. ap (take count) (a .stands) ∙ take-at (encode e) (a .rest) count (omega (arith, encode-length term-code e)),
+      λ l. omega (arith, length-take count (drop from (start .args .s .now)), length-drop from (start .args .s .now)),
     )
 
 pub operand-spec : {M : Type 1} → statement M

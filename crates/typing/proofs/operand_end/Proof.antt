@@ -1,4 +1,4 @@
--- `typing::operand_end` meets its contract.
+-- `typing::operand_end` meets its contract: the node's last operand ends where its part does, and another is scanned.
 use mathlib.Core.Path.{_≡_, sym, ap, _∙_}
 use Prim.Native.Nat.{ℕ, _+_, _/_}
 use native.Mathlib.Omega.{arith}
@@ -14,21 +14,23 @@ use borrow.Author.Needs.{needs}
 use Rattle.typing.proofs.operand_end.Statement.{statement}
 use Rattle.typing.proofs.operand_end.Tie as tie
 
-record-count-requires : tie.Need-record-count-requires
-record-count-requires c κs = search needs
-
 -- the last operand's end, for whichever term stands there
 ends-with : (s : Bytes) (o j i : ℕ) (p : Operand-at s o j i) → j ≡ o → (e : Term) → At s i e → length s / 6 ≡ i + size e
 ends-with s o j i p z e a =
     let q = unique term-prefix e (p .tree) (a .rest) (p .at .rest) (sym (a .stands) ∙ p .at .stands) .0 in
     omega (arith, p .whole z, ap size q)
 
+record-count-requires : tie.Need-record-count-requires
+record-count-requires c κs = search needs
+
 returns : tie.Need-returns
-returns c =
-    λ e a. c .record-count .ensures ∙ ends-with ((c .before .before .before) .args .s .now) ((c .before .before .before) .args .o) ((c .before .before .before) .args .j) ((c .before .before .before) .args .i) ((c .before .before .before) .pre) ((c .before) .if1 .taken) e a
+returns c e w =
+    let start = c .before .before .before in
+    let a = start .args in
+    c .record-count .ensures ∙ ends-with (a .s .now) (a .o) (a .j) (a .i) (start .pre) (c .before .if1 .taken) e w
 
 end-of-requires : tie.Need-end-of-requires
-end-of-requires c κs = record { tree = (c .before .before) .pre .tree; at = (c .before .before) .pre .at }
+end-of-requires c κs = let p = c .before .before .pre in record { tree = p .tree; at = p .at }
 
 returns-2 : tie.Need-returns-2
 returns-2 c = c .end-of .ensures
