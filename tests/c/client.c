@@ -1,0 +1,275 @@
+/*
+ * A client written from the header alone, in what C99 and C++ share: it builds tables and scripts, checks, runs and shows them,
+ * and reads every kind of answer. Exits with 0 when all is as the header says.
+ */
+#include <stdio.h>
+#include <string.h>
+
+#include "wigneld.h"
+
+static unsigned held = 0, failed = 0;
+
+static void hold(int so, const char *what, int line)
+{
+    held++;
+    if (!so) {
+        failed++;
+        fprintf(stderr, "client.c:%d: it is not so that %s\n", line, what);
+    }
+}
+
+#define HOLD(so) hold((so), #so, __LINE__)
+
+/* Two groups: anyone, and the lender above. */
+static const uint8_t groups[2 * WIGNELD_ROW_BYTES] = { 3, 0, 0, 0, 2, 0, 0, 0 };
+
+/* Lent memory. What a call keeps shows by the byte that stood there. */
+enum { OLD = 0xA5 };
+static uint8_t work[WIGNELD_WORK_BYTES], found[WIGNELD_ANSWER_BYTES];
+static uint8_t first[WIGNELD_RUN_BYTES], scratch[WIGNELD_RUN_BYTES], steps[WIGNELD_STEPS_BYTES], sheet[WIGNELD_SHEET_BYTES];
+
+struct bytes {
+    uint8_t at[WIGNELD_MOST_DEPTH * WIGNELD_SCRIPT_RECORD_BYTES];
+    size_t length;
+};
+
+static void put_type(struct bytes *types, unsigned kind, unsigned r, unsigned ir)
+{
+    uint8_t *record = types->at + types->length;
+
+    record[WIGNELD_AT_KIND] = (uint8_t)kind;
+    record[WIGNELD_AT_READERS] = (uint8_t)r;
+    record[WIGNELD_AT_INDIRECT] = (uint8_t)ir;
+    record[WIGNELD_AT_ZERO] = 0;
+    types->length += WIGNELD_TYPE_RECORD_BYTES;
+}
+
+static void put_record(struct bytes *script, unsigned kind, unsigned r, unsigned ir, unsigned number)
+{
+    uint8_t *record = script->at + script->length;
+
+    record[WIGNELD_AT_KIND] = (uint8_t)kind;
+    record[WIGNELD_AT_READERS] = (uint8_t)r;
+    record[WIGNELD_AT_INDIRECT] = (uint8_t)ir;
+    record[WIGNELD_AT_ZERO] = 0;
+    record[WIGNELD_AT_NUMBER] = (uint8_t)(number & 0xff);
+    record[WIGNELD_AT_NUMBER + 1] = (uint8_t)(number >> 8);
+    script->length += WIGNELD_SCRIPT_RECORD_BYTES;
+}
+
+/* A yes or no that anyone may read, and one of the lender's. */
+enum { PUBLIC = 0, LENDERS = 3 };
+
+static struct bytes tables(void)
+{
+    struct bytes types;
+
+    memset(&types, 0, sizeof types);
+    put_type(&types, WIGNELD_TYPE_SUM, 0, 0);
+    put_type(&types, WIGNELD_TYPE_UNIT, 0, 0);
+    put_type(&types, WIGNELD_TYPE_UNIT, 0, 0);
+    put_type(&types, WIGNELD_TYPE_SUM, 1, 1);
+    put_type(&types, WIGNELD_TYPE_UNIT, 0, 0);
+    put_type(&types, WIGNELD_TYPE_UNIT, 0, 0);
+    return types;
+}
+
+/* The lender's yes turned into a no by a reader: a pair of it with a public unit. */
+static struct bytes turned(unsigned reader)
+{
+    struct bytes script;
+
+    memset(&script, 0, sizeof script);
+    put_record(&script, WIGNELD_KIND_PAIR, 0, 0, 0);
+    put_record(&script, WIGNELD_KIND_UNIT, 0, 0, 0);
+    put_record(&script, WIGNELD_KIND_CASE, reader, 0, PUBLIC);
+    put_record(&script, WIGNELD_KIND_FIRST_INJECTION, 1, 1, LENDERS);
+    put_record(&script, WIGNELD_KIND_UNIT, 0, 0, 0);
+    put_record(&script, WIGNELD_KIND_SECOND_INJECTION, 0, 0, PUBLIC);
+    put_record(&script, WIGNELD_KIND_VARIABLE, 0, 0, 0);
+    put_record(&script, WIGNELD_KIND_FIRST_INJECTION, 0, 0, PUBLIC);
+    put_record(&script, WIGNELD_KIND_VARIABLE, 0, 0, 0);
+    return script;
+}
+
+static uint64_t check(const struct bytes *types, const struct bytes *script)
+{
+    memset(work, OLD, sizeof work);
+    memset(found, OLD, sizeof found);
+    return wigneld_check(groups, sizeof groups, types->at, types->length, script->at, script->length, work, sizeof work, found,
+                         sizeof found);
+}
+
+static uint64_t run(const struct bytes *types, const struct bytes *script, uint64_t budget)
+{
+    memset(first, OLD, sizeof first);
+    memset(scratch, OLD, sizeof scratch);
+    memset(steps, OLD, sizeof steps);
+    return wigneld_run(groups, sizeof groups, types->at, types->length, script->at, script->length, budget, first, sizeof first,
+                       scratch, sizeof scratch, steps, sizeof steps);
+}
+
+static uint64_t show(const struct bytes *types, uint32_t records, uint64_t group)
+{
+    memset(sheet, OLD, sizeof sheet);
+    return wigneld_sheet(groups, sizeof groups, types->at, types->length, first, (size_t)records * WIGNELD_SCRIPT_RECORD_BYTES,
+                         group, sheet, sizeof sheet);
+}
+
+static int all(const uint8_t *bytes, size_t length, unsigned byte)
+{
+    size_t i;
+
+    for (i = 0; i < length; i++)
+        if (bytes[i] != byte)
+            return 0;
+    return 1;
+}
+
+static int is_record(const uint8_t *record, unsigned kind, unsigned r, unsigned ir)
+{
+    return record[WIGNELD_AT_KIND] == kind && record[WIGNELD_AT_READERS] == r && record[WIGNELD_AT_INDIRECT] == ir
+           && record[WIGNELD_AT_ZERO] == 0;
+}
+
+/* Accepted, run to its value, and shown to both groups. */
+static void accepted(void)
+{
+    struct bytes types = tables(), script = turned(1);
+    uint64_t answer = check(&types, &script);
+
+    HOLD(wigneld_question(answer) == 0 && wigneld_place(answer) == 0);
+    HOLD(wigneld_count(answer) == 5);
+    HOLD(is_record(found, WIGNELD_TYPE_PAIR, 0, 0));
+    HOLD(is_record(found + WIGNELD_TYPE_RECORD_BYTES, WIGNELD_TYPE_UNIT, 0, 0));
+    HOLD(is_record(found + 2 * WIGNELD_TYPE_RECORD_BYTES, WIGNELD_TYPE_SUM, 1, 1));
+    HOLD(all(work, sizeof work, 0));
+    HOLD(all(found + 5 * WIGNELD_TYPE_RECORD_BYTES, sizeof found - 5 * WIGNELD_TYPE_RECORD_BYTES, OLD));
+
+    answer = run(&types, &script, 1);
+    HOLD(wigneld_run_end(answer) == WIGNELD_END_SPENT && wigneld_run_steps(answer, steps) == 1);
+
+    answer = run(&types, &script, 1000);
+    HOLD(wigneld_question(answer) == 0);
+    HOLD(wigneld_run_end(answer) == WIGNELD_END_VALUE);
+    HOLD(wigneld_run_count(answer) == 4 && wigneld_run_steps(answer, steps) == 2);
+    HOLD(first[2 * WIGNELD_SCRIPT_RECORD_BYTES + WIGNELD_AT_KIND] == WIGNELD_KIND_SECOND_INJECTION);
+    HOLD(all(first + 4 * WIGNELD_SCRIPT_RECORD_BYTES, sizeof first - 4 * WIGNELD_SCRIPT_RECORD_BYTES, 0));
+    HOLD(all(scratch, sizeof scratch, 0));
+
+    answer = show(&types, wigneld_run_count(answer), 0);
+    HOLD(wigneld_count(answer) == 4);
+    HOLD(is_record(sheet, WIGNELD_SHEET_PAIR, 0, 0));
+    HOLD(is_record(sheet + WIGNELD_SHEET_RECORD_BYTES, WIGNELD_SHEET_UNIT, 0, 0));
+    HOLD(is_record(sheet + 2 * WIGNELD_SHEET_RECORD_BYTES, WIGNELD_SHEET_CLOSED, 0, 0));
+    answer = show(&types, 4, 1);
+    HOLD(is_record(sheet + 2 * WIGNELD_SHEET_RECORD_BYTES, WIGNELD_SHEET_SECOND, 1, 1));
+    HOLD(all(sheet + 4 * WIGNELD_SHEET_RECORD_BYTES, sizeof sheet - 4 * WIGNELD_SHEET_RECORD_BYTES, OLD));
+}
+
+/* Refused by the check, and stopped in the run, which doesn't ask what the check asks. */
+static void refused_and_stopped(void)
+{
+    struct bytes types = tables(), script = turned(0);
+    uint64_t answer = check(&types, &script);
+
+    HOLD(wigneld_question(answer) == 21);
+    HOLD(wigneld_place_kind(wigneld_question(answer)) == WIGNELD_PLACE_SCRIPT_RECORD && wigneld_place(answer) == 2);
+    HOLD(wigneld_count(answer) == 0);
+    HOLD(all(found, sizeof found, OLD) && all(work, sizeof work, 0));
+
+    answer = run(&types, &script, 1000);
+    HOLD(wigneld_run_end(answer) == WIGNELD_END_MAY_NOT && wigneld_run_steps(answer, steps) == 0);
+}
+
+/* A refused run is no value, has no records and no steps, and writes nothing. */
+static void refused_run(void)
+{
+    struct bytes types = tables(), script = turned(1);
+    uint64_t answer;
+
+    script.length -= WIGNELD_SCRIPT_RECORD_BYTES;
+    answer = run(&types, &script, 1000);
+    HOLD(wigneld_question(answer) == 17 && wigneld_place(answer) == 8);
+    HOLD(wigneld_run_end(answer) == WIGNELD_END_REFUSED);
+    HOLD(wigneld_run_end(answer) != WIGNELD_END_VALUE);
+    HOLD(wigneld_run_count(answer) == 0 && wigneld_run_steps(answer, steps) == 0);
+    HOLD(all(first, sizeof first, OLD) && all(scratch, sizeof scratch, OLD) && all(steps, sizeof steps, OLD));
+
+    types.length = 0;
+    answer = run(&types, &script, 1000);
+    HOLD(wigneld_question(answer) == 8 && wigneld_run_end(answer) == WIGNELD_END_REFUSED);
+    HOLD(wigneld_run_steps(answer, NULL) == 0);
+
+    answer = wigneld_run(NULL, 0, NULL, 0, NULL, 0, 1000, NULL, 0, NULL, 0, NULL, 0);
+    HOLD(wigneld_question(answer) == 2 && wigneld_run_end(answer) == WIGNELD_END_REFUSED && wigneld_run_count(answer) == 0);
+}
+
+/* A refused sheet has no records. */
+static void refused_sheet(void)
+{
+    struct bytes types = tables(), script = turned(1);
+    uint64_t answer = run(&types, &script, 1000);
+    uint32_t records = wigneld_run_count(answer);
+
+    answer = show(&types, records, 2);
+    HOLD(wigneld_question(answer) == 25 && wigneld_count(answer) == 0 && all(sheet, sizeof sheet, OLD));
+    answer = wigneld_sheet(groups, sizeof groups, types.at, types.length, first, (size_t)records * WIGNELD_SCRIPT_RECORD_BYTES, 0,
+                           sheet, 3 * WIGNELD_SHEET_RECORD_BYTES);
+    HOLD(wigneld_question(answer) == 27 && wigneld_count(answer) == 0);
+    answer = wigneld_sheet(groups, sizeof groups, types.at, types.length, script.at, script.length, 0, sheet, sizeof sheet);
+    HOLD(wigneld_question(answer) == 26 && wigneld_count(answer) == 0);
+}
+
+/* What a reader makes of every refusal that there can be: each question, at small and large places. */
+static void every_refusal(void)
+{
+    unsigned question, end;
+    uint64_t place;
+
+    for (question = 1; question <= WIGNELD_LAST_QUESTION + 1; question++) {
+        for (place = 0; place <= UINT32_MAX; place = 3 * place + 1) {
+            uint64_t answer = (uint64_t)question << 32 | place;
+
+            HOLD(wigneld_question(answer) == question && wigneld_place(answer) == place);
+            HOLD(wigneld_count(answer) == 0 && wigneld_run_count(answer) == 0 && wigneld_run_steps(answer, NULL) == 0);
+            HOLD(wigneld_run_end(answer) == WIGNELD_END_REFUSED);
+        }
+    }
+    for (end = WIGNELD_END_VALUE; end <= WIGNELD_END_TOO_BIG; end++) {
+        uint64_t answer = (uint64_t)end << 16 | WIGNELD_MOST_SCRIPT_RECORDS;
+
+        HOLD(wigneld_question(answer) == 0 && wigneld_run_end(answer) == end && end != WIGNELD_END_REFUSED);
+        HOLD(wigneld_run_count(answer) == WIGNELD_MOST_SCRIPT_RECORDS);
+    }
+}
+
+/* What each question's place counts, and that each has its words. */
+static void places(void)
+{
+    /* - nothing, g a row, t a type record, s a script record; by number from 0. */
+    static const char counted[] = "---gggg--tttt-sssssssssss---";
+    unsigned question;
+
+    HOLD(sizeof counted - 1 == WIGNELD_LAST_QUESTION + 1);
+    for (question = 0; question <= WIGNELD_LAST_QUESTION; question++) {
+        unsigned kind = wigneld_place_kind(question);
+
+        HOLD(kind <= WIGNELD_PLACE_SCRIPT_RECORD && counted[question] == "-gts"[kind]);
+        HOLD(strcmp(wigneld_asked(question), "no such question") != 0);
+    }
+    HOLD(strcmp(wigneld_asked(WIGNELD_LAST_QUESTION + 1), "no such question") == 0);
+    HOLD(wigneld_place_kind(WIGNELD_LAST_QUESTION + 1) == WIGNELD_PLACE_NOTHING);
+}
+
+int main(void)
+{
+    accepted();
+    refused_and_stopped();
+    refused_run();
+    refused_sheet();
+    every_refusal();
+    places();
+    printf("%u held, %u failed\n", held, failed);
+    return failed != 0;
+}
