@@ -58,32 +58,28 @@ static struct file load(const char *folder, const char *name, size_t longest)
 /* A refusal in words; the place is shown where it counts something. */
 static void show_refusal(uint64_t answer)
 {
-    unsigned question = wigneld_question(answer);
-    uint32_t place = wigneld_place(answer);
+    static const char *const places[] = { "", "group", "type record", "script record", "type or script record", "word", "script",
+                                          "entry" };
+    unsigned question = wigneld_question(answer), counted = wigneld_place_kind(question);
 
     printf("refused, question %u: it is not so that %s", question, wigneld_asked(question));
-    if (question >= 3 && question <= 6)
-        printf(" (group %" PRIu32 ")", place);
-    else if (question >= 9 && question <= 12)
-        printf(" (type record %" PRIu32 ")", place);
-    else if (question >= 14 && question <= 24)
-        printf(" (script record %" PRIu32 ")", place);
+    if (counted != WIGNELD_PLACE_NOTHING)
+        printf(" (%s %" PRIu32 ")", places[counted], wigneld_place(answer));
     putchar('\n');
 }
 
 /* A type in one line; gives the record after it. */
 static const uint8_t *show_type(const uint8_t *record)
 {
-    static const char *const between[] = { "", " or ", " and ", " to " };
-    unsigned kind = record[0], r = record[1], ir = record[2];
+    unsigned kind = record[WIGNELD_AT_KIND], r = record[WIGNELD_AT_READERS], ir = record[WIGNELD_AT_INDIRECT];
 
-    if (kind == 0) {
+    if (kind == WIGNELD_TYPE_UNIT) {
         printf("unit(%u,%u)", r, ir);
-        return record + WIGNELD_TYPE_RECORD;
+        return record + WIGNELD_TYPE_RECORD_BYTES;
     }
     putchar('(');
-    record = show_type(record + WIGNELD_TYPE_RECORD);
-    fputs(between[kind & 3], stdout);
+    record = show_type(record + WIGNELD_TYPE_RECORD_BYTES);
+    fputs(kind == WIGNELD_TYPE_SUM ? " or " : kind == WIGNELD_TYPE_PAIR ? " and " : " to ", stdout);
     record = show_type(record);
     printf(")(%u,%u)", r, ir);
     return record;
@@ -91,9 +87,9 @@ static const uint8_t *show_type(const uint8_t *record)
 
 static int check(const struct document *d)
 {
-    uint8_t *work = room_for(WIGNELD_WORK), *type = room_for(WIGNELD_ANSWER);
+    uint8_t *work = room_for(WIGNELD_WORK_BYTES), *type = room_for(WIGNELD_ANSWER_BYTES);
     uint64_t answer = wigneld_check(d->groups.bytes, d->groups.length, d->types.bytes, d->types.length, d->script.bytes,
-                                    d->script.length, work, WIGNELD_WORK, type, WIGNELD_ANSWER);
+                                    d->script.length, work, WIGNELD_WORK_BYTES, type, WIGNELD_ANSWER_BYTES);
     int accepted = wigneld_question(answer) == 0;
 
     if (accepted) {
@@ -113,38 +109,37 @@ static uint32_t run(const struct document *d, uint64_t budget, uint8_t *last)
 {
     static const char *const ends[] = { "a value", "not done yet", "stopped: the reader may not", "stopped: wrong kind",
                                         "stopped: too big" };
-    uint8_t *scratch = room_for(WIGNELD_RUN), steps[WIGNELD_STEPS];
+    uint8_t *scratch = room_for(WIGNELD_RUN_BYTES), steps[WIGNELD_STEPS_BYTES];
     uint64_t answer = wigneld_run(d->groups.bytes, d->groups.length, d->types.bytes, d->types.length, d->script.bytes,
-                                  d->script.length, budget, last, WIGNELD_RUN, scratch, WIGNELD_RUN, steps, sizeof steps);
+                                  d->script.length, budget, last, WIGNELD_RUN_BYTES, scratch, WIGNELD_RUN_BYTES, steps,
+                                  sizeof steps);
+    unsigned end = wigneld_run_end(answer);
 
     free(scratch);
-    if (wigneld_question(answer) != 0) {
+    if (end == WIGNELD_END_REFUSED)
         show_refusal(answer);
-        return 0;
-    }
-    printf("%s after %" PRIu64 " steps, %" PRIu32 " records\n", ends[wigneld_run_end(answer)], wigneld_run_steps(steps),
-           wigneld_run_count(answer));
-    return wigneld_run_end(answer) == WIGNELD_END_VALUE ? wigneld_run_count(answer) : 0;
+    else
+        printf("%s after %" PRIu64 " steps, %" PRIu32 " records\n", ends[end], wigneld_run_steps(answer, steps),
+               wigneld_run_count(answer));
+    return end == WIGNELD_END_VALUE ? wigneld_run_count(answer) : 0;
 }
 
 static void show_sheet(const struct document *d, const uint8_t *value, uint32_t records, uint64_t group)
 {
     static const char *const words[] = { "unit", "first", "second", "pair", "function", "closed" };
-    uint8_t *sheet = room_for(WIGNELD_SHEET);
+    uint8_t *sheet = room_for(WIGNELD_SHEET_BYTES);
     uint64_t answer = wigneld_sheet(d->groups.bytes, d->groups.length, d->types.bytes, d->types.length, value,
-                                    (size_t)records * WIGNELD_SCRIPT_RECORD, group, sheet, WIGNELD_SHEET);
+                                    (size_t)records * WIGNELD_SCRIPT_RECORD_BYTES, group, sheet, WIGNELD_SHEET_BYTES);
     uint32_t i, count = wigneld_count(answer);
 
-    if (wigneld_question(answer) != 0) {
+    if (wigneld_question(answer) != 0)
         show_refusal(answer);
-        count = 0;
-    }
     for (i = 0; i < count; i++) {
-        const uint8_t *line = sheet + (size_t)i * WIGNELD_SHEET_RECORD;
+        const uint8_t *line = sheet + (size_t)i * WIGNELD_SHEET_RECORD_BYTES;
 
-        printf("  %s", words[line[0]]);
-        if (line[0] != WIGNELD_SHEET_CLOSED)
-            printf(" (%u,%u)", line[1], line[2]);
+        printf("  %s", words[line[WIGNELD_AT_KIND]]);
+        if (line[WIGNELD_AT_KIND] != WIGNELD_SHEET_CLOSED)
+            printf(" (%u,%u)", line[WIGNELD_AT_READERS], line[WIGNELD_AT_INDIRECT]);
         putchar('\n');
     }
     free(sheet);
@@ -158,7 +153,7 @@ static int view(const struct document *d, uint64_t group, uint64_t budget)
 
     if (!check(d))
         return 1;
-    last = room_for(WIGNELD_RUN);
+    last = room_for(WIGNELD_RUN_BYTES);
     records = run(d, budget, last);
     if (records > 0) {
         printf("sheet for group %" PRIu64 ":\n", group);
@@ -179,9 +174,9 @@ int main(int count, char **words)
         fputs("usage: editor FOLDER [GROUP [BUDGET]]\n", stderr);
         return 2;
     }
-    d.groups = load(words[1], "groups", WIGNELD_GROUPS_LONGEST);
-    d.types = load(words[1], "types", WIGNELD_TYPES_LONGEST);
-    d.script = load(words[1], "script", WIGNELD_SCRIPT_LONGEST);
+    d.groups = load(words[1], "groups", WIGNELD_GROUPS_LONGEST_BYTES);
+    d.types = load(words[1], "types", WIGNELD_TYPES_LONGEST_BYTES);
+    d.script = load(words[1], "script", WIGNELD_SCRIPT_LONGEST_BYTES);
     refused = view(&d, group, budget);
     free(d.groups.bytes);
     free(d.types.bytes);
