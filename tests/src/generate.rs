@@ -6,7 +6,7 @@ use std::rc::Rc;
 
 use crate::groups::{Group, Groups};
 use crate::limits::{MOST_DEPTH, MOST_GROUPS, MOST_TABLE_RECORDS, MOST_TYPE_RECORDS, SCRIPT_BYTES};
-use crate::script::{names_ir, names_number, names_r, Record, Side, Term};
+use crate::script::{names_ir, names_number, names_r, operand_count, Record, Side, Term, OPERANDS};
 use crate::types::{at_or_below, read_tables, Form, Marks, Tables, Type};
 use crate::typing::type_of;
 
@@ -785,14 +785,11 @@ pub fn near_miss(rng: &mut Rng, tables: &Tables, script: &[u8]) -> Vec<u8> {
             record.ir = if ir { new_ir } else { 0 };
         }
         3 => {
-            // Mostly another kind with as many operands, so that the script stays one term.
-            let same: &[u8] = match record.kind {
-                0 | 1 => &[0, 1],
-                3 | 6 => &[3, 6],
-                2 | 4 | 5 | 7 | 8 | 10 | 11 => &[2, 4, 5, 7, 8, 10, 11],
-                _ => &[9],
-            };
-            record.kind = if rng.one_in(4) { rng.below(13) as u8 } else { *rng.pick(same) };
+            // Mostly another kind with as many operands, so that the script stays one term. What is no kind counts as a case.
+            let count = *OPERANDS.get(record.kind as usize).unwrap_or(&3);
+            let kinds = 0..OPERANDS.len() as u8;
+            let same: Vec<u8> = kinds.filter(|&kind| operand_count(kind) == count).collect();
+            record.kind = if rng.one_in(4) { rng.below(13) as u8 } else { *rng.pick(&same) };
             if !rng.one_in(4) {
                 if !names_r(record.kind) {
                     record.r = 0;

@@ -33,3 +33,6 @@ pub const REPORT_RUN_BYTES: usize = MOST_SCRIPT_RECORDS * SCRIPT_BYTES;
 pub const REPORT_SHEET_BYTES: usize = MOST_SCRIPT_RECORDS * SHEET_BYTES;
 /// Report program and cases: "budget 1,000".
 pub const REPORT_BUDGET: u64 = 1000;
+
+/// "Questions, in order": 1 to 27.
+pub const LAST_QUESTION: usize = 27;

@@ -58,15 +58,12 @@ impl Record {
     }
 }
 
-/// The table's column "operands".
+/// The table's column "operands", by kind.
+pub const OPERANDS: [usize; 12] = [0, 0, 1, 2, 1, 1, 2, 1, 1, 3, 1, 1];
+
+/// The operands of a kind that passes question 14.
 pub fn operand_count(kind: u8) -> usize {
-    match kind {
-        0 | 1 => 0,
-        2 | 4 | 5 | 7 | 8 | 10 | 11 => 1,
-        3 | 6 => 2,
-        9 => 3,
-        _ => panic!("question 14: kind at most 11"),
-    }
+    OPERANDS[kind as usize]
 }
 
 /// The table's column "fields": r.

@@ -8,6 +8,7 @@ use common::*;
 use wigneld_tests::cases::{record, Inputs};
 use wigneld_tests::generate::{wide_type, words};
 use wigneld_tests::limits::*;
+use wigneld_tests::script::operand_count;
 
 /// Types, all groups 0: a sum of unit and a pair of 61 records, a function from 31 to 31 records, a pair of 63.
 const SUM: u16 = 0;
@@ -50,8 +51,7 @@ fn depth(records: &[Record]) -> usize {
     let mut deepest = 0;
     for record in records {
         deepest = deepest.max(open.len() + 1);
-        let operands = [0, 0, 1, 2, 1, 1, 2, 1, 1, 3, 1, 1][record[0] as usize];
-        open.push(operands);
+        open.push(operand_count(record[0]));
         while open.last() == Some(&0) {
             open.pop();
             if let Some(left) = open.last_mut() {

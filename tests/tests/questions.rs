@@ -7,7 +7,7 @@ use common::*;
 use wigneld_tests::cases::{self, record, Inputs};
 use wigneld_tests::generate::*;
 use wigneld_tests::limits::*;
-use wigneld_tests::script::{Side, Term};
+use wigneld_tests::script::{operand_count, Side, Term, OPERANDS};
 use wigneld_tests::types::Marks;
 
 use std::rc::Rc;
@@ -428,8 +428,7 @@ fn question_16_named_types() {
 
 #[test]
 fn question_17_one_whole_term() {
-    let operands = [0, 0, 1, 2, 1, 1, 2, 1, 1, 3, 1, 1];
-    for (kind, &count) in operands.iter().enumerate() {
+    for (kind, &count) in OPERANDS.iter().enumerate() {
         let number = if kind == 11 { 3 } else { 0 };
         let head = record(kind as u8, 0, 0, number);
         for given in 0..count + 3 {
@@ -513,9 +512,9 @@ fn question_19_binders() {
     closed(&[function, case, variable(0), variable(1), function, variable(2)]);
     refused_by_all(&of(&[function, case, variable(0), variable(1), function, variable(3)]), 19, 5);
     // Nothing else binds.
-    for (kind, operands) in [(3, 2), (4, 1), (5, 1), (6, 2), (7, 1), (8, 1), (10, 1)] {
+    for kind in [3, 4, 5, 6, 7, 8, 10] {
         let mut records = vec![record(kind, 0, 0, 0)];
-        records.resize(1 + operands, variable(0));
+        records.resize(1 + operand_count(kind), variable(0));
         refused_by_all(&of(&records), 19, 1);
         records.insert(0, function);
         closed(&records);

@@ -1,0 +1,312 @@
+//! `include/wigneld.h`: every constant is the engine's, by its Rattle sources, and the second implementation's; every prototype is
+//! that of an exported function, and none is missing. The stack's three numbers are held by `c/stack.c`, the readers of answers by
+//! `c/client.c`.
+
+use std::collections::BTreeMap;
+use std::fs;
+use std::path::{Path, PathBuf};
+use wigneld_tests::limits::*;
+use wigneld_tests::script::OPERANDS;
+use wigneld_tests::sheet::WORDS;
+use wigneld_tests::steps::End;
+
+fn root() -> PathBuf {
+    Path::new(env!("CARGO_MANIFEST_DIR")).join("..")
+}
+
+fn header() -> String {
+    fs::read_to_string(root().join("include/wigneld.h")).expect("include/wigneld.h")
+}
+
+/// A product of numbers and names, with brackets around it or not.
+fn product(text: &str, named: &dyn Fn(&str) -> usize) -> usize {
+    let text = text.trim();
+    let inside = text.strip_prefix('(').and_then(|rest| rest.strip_suffix(')')).unwrap_or(text);
+    inside
+        .split('*')
+        .map(|part| part.trim().parse().unwrap_or_else(|_| named(part.trim())))
+        .product()
+}
+
+/// The header's constants by name, without their prefix.
+fn constants() -> BTreeMap<String, usize> {
+    let mut found = BTreeMap::new();
+    for line in header().lines() {
+        let Some((name, value)) =
+            line.strip_prefix("#define WIGNELD_").and_then(|rest| rest.split_once(' '))
+        else {
+            continue;
+        };
+        let value = value.split("/*").next().expect("a first part");
+        let named = |name: &str| found[name.strip_prefix("WIGNELD_").expect("its own name")];
+        let value = product(value, &named);
+        assert_eq!(found.insert(name.to_owned(), value), None, "{name} stands twice");
+    }
+    found
+}
+
+/// The constants of the engine's crates: crate, name, value as written.
+fn engine_constants() -> Vec<(String, String, String)> {
+    let mut found = Vec::new();
+    for folder in fs::read_dir(root().join("crates")).expect("crates") {
+        let folder = folder.expect("a folder");
+        let name = folder.file_name().into_string().expect("plain name");
+        for file in ["lib.rt", "main.rt"] {
+            let text = fs::read_to_string(folder.path().join("src").join(file)).unwrap_or_default();
+            for line in text.lines() {
+                let line = line.strip_prefix("pub ").unwrap_or(line);
+                let Some((constant, value)) =
+                    line.strip_prefix("const ").and_then(|rest| rest.split_once(" = "))
+                else {
+                    continue;
+                };
+                let constant = constant.split(':').next().expect("a first part").to_owned();
+                found.push((name.clone(), constant, value.trim_end_matches(';').to_owned()));
+            }
+        }
+    }
+    found
+}
+
+/// The engine's constant `crate::NAME`. A name in its value is the crate's own, or that of the only crate that has it.
+fn engine(all: &[(String, String, String)], path: &str) -> usize {
+    let (owner, name) = path.split_once("::").expect("crate::NAME");
+    let (_, _, value) = all
+        .iter()
+        .find(|(at, constant, _)| at == owner && constant == name)
+        .unwrap_or_else(|| panic!("the engine has no {path}"));
+    product(value, &|other| {
+        let others: Vec<_> = all.iter().filter(|(_, constant, _)| constant == other).collect();
+        let own = others.iter().find(|(at, ..)| at == owner);
+        let (at, ..) = own.unwrap_or_else(|| {
+            assert_eq!(others.len(), 1, "{other} of {path} stands in several crates");
+            &others[0]
+        });
+        engine(all, &format!("{at}::{other}"))
+    })
+}
+
+/// Header, second implementation, engine.
+const LIMITS: [(&str, usize, &str); 18] = [
+    ("ROW_BYTES", ROW_BYTES, "lattice::ROW_WIDTH"),
+    ("TYPE_RECORD_BYTES", TYPE_BYTES, "types::TYPE_WIDTH"),
+    ("SCRIPT_RECORD_BYTES", SCRIPT_BYTES, "records::SCRIPT_WIDTH"),
+    ("SHEET_RECORD_BYTES", SHEET_BYTES, "sheet::SHEET_WIDTH"),
+    ("MOST_GROUPS", MOST_GROUPS, "lattice::GROUP_LIMIT"),
+    ("MOST_TABLE_RECORDS", MOST_TABLE_RECORDS, "types_table::TABLE_LIMIT"),
+    ("MOST_TYPE_RECORDS", MOST_TYPE_RECORDS, "types::TYPE_LIMIT"),
+    ("MOST_SCRIPT_RECORDS", MOST_SCRIPT_RECORDS, "script::SCRIPT_LIMIT"),
+    ("MOST_DEPTH", MOST_DEPTH, "scope::DEPTH_LIMIT"),
+    ("ANSWER_BYTES", ANSWER_BYTES, "inference::SLOT"),
+    ("WORK_BYTES", WORK_BYTES, "typing::WORK_LENGTH"),
+    ("RUN_BYTES", REPORT_RUN_BYTES, "report::RUN_LENGTH"),
+    ("SCRIPT_LONGEST_BYTES", REPORT_RUN_BYTES, "report::RUN_LENGTH"),
+    ("SHEET_BYTES", REPORT_SHEET_BYTES, "report::SHEET_LENGTH"),
+    ("STEPS_BYTES", u64::BITS as usize / 8, "packing::STEPS"),
+    // The report program reads one byte more than the longest.
+    ("GROUPS_LONGEST_BYTES", MOST_GROUPS * ROW_BYTES, ""),
+    ("TYPES_LONGEST_BYTES", MOST_TABLE_RECORDS * TYPE_BYTES, ""),
+    ("LAST_QUESTION", LAST_QUESTION, ""),
+];
+
+/// Kinds in order from 0: header, engine.
+const TYPES: (&str, &[(&str, &str)]) = (
+    "TYPE_",
+    &[
+        ("UNIT", "types::UNIT"),
+        ("SUM", "types::SUM"),
+        ("PAIR", "types::PAIR"),
+        ("FUNCTION", "types::FUNCTION"),
+    ],
+);
+const KINDS: (&str, &[(&str, &str)]) = (
+    "KIND_",
+    &[
+        ("VARIABLE", "records::VARIABLE"),
+        ("UNIT", "records::UNIT"),
+        ("FUNCTION", "records::FUNCTION"),
+        ("PAIR", "records::PAIR"),
+        ("FIRST_INJECTION", "records::FIRST_INJECTION"),
+        ("SECOND_INJECTION", "records::SECOND_INJECTION"),
+        ("APPLICATION", "records::APPLICATION"),
+        ("FIRST_PROJECTION", "records::FIRST_PROJECTION"),
+        ("SECOND_PROJECTION", "records::SECOND_PROJECTION"),
+        ("CASE", "records::CASE"),
+        ("PROTECT", "records::PROTECT"),
+        ("RECURSION", "records::RECURSION"),
+    ],
+);
+const SHEETS: (&str, &[(&str, &str)]) = (
+    "SHEET_",
+    &[
+        ("UNIT", "sheet::SHOWN_UNIT"),
+        ("FIRST", "sheet::SHOWN_FIRST"),
+        ("SECOND", "sheet::SHOWN_SECOND"),
+        ("PAIR", "sheet::SHOWN_PAIR"),
+        ("FUNCTION", "sheet::SHOWN_FUNCTION"),
+        ("CLOSED", "sheet::CLOSED"),
+    ],
+);
+
+/// What the document's text alone gives: header, value.
+const TEXT: [(&str, usize); 18] = [
+    ("AT_KIND", 0),
+    ("AT_READERS", 1),
+    ("AT_INDIRECT", 2),
+    ("AT_ZERO", 3),
+    ("AT_NUMBER", 4),
+    ("END_VALUE", End::Value as usize),
+    ("END_SPENT", End::Moved as usize),
+    ("END_MAY_NOT", End::MayNot as usize),
+    ("END_WRONG_KIND", End::WrongKind as usize),
+    ("END_TOO_BIG", End::TooBig as usize),
+    ("PLACE_NOTHING", 0),
+    ("PLACE_ROW", 1),
+    ("PLACE_TYPE_RECORD", 2),
+    ("PLACE_SCRIPT_RECORD", 3),
+    ("PLACE_EITHER_RECORD", 4),
+    ("PLACE_WORD", 5),
+    ("PLACE_LISTED_SCRIPT", 6),
+    ("PLACE_ENTRY", 7),
+];
+
+/// Held elsewhere, or by nothing but what their comments say.
+const OTHERS: [&str; 6] = [
+    "VERSION",
+    "FORMAT",
+    "CHECK_STACK_BYTES",
+    "RUN_STACK_BYTES",
+    "SHEET_STACK_BYTES",
+    "END_REFUSED",
+];
+
+/// The widths of a row and of type, script and sheet records in each record format, from 1 on.
+const FORMATS: [[usize; 4]; 1] = [[4, 4, 6, 4]];
+
+#[test]
+fn every_constant_is_the_engines() {
+    let header = constants();
+    let engine_has = engine_constants();
+    let mut held: Vec<String> = OTHERS.map(str::to_owned).to_vec();
+    let mut hold = |name: &str, value: usize, path: &str| {
+        let found = *header.get(name).unwrap_or_else(|| panic!("the header has no WIGNELD_{name}"));
+        assert_eq!(found, value, "WIGNELD_{name}");
+        if !path.is_empty() {
+            assert_eq!(found, engine(&engine_has, path), "WIGNELD_{name} and {path}");
+        }
+        held.push(name.to_owned());
+    };
+    for (name, value, path) in LIMITS {
+        hold(name, value, path);
+    }
+    for (name, value) in TEXT {
+        hold(name, value, "");
+    }
+    for (prefix, kinds) in [TYPES, KINDS, SHEETS] {
+        for (number, (name, path)) in kinds.iter().enumerate() {
+            hold(&format!("{prefix}{name}"), number, path);
+        }
+    }
+    held.sort();
+    let all: Vec<String> = header.into_keys().collect();
+    assert_eq!(all, held, "constants of the header, and those that are held here");
+}
+
+#[test]
+fn as_many_kinds_as_the_document_has() {
+    assert_eq!(KINDS.1.len(), OPERANDS.len());
+    let words: Vec<String> = SHEETS.1.iter().map(|(name, _)| name.to_lowercase()).collect();
+    assert_eq!(words, WORDS);
+}
+
+/// The longest lengths are the ones up to which the report program reads, and one byte less.
+#[test]
+fn longest_lengths_are_the_report_programs() {
+    for (name, length) in [("GROUPS", "GROUPS"), ("TYPES", "TYPES"), ("SCRIPT", "SCRIPT")] {
+        let all = engine_constants();
+        let (_, _, value) = all
+            .iter()
+            .find(|(at, constant, _)| at == "report" && *constant == format!("{length}_LENGTH"))
+            .expect("the report program's length");
+        let longest = value.strip_suffix(" + 1").expect("one byte more");
+        let named = |other: &str| {
+            let (at, ..) = all.iter().find(|(_, constant, _)| constant == other).expect("a limit");
+            engine(&all, &format!("{at}::{other}"))
+        };
+        assert_eq!(constants()[&format!("{name}_LONGEST_BYTES")], product(longest, &named));
+    }
+}
+
+/// Another width is another format.
+#[test]
+fn format_says_the_widths() {
+    let header = constants();
+    let widths = ["ROW_BYTES", "TYPE_RECORD_BYTES", "SCRIPT_RECORD_BYTES", "SHEET_RECORD_BYTES"];
+    assert_eq!(header["FORMAT"], FORMATS.len());
+    assert_eq!(widths.map(|name| header[name]), FORMATS[header["FORMAT"] - 1]);
+}
+
+/// No run ends as a refusal reads.
+#[test]
+fn no_end_is_a_refusal() {
+    let header = constants();
+    let refused = header["END_REFUSED"];
+    let ends = header.iter().filter(|(name, &end)| name.starts_with("END_") && end == refused);
+    assert_eq!(ends.count(), 1);
+}
+
+/// A text's words, one space between them and none beside a bracket, a comma or a star.
+fn tidy(text: &str) -> String {
+    let spaced = text.split_whitespace().collect::<Vec<_>>().join(" ");
+    ["( ", " )", " ,", ", ", "* ", " *"]
+        .iter()
+        .fold(spaced, |text, pair| text.replace(pair, pair.trim()))
+        .replace(",)", ")")
+}
+
+/// The prototypes in the header, by name.
+fn prototypes() -> BTreeMap<String, String> {
+    let text = header();
+    let starts = text.match_indices("\nuint64_t wigneld_");
+    starts
+        .map(|(at, _)| {
+            let prototype = tidy(&text[at..at + text[at..].find(';').expect("its end")]);
+            let name = prototype["uint64_t ".len()..].split('(').next().expect("a name").to_owned();
+            (name, prototype)
+        })
+        .collect()
+}
+
+/// The exported functions of the engine, as C declares them: a slice is a pointer and a length.
+fn exports() -> BTreeMap<String, String> {
+    let text = fs::read_to_string(root().join("crates/wigneld/src/lib.rt")).expect("wigneld");
+    let starts = text.match_indices("#[no_mangle]\npub extern \"C\" fn ");
+    starts
+        .map(|(at, start)| {
+            let rest = &text[at + start.len()..];
+            let (name, rest) = rest.split_once('(').expect("parameters");
+            let (parameters, rest) = rest.split_once(')').expect("their end");
+            assert!(rest.starts_with(" -> u64"), "{name} answers one number");
+            let declared: Vec<String> = parameters
+                .split(',')
+                .filter(|parameter| !parameter.trim().is_empty())
+                .map(|parameter| {
+                    let (name, of) = parameter.trim().split_once(": ").expect("name: type");
+                    match of {
+                        "&[u8]" => format!("const uint8_t*{name},size_t {name}_length"),
+                        "&mut [u8]" => format!("uint8_t*{name},size_t {name}_length"),
+                        "u64" => format!("uint64_t {name}"),
+                        _ => panic!("{name}: {of} has no form in C"),
+                    }
+                })
+                .collect();
+            (name.to_owned(), format!("uint64_t {name}({})", declared.join(",")))
+        })
+        .collect()
+}
+
+#[test]
+fn every_prototype_is_an_exported_functions() {
+    assert!(!prototypes().is_empty());
+    assert_eq!(prototypes(), exports());
+}
