@@ -4,7 +4,6 @@ use std::process::Command;
 
 use crate::calls::{in_words, measured_call, Implementation, Lent, IMPLEMENTATIONS};
 use crate::shapes::{Shape, SHAPES};
-use crate::visits::count;
 use crate::SIZES;
 
 /// The word that makes this program do a single call: call, shape, size, implementation.
@@ -43,23 +42,20 @@ fn instructions(shape: &Shape, size: usize, who: Implementation) -> u64 {
 
 pub fn table() {
     println!(
-        "| call | shape | records | second | engine | engine / second | engine / visit \
-         | the same, of what the size adds |"
+        "| call | shape | records | second | engine | engine / second | engine, for each record that the size adds |"
     );
-    println!("|---|---|---:|---:|---:|---:|---:|---:|");
+    println!("|---|---|---:|---:|---:|---:|---:|");
     for shape in &SHAPES {
         let mut before = None;
         for size in SIZES {
-            let visits = count(shape.call, &(shape.inputs)(size)).total() as f64;
             let counts: Vec<u64> =
                 IMPLEMENTATIONS.iter().map(|&who| instructions(shape, size, who)).collect();
             let second = counts[0];
-            let beside = counts.get(1).map_or("– | – | – | –".into(), |&engine| {
-                let own = engine as f64;
-                let added = before.replace((own, visits)).map_or("–".into(), |(less, fewer)| {
-                    format!("{:.1}", (own - less) / (visits - fewer))
+            let beside = counts.get(1).map_or("– | – | –".into(), |&engine| {
+                let added = before.replace((engine, size)).map_or("–".into(), |(less, fewer)| {
+                    format!("{:.0}", (engine as f64 - less as f64) / (size - fewer) as f64)
                 });
-                format!("{engine} | {:.2} | {:.1} | {added}", own / second as f64, own / visits)
+                format!("{engine} | {:.2} | {added}", engine as f64 / second as f64)
             });
             println!("| {} | {} | {size} | {second} | {beside} |", shape.call.name(), shape.name);
         }

@@ -9,7 +9,6 @@ mod plot;
 mod shapes;
 mod tables;
 mod times;
-mod visits;
 
 use wigneld_tests::generate::with_large_stack;
 
@@ -30,7 +29,6 @@ fn measure(file: &str) {
     let rows = tables::rows();
     tables::times(&rows);
     tables::copies(&rows);
-    tables::typical_visits();
     match std::fs::write(file, plot::svg(&tables::panels(&rows))) {
         Ok(()) => eprintln!("plot written to {file}"),
         Err(error) => eprintln!("no plot: {file}: {error}"),

@@ -4,14 +4,12 @@ use crate::calls::{Call, Implementation, IMPLEMENTATIONS};
 use crate::plot::{Line, Panel};
 use crate::shapes::{Shape, SHAPES};
 use crate::times::{measure, Measured};
-use crate::visits::{count, Visits};
 use crate::SIZES;
 
 /// One shape at one size.
 pub struct Row {
     shape: &'static Shape,
     size: usize,
-    visits: Visits,
     measured: Measured,
 }
 
@@ -33,9 +31,7 @@ pub fn rows() -> Vec<Row> {
     measure(SHAPES[0].call, &(SHAPES[0].inputs)(SIZES[3]));
     for shape in &SHAPES {
         for size in SIZES {
-            let inputs = (shape.inputs)(size);
-            let visits = count(shape.call, &inputs);
-            rows.push(Row { shape, size, visits, measured: measure(shape.call, &inputs) });
+            rows.push(Row { shape, size, measured: measure(shape.call, &(shape.inputs)(size)) });
         }
     }
     rows
@@ -45,14 +41,13 @@ fn shown(time: Option<f64>) -> String {
     time.map_or("–".into(), |time| format!("{time:.1}"))
 }
 
-/// Growth from the size before: of records, visits and time.
+/// Growth from the size before: of records and time.
 fn growth(before: Option<&Row>, row: &Row) -> String {
     match before.filter(|before| before.size < row.size) {
-        None => "– | – | –".into(),
+        None => "– | –".into(),
         Some(before) => format!(
-            "{:.1} | {:.1} | {:.1}",
+            "{:.1} | {:.1}",
             row.size as f64 / before.size as f64,
-            row.visits.total() as f64 / before.visits.total() as f64,
             row.main_time() / before.main_time()
         ),
     }
@@ -60,10 +55,10 @@ fn growth(before: Option<&Row>, row: &Row) -> String {
 
 pub fn times(rows: &[Row]) {
     println!(
-        "| call | shape | records | answer | visits | copied | second (µs) | engine (µs) | engine / second \
-         | records × | visits × | time × |"
+        "| call | shape | records | answer | second (µs) | engine (µs) | engine / second \
+         | records × | time × |"
     );
-    println!("|---|---|---:|---|---:|---:|---:|---:|---:|---:|---:|---:|");
+    println!("|---|---|---:|---|---:|---:|---:|---:|---:|");
     for (index, row) in rows.iter().enumerate() {
         let second = row.time(Implementation::Second);
         let engine = row.time(Implementation::Engine);
@@ -72,13 +67,11 @@ pub fn times(rows: &[Row]) {
             _ => "–".into(),
         };
         println!(
-            "| {} | {} | {} | {} | {} | {} | {} | {} | {ratio} | {} |",
+            "| {} | {} | {} | {} | {} | {} | {ratio} | {} |",
             row.shape.call.name(),
             row.shape.name,
             row.size,
             row.measured.answer,
-            row.visits.total(),
-            row.visits.copies,
             shown(second),
             shown(engine),
             growth(index.checked_sub(1).map(|at| &rows[at]), row)
@@ -100,30 +93,6 @@ pub fn copies(rows: &[Row]) {
             copy.records,
             copy.time,
             step / copy.time
-        );
-    }
-}
-
-/// Visits of checking typical scripts, by what they are for.
-pub fn typical_visits() {
-    println!(
-        "\n| nodes | tables | questions | typed | ends | types | visits | visits / node | copied |"
-    );
-    println!("|---:|---:|---:|---:|---:|---:|---:|---:|---:|");
-    let typical = &SHAPES[0];
-    assert!(typical.call == Call::Check && typical.name == "typical");
-    for size in [50, 100, 200, 300, 600, 900] {
-        let found = count(Call::Check, &(typical.inputs)(size));
-        println!(
-            "| {size} | {} | {} | {} | {} | {} | {} | {:.1} | {} |",
-            found.tables,
-            found.questions,
-            found.nodes,
-            found.ends,
-            found.types,
-            found.total(),
-            found.total() as f64 / size as f64,
-            found.copies
         );
     }
 }

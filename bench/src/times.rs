@@ -9,7 +9,6 @@ use wigneld_tests::limits::SCRIPT_BYTES;
 
 use crate::calls::{in_words, measured_call, Call, Lent, IMPLEMENTATIONS};
 use crate::shapes::SHAPES;
-use crate::visits::count;
 use crate::SIZES;
 
 /// The repetitions of one figure together fill about this time.
@@ -80,7 +79,6 @@ pub fn compare() {
             let inputs = (shape.inputs)(size);
             let (answer, lent) = answers(shape.call, &inputs);
             in_words(shape.call, answer, &lent);
-            count(shape.call, &inputs);
             alike += 1;
         }
     }
