@@ -29,15 +29,21 @@ extern "C" {
 #define WIGNELD_FORMAT 1
 
 /*
- * The groups table: rows, one for each group, numbered from 0. A row is a word of 4 bytes, lowest byte first. Bit h of row g is set
- * when group h is at least as secret as group g, which is said as 'g is at or below h'. Group 0 is below every group, and a group
- * is numbered after those below it.
+ * The groups table: rows, one for each group, numbered from 0. A row is a word of 4 bytes, lowest byte first: byte 0 has bits 0 to 7,
+ * byte 3 bits 24 to 31. Bit h of row g is set when group h is at least as secret as group g, which is said as 'g is at or below h'.
+ * Group 0 is below every group, and a group is numbered after those below it.
  */
 #define WIGNELD_ROW_BYTES 4
 
 /*
- * Type, script and sheet records start alike. The readers r are who may read an object, the indirect readers ir who may be
- * influenced by it; both are groups, ir at or below r. Byte 3 is 0.
+ * Type, script and sheet records start alike:
+ *
+ *     byte            0      1   2    3   4 and 5
+ *     type record     kind   r   ir   0
+ *     script record   kind   r   ir   0   number, lowest byte first
+ *     sheet record    kind   r   ir   0
+ *
+ * The readers r are who may read an object, the indirect readers ir who may be influenced by it; both are groups, ir at or below r.
  */
 #define WIGNELD_AT_KIND 0
 #define WIGNELD_AT_READERS 1
@@ -56,8 +62,7 @@ extern "C" {
 #define WIGNELD_TYPE_FUNCTION 3 /* left: its parameter; right: its result */
 
 /*
- * A script: one term, each record followed by its operands in order. Bytes 4 and 5 are a number, lowest byte first. Fields that
- * the kind doesn't name are 0.
+ * A script: one term, each record followed by its operands in order. Fields that the kind doesn't name are 0.
  *
  *     kind                operands                            fields
  *     variable            none                                number: binders outward, 0 the nearest

@@ -103,7 +103,6 @@ const LIMITS: [(&str, usize, &str); 18] = [
     ("SCRIPT_LONGEST_BYTES", REPORT_RUN_BYTES, "report::RUN_LENGTH"),
     ("SHEET_BYTES", REPORT_SHEET_BYTES, "report::SHEET_LENGTH"),
     ("STEPS_BYTES", u64::BITS as usize / 8, "packing::STEPS"),
-    // The report program reads one byte more than the longest.
     ("GROUPS_LONGEST_BYTES", MOST_GROUPS * ROW_BYTES, ""),
     ("TYPES_LONGEST_BYTES", MOST_TABLE_RECORDS * TYPE_BYTES, ""),
     ("LAST_QUESTION", LAST_QUESTION, ""),
@@ -219,14 +218,14 @@ fn as_many_kinds_as_the_document_has() {
     assert_eq!(words, WORDS);
 }
 
-/// The longest lengths are the ones up to which the report program reads, and one byte less.
+/// The report program reads one byte more than the longest.
 #[test]
 fn longest_lengths_are_the_report_programs() {
-    for (name, length) in [("GROUPS", "GROUPS"), ("TYPES", "TYPES"), ("SCRIPT", "SCRIPT")] {
-        let all = engine_constants();
+    let all = engine_constants();
+    for name in ["GROUPS", "TYPES", "SCRIPT"] {
         let (_, _, value) = all
             .iter()
-            .find(|(at, constant, _)| at == "report" && *constant == format!("{length}_LENGTH"))
+            .find(|(at, constant, _)| at == "report" && *constant == format!("{name}_LENGTH"))
             .expect("the report program's length");
         let longest = value.strip_suffix(" + 1").expect("one byte more");
         let named = |other: &str| {
