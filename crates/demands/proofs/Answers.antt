@@ -17,6 +17,9 @@ accepted≢refused e = absurd (false≢true (ap is-accepted (sym e)))
 pub number-inj : {A : Type 0} {q q′ p p′ : ℕ} → _≡_ {A = Answer A} (refused q p) (refused q′ p′) → q ≡ q′
 number-inj e = cc
 
+pub place-inj : {A : Type 0} {q p p′ : ℕ} → _≡_ {A = Answer A} (refused q p) (refused q p′) → p ≡ p′
+place-inj e = cc
+
 pub accepted-inj : {A : Type 0} {a b : A} → accepted a ≡ accepted b → a ≡ b
 accepted-inj e = cc
 

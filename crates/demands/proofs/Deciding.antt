@@ -1,5 +1,5 @@
 -- A call that asks its questions one after another answers its yes, or by the first no.
-use mathlib.Core.Path.{_≡_, refl}
+use mathlib.Core.Path.{_≡_, refl, sym, ap, subst, _∙_}
 use mathlib.Core.Bool.{Bool, true, false, not}
 use mathlib.Core.List.{List, [], _∷_, _++_}
 use mathlib.Core.Option.{Option, none, some}
@@ -7,8 +7,8 @@ use Prim.Native.Nat.{ℕ, _<_}
 use lib.Dec.{eqb}
 use Rattle.rules.specs.Answer.{Answer, accepted, refused, _>>_, ask, refused-at, each, first-below}
 use Rattle.rules.specs.Script.{exactly}
-use Rattle.demands.proofs.Answers.{accepted≢refused, number-inj}
-use Rattle.demands.specs.Questions.{Question, question, AllYes, none-left, yes, FirstNo, this-one, a-later, Decides, says-yes, refuses, Checks, refuses-before, goes-on}
+use Rattle.demands.proofs.Answers.{accepted≢refused, number-inj, place-inj}
+use Rattle.demands.specs.Questions.{Question, question, AllYes, none-left, yes, FirstNo, this-one, a-later, Decides, Checks}
 
 -- one question, which refuses with its own number
 pub data Own (n : ℕ) : Answer (Unit {0}) → Type 0 where
@@ -30,9 +30,37 @@ pub exactly-own : (n : ℕ) (o : Option ℕ) → Own 17 (exactly n o)
 exactly-own n none = own-no
 exactly-own n (some e) = ask-own 17 e (eqb e n)
 
-pub decides-one : {n : ℕ} {a : Answer (Unit {0})} → Own n a → Decides (question n a ∷ []) a
-decides-one own-yes = says-yes (yes refl none-left)
-decides-one own-no = refuses (this-one refl)
+-- an answer that comes of the questions: its yes, or the refusal by the first no
+pub data Decided {A : Type 0} (qs : List Question) : Answer A → Type 0 where
+  says-yes : {a : A} → AllYes qs → Decided qs (accepted a)
+  refuses : {q place : ℕ} → FirstNo qs q place → Decided qs (refused q place)
+
+-- All yes and a first no exclude each other, and there is one first no: so the answer tells which of them is the case.
+not-both : {P : Type 0} {qs : List Question} {q place : ℕ} → AllYes qs → FirstNo qs q place → P
+not-both (yes h Y) (this-one n) = accepted≢refused (sym h ∙ n)
+not-both (yes h Y) (a-later k F) = not-both Y F
+
+same-no : {A : Type 0} {qs : List Question} {q q′ place place′ : ℕ} → FirstNo qs q place → FirstNo qs q′ place′
+    → _≡_ {A = Answer A} (refused q place) (refused q′ place′)
+same-no {q = q} (this-one n) (this-one m) = ap (refused q) (place-inj (sym n ∙ m))
+same-no (this-one n) (a-later h F) = accepted≢refused (sym h ∙ n)
+same-no (a-later h F) (this-one n) = accepted≢refused (sym h ∙ n)
+same-no (a-later h F) (a-later k E) = same-no F E
+
+abbrev Refusal : {A : Type 0} → List Question → Answer A → Type 0
+Refusal qs (accepted a) = ⊥
+Refusal qs (refused q place) = FirstNo qs q place
+
+pub decides : {A : Type 0} {qs : List Question} {a : Answer A} → Decided qs a → Decides qs a
+decides (says-yes {a = x} Y) = record { yes-when = (λ h. Y, λ h. (x, refl)); no-when = λ q place. (λ e. accepted≢refused e, λ F. not-both Y F) }
+decides {A} {qs} (refuses {q} {place} F) = record {
+  yes-when = (λ h. accepted≢refused (sym (h .1)), λ Y. not-both Y F);
+  no-when = λ q′ place′. (λ e. subst (λ (x : Answer A). Refusal qs x) e F, λ E. same-no F E);
+}
+
+pub decided-one : {n : ℕ} {a : Answer (Unit {0})} → Own n a → Decided (question n a ∷ []) a
+decided-one own-yes = says-yes (yes refl none-left)
+decided-one own-no = refuses (this-one refl)
 
 -- questions after questions
 all-yes : {qs rs : List Question} → AllYes qs → AllYes rs → AllYes (qs ++ rs)
@@ -47,22 +75,24 @@ before-more : {qs : List Question} {q place : ℕ} (rs : List Question) → Firs
 before-more rs (this-one h) = this-one h
 before-more rs (a-later h F) = a-later h (before-more rs F)
 
-pub decides-then : {A : Type 0} {qs rs : List Question} (m : Answer (Unit {0})) (n : Answer A) → Decides qs m → Decides rs n → Decides (qs ++ rs) (_>>_ m n)
-decides-then {A} {qs} {rs} m n (says-yes Y) D = later n D
+pub decided-then : {A : Type 0} {qs rs : List Question} (m : Answer (Unit {0})) (n : Answer A) → Decided qs m → Decided rs n → Decided (qs ++ rs) (_>>_ m n)
+decided-then {A} {qs} {rs} m n (says-yes Y) D = later n D
   where
-    later : (n : Answer A) → Decides rs n → Decides (qs ++ rs) n
+    later : (n : Answer A) → Decided rs n → Decided (qs ++ rs) n
     later n (says-yes Z) = says-yes (all-yes Y Z)
     later n (refuses F) = refuses (after-yes Y F)
-decides-then {A} {qs} {rs} m n (refuses F) D = refuses (before-more rs F)
+decided-then {A} {qs} {rs} m n (refuses F) D = refuses (before-more rs F)
 
-pub decides-yes : {A : Type 0} (a : A) → Decides [] (accepted a)
-decides-yes a = says-yes none-left
+pub decided-yes : {A : Type 0} (a : A) → Decided [] (accepted a)
+decided-yes a = says-yes none-left
 
-pub checks-more : {A : Type 0} {qs rs : List Question} (l m : Answer (Unit {0})) (n : Answer A) → Decides qs l → Decides rs m
+pub checks-more : {A : Type 0} {qs rs : List Question} (l m : Answer (Unit {0})) (n : Answer A) → Decided qs l → Decided rs m
     → Checks (qs ++ rs) n (_>>_ l (_>>_ m n))
-checks-more l m n (says-yes Y) (says-yes Z) = goes-on (all-yes Y Z)
-checks-more l m n (says-yes Y) (refuses F) = refuses-before (after-yes Y F)
-checks-more l m n (refuses F) D = refuses-before (before-more _ F)
+checks-more l m n D E = record { asked = _>>_ l m; decides = decides (decided-then l m D E); goes-on = then-typing l }
+  where
+    then-typing : (l : Answer (Unit {0})) → _>>_ l (_>>_ m n) ≡ _>>_ (_>>_ l m) n
+    then-typing (accepted u) = refl
+    then-typing (refused q p) = refl
 
 -- a refusal has the number of one of the questions
 unfoldable pub Below : ℕ → List Question → Type 0
@@ -74,6 +104,6 @@ unfolding Below
 first-no-below b (this-one h) = b .0
 first-no-below b (a-later h F) = first-no-below (b .1) F
 
-pub refusal-below : {A : Type 0} {n : ℕ} {qs : List Question} {a : Answer A} {q place : ℕ} → Below n qs → Decides qs a → a ≡ refused q place → q < n
+pub refusal-below : {A : Type 0} {n : ℕ} {qs : List Question} {a : Answer A} {q place : ℕ} → Below n qs → Decided qs a → a ≡ refused q place → q < n
 refusal-below b (says-yes Y) e = accepted≢refused e
 refusal-below {n = n} b (refuses F) e = rw (← number-inj e) (first-no-below b F)

@@ -19,9 +19,9 @@ use Rattle.rules.specs.Step.{End}
 use Rattle.rules.specs.Run.{Ran}
 use Rattle.rules.specs.Sheet.{sheet}
 use Rattle.rules.specs.Calls.{zeros, q1, q25, q26, q27, groups-check, types-check, at-or-below, script-check, checking, answer-after, work-after, stepping, written-after, running, first-after, scratch-after, sheeting, sheet-after}
-use Rattle.demands.specs.Questions.{question, of-groups, of-types, of-script, Decides, Checks}
+use Rattle.demands.specs.Questions.{question, of-groups, of-types, of-script, Checks}
 use Rattle.demands.specs.Demands.{Demand1}
-use Rattle.demands.proofs.Deciding.{Own, ask-own, each-own, exactly-own, decides-one, decides-then, decides-yes, checks-more, Below, refusal-below}
+use Rattle.demands.proofs.Deciding.{Own, Decided, decides, ask-own, each-own, exactly-own, decided-one, decided-then, decided-yes, checks-more, Below, refusal-below}
 use Rattle.demands.proofs.Places.{typing-placed, placed-refusal}
 
 -- Each question refuses with its own number.
@@ -40,40 +40,40 @@ own-13 rooms s =
     (eqb (length s % script-width) 0
     && (leb 1 (records s) && (leb (records s) script-limit && all-below (λ i. leb (length s) (getD rooms i 0)) (length rooms))))
 
-groups-decide : (g : Bytes) → Decides (of-groups g) (groups-check g)
+groups-decided : (g : Bytes) → Decided (of-groups g) (groups-check g)
 unfolding groups-check
-groups-decide g =
-    decides-then (q2 g) _ (decides-one (own-2 g))
-    (decides-then (q3 g) _ (decides-one (each-own 3 (rows g) (ok3 g)))
-    (decides-then (q4 g) _ (decides-one (each-own 4 (rows g) (ok4 g)))
-    (decides-then (q5 g) _ (decides-one (each-own 5 (rows g) (ok5 g)))
-    (decides-then (q6 g) (q7 g) (decides-one (each-own 6 (rows g) (ok6 g))) (decides-one (ask-own 7 0 (ok7 g)))))))
+groups-decided g =
+    decided-then (q2 g) _ (decided-one (own-2 g))
+    (decided-then (q3 g) _ (decided-one (each-own 3 (rows g) (ok3 g)))
+    (decided-then (q4 g) _ (decided-one (each-own 4 (rows g) (ok4 g)))
+    (decided-then (q5 g) _ (decided-one (each-own 5 (rows g) (ok5 g)))
+    (decided-then (q6 g) (q7 g) (decided-one (each-own 6 (rows g) (ok6 g))) (decided-one (ask-own 7 0 (ok7 g)))))))
 
-types-decide : (g t : Bytes) → Decides (of-groups g ++ of-types g t) (types-check g t)
+types-decided : (g t : Bytes) → Decided (of-groups g ++ of-types g t) (types-check g t)
 unfolding types-check
-types-decide g t =
-    decides-then (groups-check g) _ (groups-decide g)
-    (decides-then (q8 t) _ (decides-one (own-8 t))
-    (decides-then (q9 g t) _ (decides-one (each-own 9 (type-count t) (ok9 (rows g) t)))
-    (decides-then (q10 g t) _ (decides-one (each-own 10 (type-count t) (ok10 g t)))
-    (decides-then (q11 t) (q12 t) (decides-one (each-own 11 (type-count t) (ok11 t))) (decides-one (each-own 12 (type-count t) (ok12 t)))))))
+types-decided g t =
+    decided-then (groups-check g) _ (groups-decided g)
+    (decided-then (q8 t) _ (decided-one (own-8 t))
+    (decided-then (q9 g t) _ (decided-one (each-own 9 (type-count t) (ok9 (rows g) t)))
+    (decided-then (q10 g t) _ (decided-one (each-own 10 (type-count t) (ok10 g t)))
+    (decided-then (q11 t) (q12 t) (decided-one (each-own 11 (type-count t) (ok11 t))) (decided-one (each-own 12 (type-count t) (ok12 t)))))))
 
-script-decide : (rooms : List ℕ) (g t s : Bytes) → Decides (of-groups g ++ of-types g t ++ of-script rooms g t s) (script-check rooms g t s)
+script-decided : (rooms : List ℕ) (g t s : Bytes) → Decided (of-groups g ++ of-types g t ++ of-script rooms g t s) (script-check rooms g t s)
 unfolding script-check
-script-decide rooms g t s =
-    decides-then (types-check g t) _ (types-decide g t)
-    (decides-then (q13 rooms s) _ (decides-one (own-13 rooms s))
-    (decides-then (q14 s) _ (decides-one (each-own 14 (records s) (ok14 s)))
-    (decides-then (q15 g s) _ (decides-one (each-own 15 (records s) (ok15 g s)))
-    (decides-then (q16 t s) _ (decides-one (each-own 16 (records s) (ok16 t s)))
-    (decides-then (q17 s) _ (decides-one (exactly-own (records s) (term-end s 0)))
-    (decides-then (q18 s) (q19 s) (decides-one (each-own 18 (records s) (ok18 (depths (term s)))))
-    (decides-one (each-own 19 (records s) (ok19 (binders (term s)) s)))))))))
+script-decided rooms g t s =
+    decided-then (types-check g t) _ (types-decided g t)
+    (decided-then (q13 rooms s) _ (decided-one (own-13 rooms s))
+    (decided-then (q14 s) _ (decided-one (each-own 14 (records s) (ok14 s)))
+    (decided-then (q15 g s) _ (decided-one (each-own 15 (records s) (ok15 g s)))
+    (decided-then (q16 t s) _ (decided-one (each-own 16 (records s) (ok16 t s)))
+    (decided-then (q17 s) _ (decided-one (exactly-own (records s) (term-end s 0)))
+    (decided-then (q18 s) (q19 s) (decided-one (each-own 18 (records s) (ok18 (depths (term s)))))
+    (decided-one (each-own 19 (records s) (ok19 (binders (term s)) s)))))))))
 
 -- 2 to 19 are below 20
 pub script-below : (rooms : List ℕ) (g t s : Bytes) (q place : ℕ) → script-check rooms g t s ≡ refused q place → q < 20
 unfolding Below
-script-below rooms g t s q place e = refusal-below numbers (script-decide rooms g t s) e
+script-below rooms g t s q place e = refusal-below numbers (script-decided rooms g t s) e
   where
     of-19 : Below 20 (of-script rooms g t s)
     of-19 = (omega arith, (omega arith, (omega arith, (omega arith, (omega arith, (omega arith, (omega arith, tt)))))))
@@ -84,44 +84,44 @@ script-below rooms g t s q place e = refusal-below numbers (script-decide rooms 
     numbers : Below 20 (of-groups g ++ of-types g t ++ of-script rooms g t s)
     numbers = (omega arith, (omega arith, (omega arith, (omega arith, (omega arith, (omega arith, of-12))))))
 
-comparison-decides : (g t : Bytes) (i j : ℕ)
-    → Decides (of-groups g ++ of-types g t ++ (question 25 (q25 0 i (type-count t)) ∷ question 25 (q25 1 j (type-count t)) ∷ [])) (at-or-below g t i j)
+comparison-decided : (g t : Bytes) (i j : ℕ)
+    → Decided (of-groups g ++ of-types g t ++ (question 25 (q25 0 i (type-count t)) ∷ question 25 (q25 1 j (type-count t)) ∷ [])) (at-or-below g t i j)
 unfolding at-or-below
-comparison-decides g t i j =
-    decides-then (types-check g t) _ (types-decide g t)
-    (decides-then (q25 0 i (type-count t)) _ (decides-one (ask-own 25 0 (ltb i (type-count t))))
-    (decides-then (q25 1 j (type-count t)) _ (decides-one (ask-own 25 1 (ltb j (type-count t)))) (decides-yes _)))
+comparison-decided g t i j =
+    decided-then (types-check g t) _ (types-decided g t)
+    (decided-then (q25 0 i (type-count t)) _ (decided-one (ask-own 25 0 (ltb i (type-count t))))
+    (decided-then (q25 1 j (type-count t)) _ (decided-one (ask-own 25 1 (ltb j (type-count t)))) (decided-yes _)))
 
-check-decides : (g t s : Bytes) (work answer : ℕ)
+check-asks : (g t s : Bytes) (work answer : ℕ)
     → Checks (question 1 (q1 work answer) ∷ [] ++ of-groups g ++ of-types g t ++ of-script [] g t s) (typing (readers g) (type-at t) [] 0 (term s))
     (checking work answer g t s)
 unfolding checking
-check-decides g t s work answer =
-    checks-more (q1 work answer) (script-check [] g t s) (typing (readers g) (type-at t) [] 0 (term s)) (decides-one (own-1 work answer)) (script-decide [] g t s)
+check-asks g t s work answer =
+    checks-more (q1 work answer) (script-check [] g t s) (typing (readers g) (type-at t) [] 0 (term s)) (decided-one (own-1 work answer)) (script-decided [] g t s)
 
-step-decides : (g t s : Bytes) (room : ℕ) → Decides (of-groups g ++ of-types g t ++ of-script [] g t s) (stepping g t s room)
+step-decided : (g t s : Bytes) (room : ℕ) → Decided (of-groups g ++ of-types g t ++ of-script [] g t s) (stepping g t s room)
 unfolding stepping
-step-decides g t s room = decides-then (script-check [] g t s) _ (script-decide [] g t s) (decides-yes _)
+step-decided g t s room = decided-then (script-check [] g t s) _ (script-decided [] g t s) (decided-yes _)
 
-run-decides : (g t s : Bytes) (budget first scratch : ℕ)
-    → Decides (of-groups g ++ of-types g t ++ of-script (first ∷ scratch ∷ []) g t s) (running g t s budget first scratch)
+run-decided : (g t s : Bytes) (budget first scratch : ℕ)
+    → Decided (of-groups g ++ of-types g t ++ of-script (first ∷ scratch ∷ []) g t s) (running g t s budget first scratch)
 unfolding running
-run-decides g t s budget first scratch =
-    decides-then (script-check (first ∷ scratch ∷ []) g t s) _ (script-decide (first ∷ scratch ∷ []) g t s) (decides-yes _)
+run-decided g t s budget first scratch =
+    decided-then (script-check (first ∷ scratch ∷ []) g t s) _ (script-decided (first ∷ scratch ∷ []) g t s) (decided-yes _)
 
-page-decides : (g t s : Bytes) (group room : ℕ)
-    → Decides
+page-decided : (g t s : Bytes) (group room : ℕ)
+    → Decided
     (of-groups g
     ++ of-types g t
     ++ of-script [] g t s
     ++ (question 25 (q25 0 group (rows g)) ∷ question 26 (q26 (term s)) ∷ question 27 (q27 (sheet g group (term s)) room) ∷ []))
     (sheeting g t s group room)
 unfolding sheeting
-page-decides g t s group room =
-    decides-then (script-check [] g t s) _ (script-decide [] g t s)
-    (decides-then (q25 0 group (rows g)) _ (decides-one (ask-own 25 0 (ltb group (rows g))))
-    (decides-then (q26 (term s)) _ (decides-one (ask-own 26 0 (is-value (term s))))
-    (decides-then (q27 (sheet g group (term s)) room) _ (decides-one (ask-own 27 0 (leb (length (sheet g group (term s))) room))) (decides-yes _))))
+page-decided g t s group room =
+    decided-then (script-check [] g t s) _ (script-decided [] g t s)
+    (decided-then (q25 0 group (rows g)) _ (decided-one (ask-own 25 0 (ltb group (rows g))))
+    (decided-then (q26 (term s)) _ (decided-one (ask-own 26 0 (is-value (term s))))
+    (decided-then (q27 (sheet g group (term s)) room) _ (decided-one (ask-own 27 0 (leb (length (sheet g group (term s))) room))) (decided-yes _))))
 
 -- what a refusal leaves in the buffers
 work-kept : (q : ℕ) (old : Bytes) → q < 20 → cond (leb 20 q) (zeros (length old)) old ≡ old
@@ -132,15 +132,15 @@ work-zeroed q old l = rw (le-leb 20 q l)
 
 pub first-demand : (g t s : Bytes) → Demand1 g t s
 first-demand g t s = record {
-  groups = groups-decide g;
-  types = types-decide g t;
-  comparison = comparison-decides g t;
-  check = check-decides g t s;
+  groups = decides (groups-decided g);
+  types = decides (types-decided g t);
+  comparison = λ i j. decides (comparison-decided g t i j);
+  check = check-asks g t s;
   typing-asks = λ q place e.
       placed-refusal (typing (readers g) (type-at t) [] 0 (term s)) (typing-placed (readers g) (type-at t) (size (term s)) [] 0 (term s) (omega arith)) e;
-  step = step-decides g t s;
-  run = run-decides g t s;
-  page = page-decides g t s;
+  step = λ room. decides (step-decided g t s room);
+  run = λ budget first scratch. decides (run-decided g t s budget first scratch);
+  page = λ group room. decides (page-decided g t s group room);
   check-keeps = λ work answer q place e old. (
     ap (λ (x : Answer Ty). answer-after x old) e,
     λ l. ap (λ (x : Answer Ty). work-after x old) e ∙ work-kept q old l,

@@ -17,5 +17,6 @@ pub mod FirstDemand
 pub mod Steps
 pub mod SecondDemand
 pub mod StrippedTables
+pub mod RunTerms
 pub mod ThirdDemand
 pub mod Demands

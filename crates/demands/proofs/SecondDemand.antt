@@ -1,6 +1,7 @@
 -- Demand 2.
 use mathlib.Core.Path.{_≡_, refl, sym, subst, ap, _∙_}
 use mathlib.Core.Bool.{Bool, true, false, cond}
+use mathlib.Core.Logic.{_↔_}
 use mathlib.Core.List.{[], _∷_}
 use mathlib.Core.Option.{some}
 use Prim.Native.Nat.{ℕ, suc, zero, min}
@@ -34,7 +35,7 @@ use Rattle.demands.proofs.Readers.{readers-laws}
 use Rattle.demands.proofs.Tables.{Tables}
 use Rattle.demands.proofs.TypesTable.{tables}
 use Rattle.demands.proofs.Inference.{forget, agree}
-use Rattle.demands.proofs.Steps.{limited-moves, limited-too-big, limited-value, limited-may-not, limited-wrong-kind, fit-steps, fit-moves}
+use Rattle.demands.proofs.Steps.{limited-moves, limited-too-big, limited-value, limited-may-not, limited-wrong-kind, fit-steps, fit-step-is, fit-moves}
 use Rattle.demands.proofs.Checked.{Fit, Passed, script-passed}
 
 pub found-accepted : {A : Type 0} (m : Answer A) {a : A} → forget m ≡ some a → m ≡ accepted a
@@ -128,17 +129,54 @@ module _ (g t : Bytes) (types : types-check g t ≡ accepted tt) (X : Tables g t
       go wrong-kind h ih = rw (h, run) (stopped wrong-kind h (λ x. omega arith))
       go too-big h ih = rw (h, run) (stopped too-big h (λ x. omega arith))
 
+  -- and nothing else repeats it
+  abbrev Same : ℕ → ℕ → Bytes → Ran → Type 0
+  Same end steps last x = (end ≡ x .end) × (steps ≡ x .steps) × (last ≡ encode (x .last))
+
+  spent-is : (e : Term) (b : Bool) {s : Bytes} → encode e ≡ s → is-value (term s) ≡ b → Same (cond b 0 1) 0 s (after 0 e)
+  unfolding run
+  spent-is e b p v = (ap (λ (x : Bool). cond x 0 1) (sym v ∙ ap (λ (y : Bytes). is-value (term y)) (sym p) ∙ ap is-value (term-encode e)), refl, sym p)
+
+  stop-is : (budget : ℕ) (e : Term) (x : End) {s : Bytes} → encode e ≡ s → step-in (readers g) (type-at t) room e ≡ x → (end-number x ≡ 1 → ⊥)
+      → Same (end-number x) 0 s (after (suc budget) e)
+  unfolding run
+  stop-is budget e at-value p h n = rw (h, run) (refl, refl, sym p)
+  stop-is budget e (moves e′) p h n = absurd (n refl)
+  stop-is budget e may-not p h n = rw (h, run) (refl, refl, sym p)
+  stop-is budget e wrong-kind p h n = rw (h, run) (refl, refl, sym p)
+  stop-is budget e too-big p h n = rw (h, run) (refl, refl, sym p)
+
+  move-is : (budget : ℕ) (e e′ : Term) {end steps : ℕ} {last : Bytes} → step-in (readers g) (type-at t) room e ≡ moves e′
+      → Same end steps last (after budget e′) → Same end (suc steps) last (after (suc budget) e)
+  unfolding run
+  move-is budget e e′ h d = rw (h, run) (d .0, ap suc (d .1), d .2)
+
+  pub repeats-once : {budget end steps : ℕ} {s last : Bytes} → Repeats g t room budget s end steps last → (e : Term) → encode e ≡ s → Fit g t e
+      → Same end steps last (after budget e)
+  repeats-once (spent-on-value v) e p F = spent-is e true p v
+  repeats-once (spent v) e p F = spent-is e false p v
+  repeats-once (stops {budget} {s} {x} h n) e p F = stop-is budget e x p (fit-step-is g t types X room e p F h) n
+  repeats-once (goes-on {budget} (moved-to {e = e′} h) r) e p F =
+      let m = fit-step-is g t types X room e p F h in
+      move-is budget e e′ m (repeats-once r e′ refl (fit-moves g t types X room e e′ F m))
+
 runs-so : (g t s : Bytes) → Octets g → Octets s → (budget first scratch : ℕ) (ran : Ran) → running g t s budget first scratch ≡ accepted ran
-    → Repeats g t (min first scratch) budget s (ran .end) (ran .steps) (encode (ran .last))
+    → (end steps : ℕ) (last : Bytes)
+    → Repeats g t (min first scratch) budget s end steps last ↔ ((end ≡ ran .end) × (steps ≡ ran .steps) × (last ≡ encode (ran .last)))
 unfolding running
-runs-so g t s octets-g octets-s budget first scratch ran h =
+runs-so g t s octets-g octets-s budget first scratch ran h end steps last =
     let p = and-then (script-check (first ∷ scratch ∷ []) g t s) _ h in
     let P = script-passed (first ∷ scratch ∷ []) g t s octets-s (p .0) in
     let X = tables g t octets-g (P .types) in
-    let R = repeated g t (P .types) X (min first scratch) budget (term s) (P .fit) in
-    subst (λ (x : Ran). Repeats g t (min first scratch) budget s (x .end) (x .steps) (encode (x .last))) (accepted-inj (p .1))
-    (subst (λ (b : Bytes). Repeats g t (min first scratch) budget b (run (readers g) (type-at t) (min first scratch) budget (term s) .end)
-    (run (readers g) (type-at t) (min first scratch) budget (term s) .steps) (encode (run (readers g) (type-at t) (min first scratch) budget (term s) .last))) (P .encoded) R)
+    let room = min first scratch in
+    let x = after g t (P .types) X room budget (term s) in
+    subst (λ (x : Ran). Repeats g t room budget s end steps last ↔ Same g t (P .types) X room end steps last x) (accepted-inj (p .1)) (
+      λ r. repeats-once g t (P .types) X room r (term s) (P .encoded) (P .fit),
+      λ d.
+          rw (d .0, d .1, d .2)
+          (subst (λ (b : Bytes). Repeats g t room budget b (x .end) (x .steps) (encode (x .last))) (P .encoded)
+          (repeated g t (P .types) X room budget (term s) (P .fit))),
+    )
 
 pub second-demand : (g t s : Bytes) → Octets g → Octets s → Demand2 g t s
 second-demand g t s G O = record {

@@ -16,6 +16,7 @@ use Rattle.rules.specs.Script.{encode, size, depth}
 use Rattle.rules.specs.Step.{End, at-value, moves, may-not, wrong-kind, too-big, exceeds, limited, step-in}
 use Rattle.rules.specs.Calls.{types-check, script-check, stepping}
 use Rattle.rules.proofs.Scripts.{term-encode}
+use Rattle.demands.proofs.Answers.{accepted-inj}
 use Rattle.demands.proofs.Tables.{Tables}
 use Rattle.demands.proofs.Stepping.{formed-step}
 use Rattle.demands.proofs.Checked.{Fit, Roomy, script-passes}
@@ -31,7 +32,7 @@ end-tag too-big = 4
 pub ends-differ : {P : Type 0} (x y : End) → (end-tag x ≡ end-tag y → ⊥) → x ≡ y → P
 ends-differ x y n e = absurd (n (ap end-tag e))
 
-moves-inj : {e e′ : Term} → moves e ≡ moves e′ → e ≡ e′
+pub moves-inj : {e e′ : Term} → moves e ≡ moves e′ → e ≡ e′
 moves-inj h = cc
 
 -- what an end says of the outcome without limits
@@ -103,6 +104,11 @@ module _ (g t : Bytes) (types : types-check g t ≡ accepted tt) (X : Tables g t
   pub fit-steps : (room : ℕ) (e : Term) → Fit g t e → stepping g t (encode e) room ≡ accepted (step-in (readers g) (type-at t) room e)
   unfolding stepping
   fit-steps room e F = rw (fit-passes e F, term-encode e)
+
+  -- what a step of its bytes answers is the step of the term
+  pub fit-step-is : (room : ℕ) (e : Term) {s : Bytes} {x : End} → encode e ≡ s → Fit g t e → stepping g t s room ≡ accepted x
+      → step-in (readers g) (type-at t) room e ≡ x
+  fit-step-is room e {s} {x} p F h = accepted-inj (sym (fit-steps room e F) ∙ ap (λ (b : Bytes). stepping g t b room) p ∙ h)
 
   pub fit-moves : (room : ℕ) (e e′ : Term) → Fit g t e → step-in (readers g) (type-at t) room e ≡ moves e′ → Fit g t e′
   unfolding step-in

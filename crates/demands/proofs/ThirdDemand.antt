@@ -12,6 +12,7 @@ use Rattle.calculus.specs.Reduction.{step}
 use Rattle.calculus.specs.Typing.{HasType}
 use Rattle.calculus.specs.Erasure.{erase}
 use Rattle.calculus.proofs.SecureTyping.{sc-empty}
+use Rattle.calculus.proofs.Soundness.{infer-sound}
 use Rattle.calculus.proofs.Completeness.{infer-complete}
 use Rattle.rules.specs.Answer.{Bytes, Octets, accepted}
 use Rattle.rules.specs.Limits.{script-width}
@@ -19,16 +20,15 @@ use Rattle.rules.specs.Groups.{readers}
 use Rattle.rules.specs.Types.{type-at}
 use Rattle.rules.specs.Script.{encode, term}
 use Rattle.rules.specs.Typing.{typing}
-use Rattle.rules.specs.Step.{moves, step-in}
+use Rattle.rules.specs.Step.{step-in}
 use Rattle.rules.specs.Run.{Ran, run}
 use Rattle.rules.specs.Strip.{strip-from, strip-script, strip-types, one-group}
-use Rattle.rules.specs.Calls.{zeros, types-check, script-check, checking, stepping, running, run-report, first-after}
+use Rattle.rules.specs.Calls.{zeros, types-check, script-check, checking, running, run-report, first-after}
 use Rattle.rules.specs.Reach.{verdict, Accepted, moved-to, Reaches, the-script, after-step}
 use Rattle.rules.proofs.PrefixLaws.{encode-length}
 use Rattle.rules.proofs.TermCode.{term-code}
 use Rattle.rules.proofs.Scripts.{term-encode}
-use Rattle.demands.specs.Demands.{Demand3}
-use Rattle.demands.proofs.Answers.{accepted-inj}
+use Rattle.demands.specs.Demands.{Typed, Demand3}
 use Rattle.demands.proofs.Readers.{readers-laws}
 use Rattle.demands.proofs.Tables.{Tables}
 use Rattle.demands.proofs.TypesTable.{tables}
@@ -38,8 +38,9 @@ use Rattle.demands.proofs.StrippedTables.{stripped-passes}
 use Rattle.demands.proofs.Erased.{one-group-is, erase-formed}
 use Rattle.demands.proofs.Runs.{erase-ran, moved-typed, run-safe, run-erased}
 use Rattle.demands.proofs.Checked.{Fit, Roomy, script-passed, script-passes}
-use Rattle.demands.proofs.Steps.{limited-moves, fit-passes, fit-steps, fit-moves}
+use Rattle.demands.proofs.Steps.{limited-moves, fit-passes, fit-step-is, fit-moves}
 use Rattle.demands.proofs.SecondDemand.{found-accepted, goes, only}
+use Rattle.demands.proofs.RunTerms.{RunTerms, run-terms}
 
 -- a term that fits and has a type, as bytes
 module _ (g t : Bytes) (types : types-check g t ≡ accepted tt) (X : Tables g t) where
@@ -54,19 +55,27 @@ module _ (g t : Bytes) (types : types-check g t ≡ accepted tt) (X : Tables g t
   fit-verdict e F =
       goes (script-check [] g t (encode e)) (typing S tab [] 0 (term (encode e))) (fit-passes g t types X e F) ∙ ap (typing S tab [] 0) (term-encode e)
 
-  fit-accepted : (e : Term) (type : Ty) → Fit g t e → HasType S tab [] e type → (lower : Ty) × Accepted g t (encode e) lower × Subtype S lower type
-  fit-accepted e type F h =
-      let c = infer-complete (readers-laws (X .lattice)) (X .table) e type sc-empty h in
-      (c .0, fit-verdict e F ∙ found-accepted (typing S tab [] 0 e) (agree g t (X .sums) (X .functions) [] 0 e (F .formed) ∙ c .1), c .2)
+  -- what demand 3 says of a reached term
+  abbrev TypedBelow : Ty → Bytes → Type 0
+  TypedBelow type u = (lower : Ty) × Accepted g t u lower × Typed g t u lower × Subtype S lower type
+
+  fit-typed : (e : Term) (type : Ty) → Fit g t e → HasType S tab [] e type → TypedBelow type (encode e)
+  fit-typed e type F h =
+      let L = readers-laws (X .lattice) in
+      let c = infer-complete L (X .table) e type sc-empty h in (
+        c .0,
+        fit-verdict e F ∙ found-accepted (typing S tab [] 0 e) (agree g t (X .sums) (X .functions) [] 0 e (F .formed) ∙ c .1),
+        subst (λ (u : Term). HasType S tab [] u (c .0)) (sym (term-encode e)) (infer-sound L (X .table) e (c .0) sc-empty (c .1)),
+        c .2,
+      )
 
   -- every term that a run reaches
   reached : (room : ℕ) (type : Ty) {budget : ℕ} {s u : Bytes} → Reaches g t room budget s u → (e : Term) → encode e ≡ s → Fit g t e → HasType S tab [] e type
-      → (lower : Ty) × Accepted g t u lower × Subtype S lower type
+      → TypedBelow type u
   unfolding step-in
-  reached room type (the-script {s = s}) e p F h =
-      subst (λ (b : Bytes). (lower : Ty) × Accepted g t b lower × Subtype S lower type) p (fit-accepted e type F h)
-  reached room type (after-step {s = s} (moved-to {e = e′} m) r) e p F h =
-      let x : step-in S tab room e ≡ moves e′ = accepted-inj (sym (fit-steps g t types X room e F) ∙ subst (λ (b : Bytes). stepping g t b room ≡ accepted (moves e′)) (sym p) m) in
+  reached room type the-script e p F h = subst (TypedBelow type) p (fit-typed e type F h)
+  reached room type (after-step (moved-to {e = e′} m) r) e p F h =
+      let x = fit-step-is g t types X room e p F m in
       let y = limited-moves room (step S tab e) e′ x in
       reached room type r e′ refl (fit-moves g t types X room e e′ F x) (moved-typed (readers-laws (X .lattice)) (X .table) e e′ type h (y .0))
 
@@ -125,6 +134,7 @@ fit-demand g t types X e type budget first scratch F h l m =
     let L = readers-laws (X .lattice) in
     let x = run (readers g) (type-at t) room budget e in
     let safe = run-safe L (X .table) room budget e type h in
+    let T = run-terms g t types X room budget e F in
     let bare-types = stripped-passes g t types in
     let n = erase-length e in
     record {
@@ -132,6 +142,11 @@ fit-demand g t types X e type budget first scratch F h l m =
       runs = fit-runs g t types X e budget (length first) (length scratch) F l m;
       not-2 = safe .not-2;
       not-3 = safe .not-3;
+      after = T .after;
+      from-script = T .from-script;
+      each-moves = T .each-moves;
+      to-last = T .to-last;
+      reaches = T .reaches;
       reached = λ u r. reached g t types X room type r e refl F h;
       bare = erase-ran x;
       bare-runs =

@@ -91,8 +91,9 @@ pub record Demand2 (g t s : Bytes) : Type 0 where
   pub value-when : (room : ℕ) → script-check [] g t s ≡ accepted tt → (stepping g t s room ≡ accepted at-value) ↔ (is-value (term s) ≡ true)
   pub wrong-when : (room : ℕ) → script-check [] g t s ≡ accepted tt → (stepping g t s room ≡ accepted wrong-kind) ↔ StuckAt (type-at t) (term s)
   pub denied-when : (room : ℕ) → script-check [] g t s ≡ accepted tt → (stepping g t s room ≡ accepted may-not) ↔ DeniedAt (readers g) (term s)
-  pub repeats : (budget first scratch : ℕ) (ran : Ran) → running g t s budget first scratch ≡ accepted ran
-      → Repeats g t (min first scratch) budget s (ran .end) (ran .steps) (encode (ran .last))
+  -- a run is answered with the end, the steps and the last term of repeating the step, and these are the only ones
+  pub repeats : (budget first scratch : ℕ) (ran : Ran) → running g t s budget first scratch ≡ accepted ran → (end steps : ℕ) (last : Bytes)
+      → Repeats g t (min first scratch) budget s end steps last ↔ ((end ≡ ran .end) × (steps ≡ ran .steps) × (last ≡ encode (ran .last)))
 
 -- Demand 3, about a whole run. "For any tables and any accepted script with reported type T, whatever the budget and the two buffers
 -- (each with room for the script): the run isn't refused and never ends 2 or 3; every term it reaches has a type at or below T.
@@ -103,7 +104,14 @@ pub record Demand3 (g t s : Bytes) (type : Ty) (budget : ℕ) (first scratch : B
   pub runs : running g t s budget (length first) (length scratch) ≡ accepted ran
   pub not-2 : ran .end ≡ 2 → ⊥
   pub not-3 : ran .end ≡ 3 → ⊥
-  pub reached : (u : Bytes) → Reaches g t (min (length first) (length scratch)) budget s u → (lower : Ty) × Accepted g t u lower × Subtype (readers g) lower type
+  -- the terms after 0, 1, 2, .. steps of this run, from the script to its last term: it reaches these and no other
+  pub after : ℕ → Bytes
+  pub from-script : after 0 ≡ s
+  pub each-moves : (i : ℕ) → i < ran .steps → MovesTo g t (min (length first) (length scratch)) (after i) (after (suc i))
+  pub to-last : after (ran .steps) ≡ encode (ran .last)
+  pub reaches : (u : Bytes) → Reaches g t (min (length first) (length scratch)) budget s u ↔ ((i : ℕ) × (i ≤ ran .steps) × (u ≡ after i))
+  pub reached : (u : Bytes) → Reaches g t (min (length first) (length scratch)) budget s u
+      → (lower : Ty) × Accepted g t u lower × Typed g t u lower × Subtype (readers g) lower type
   -- the stripped run
   pub bare : Ran
   pub bare-runs : running one-group (strip-types t) (strip-script s) budget (length first) (length scratch) ≡ accepted bare

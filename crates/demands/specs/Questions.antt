@@ -1,8 +1,9 @@
 -- "The first no gives its number and the place": a call's questions as a list, and what its answer says of them.
 use mathlib.Core.Path.{_≡_}
+use mathlib.Core.Logic.{_↔_}
 use mathlib.Core.List.{List, [], _∷_}
 use Prim.Native.Nat.{ℕ}
-use Rattle.rules.specs.Answer.{Bytes, Answer, accepted, refused}
+use Rattle.rules.specs.Answer.{Bytes, Answer, accepted, refused, _>>_}
 use Rattle.rules.specs.Groups.{q2, q3, q4, q5, q6, q7}
 use Rattle.rules.specs.Types.{q8, q9, q10, q11, q12}
 use Rattle.rules.specs.Script.{q13, q14, q15, q16, q17, q18, q19}
@@ -43,12 +44,14 @@ pub data FirstNo : List Question → ℕ → ℕ → Type 0 where
   this-one : {x : Question} {qs : List Question} {place : ℕ} → x .answer ≡ refused (x .number) place → FirstNo (x ∷ qs) (x .number) place
   a-later : {x : Question} {qs : List Question} {q place : ℕ} → x .answer ≡ accepted tt → FirstNo qs q place → FirstNo (x ∷ qs) q place
 
--- a call that asks these questions and nothing else: its yes, or its refusal by the first no
-pub data Decides {A : Type 0} (qs : List Question) : Answer A → Type 0 where
-  says-yes : {a : A} → AllYes qs → Decides qs (accepted a)
-  refuses : {q place : ℕ} → FirstNo qs q place → Decides qs (refused q place)
+-- A call that asks these questions and nothing else: it says yes exactly when all are answered yes, and refuses exactly by the
+-- first no.
+pub record Decides {A : Type 0} (qs : List Question) (a : Answer A) : Type 0 where
+  pub yes-when : ((x : A) × (a ≡ accepted x)) ↔ AllYes qs
+  pub no-when : (q place : ℕ) → (a ≡ refused q place) ↔ FirstNo qs q place
 
--- Checking asks these questions first; where all are answered yes, it goes on to typing, whose answer is its own.
-pub data Checks {A : Type 0} (qs : List Question) (typed : Answer A) : Answer A → Type 0 where
-  refuses-before : {q place : ℕ} → FirstNo qs q place → Checks qs typed (refused q place)
-  goes-on : AllYes qs → Checks qs typed typed
+-- Checking asks these questions first, and the first no is its answer; where all are answered yes, its answer is typing's.
+pub record Checks {A : Type 0} (qs : List Question) (typed a : Answer A) : Type 0 where
+  pub asked : Answer (Unit {0})
+  pub decides : Decides qs asked
+  pub goes-on : a ≡ _>>_ asked typed
