@@ -11,7 +11,7 @@ use Rattle.rules.specs.Script.{encode}
 use Rattle.rules.specs.Step.{End, at-value, moves, may-not, wrong-kind, too-big, end-number, step-in}
 use Rattle.rules.specs.Run.{Ran, ends, one-step-more, run}
 use Rattle.rules.specs.Calls.{types-check}
-use Rattle.rules.specs.Reach.{MovesTo, moved-to, Reaches, the-script, after-step}
+use Rattle.demands.specs.Runs.{MovesTo, moved-to, Reaches, the-script, after-step}
 use Rattle.demands.proofs.Tables.{Tables}
 use Rattle.demands.proofs.Checked.{Fit}
 use Rattle.demands.proofs.Steps.{moves-inj, fit-steps, fit-step-is, fit-moves}

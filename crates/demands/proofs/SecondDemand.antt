@@ -25,9 +25,10 @@ use Rattle.rules.specs.Typing.{typing}
 use Rattle.rules.specs.Step.{End, at-value, moves, may-not, wrong-kind, too-big, exceeds, limited, step-in, end-number}
 use Rattle.rules.specs.Run.{Ran, run, ends}
 use Rattle.rules.specs.Calls.{types-check, script-check, checking, type-bytes, stepping, running}
-use Rattle.rules.specs.Reach.{verdict, Accepted, moved-to}
+use Rattle.rules.specs.Reach.{verdict, Accepted}
 use Rattle.rules.proofs.Scripts.{term-encode}
-use Rattle.demands.specs.Demands.{Demand2, Typed, Repeats, spent-on-value, spent, stops, goes-on}
+use Rattle.demands.specs.Runs.{moved-to, Repeats, spent-on-value, spent, stops, goes-on}
+use Rattle.demands.specs.Demands.{Demand2, Typed}
 use Rattle.demands.proofs.Answers.{accepted-inj}
 use Rattle.rules.proofs.Asked.{and-then}
 use Rattle.rules.proofs.Search.{some-inj}

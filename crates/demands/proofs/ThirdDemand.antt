@@ -24,10 +24,11 @@ use Rattle.rules.specs.Step.{step-in}
 use Rattle.rules.specs.Run.{Ran, run}
 use Rattle.rules.specs.Strip.{strip-from, strip-script, strip-types, one-group}
 use Rattle.rules.specs.Calls.{zeros, types-check, script-check, checking, running, run-report, first-after}
-use Rattle.rules.specs.Reach.{verdict, Accepted, moved-to, Reaches, the-script, after-step}
+use Rattle.rules.specs.Reach.{verdict, Accepted}
 use Rattle.rules.proofs.PrefixLaws.{encode-length}
 use Rattle.rules.proofs.TermCode.{term-code}
 use Rattle.rules.proofs.Scripts.{term-encode}
+use Rattle.demands.specs.Runs.{moved-to, Reaches, the-script, after-step}
 use Rattle.demands.specs.Demands.{Typed, Demand3}
 use Rattle.demands.proofs.Readers.{readers-laws}
 use Rattle.demands.proofs.Tables.{Tables}

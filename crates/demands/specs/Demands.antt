@@ -16,12 +16,13 @@ use Rattle.rules.specs.Groups.{rows, readers}
 use Rattle.rules.specs.Types.{type-count, type-at, encode-type}
 use Rattle.rules.specs.Script.{encode, term, size}
 use Rattle.rules.specs.Typing.{typing}
-use Rattle.rules.specs.Step.{End, at-value, moves, may-not, wrong-kind, too-big, exceeds, end-number}
+use Rattle.rules.specs.Step.{at-value, moves, may-not, wrong-kind, too-big, exceeds}
 use Rattle.rules.specs.Run.{Ran}
 use Rattle.rules.specs.Strip.{strip-script, strip-types, one-group}
 use Rattle.rules.specs.Sheet.{sheet}
 use Rattle.rules.specs.Calls.{zeros, q1, q25, q26, q27, groups-check, types-check, at-or-below, script-check, checking, type-bytes, answer-after, work-after, stepping, written-after, running, run-report, first-after, scratch-after, sheeting, sheet-after}
-use Rattle.rules.specs.Reach.{verdict, Accepted, MovesTo, Reaches}
+use Rattle.rules.specs.Reach.{verdict, Accepted}
+use Rattle.demands.specs.Runs.{MovesTo, Repeats, Reaches}
 use Rattle.demands.specs.Questions.{question, of-groups, of-types, of-script, Decides, Checks}
 
 -- Demand 1. "Any groups table, types table or script, of any bytes and any length, gets an answer; a refusal has the number and
@@ -64,15 +65,6 @@ Typed g t s type = HasType (readers g) (type-at t) [] (term s) type
 -- the term of one step's new bytes
 abbrev pub StepsTo : Bytes → Bytes → Bytes → Term → Type 0
 StepsTo g t s e = Reduces (readers g) (type-at t) (term s) e
-
--- Repeating the step, with the budget's rule: "0, 2, 3 and 4 end it. When as many steps have moved as the budget has, a value ends
--- 0 and any other term 1." The indexes are the budget, the script, the end, the steps made, and the last term's bytes.
-pub data Repeats (g t : Bytes) (room : ℕ) : ℕ → Bytes → ℕ → ℕ → Bytes → Type 0 where
-  spent-on-value : {s : Bytes} → is-value (term s) ≡ true → Repeats g t room 0 s 0 0 s
-  spent : {s : Bytes} → is-value (term s) ≡ false → Repeats g t room 0 s 1 0 s
-  stops : {budget : ℕ} {s : Bytes} {x : End} → stepping g t s room ≡ accepted x → (end-number x ≡ 1 → ⊥) → Repeats g t room (suc budget) s (end-number x) 0 s
-  goes-on : {budget end steps : ℕ} {s s′ last : Bytes} → MovesTo g t room s s′ → Repeats g t room budget s′ end steps last
-      → Repeats g t room (suc budget) s end (suc steps) last
 
 -- Demand 2. "A script is accepted when the calculus's typing rules, within the document's limits, give it a type, and in no other
 -- case. The reported type is one that those rules give it, at or below every other. Each step, and so each run, goes to the term
