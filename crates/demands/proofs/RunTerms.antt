@@ -68,16 +68,16 @@ module _ (g t : Bytes) (types : types-check g t ≡ accepted tt) (X : Tables g t
       each-moves zero l = subst (λ (b : Bytes). MovesTo g t room (encode e) b) (sym (T .from-script)) moved
       each-moves (suc i) l = T .each-moves i (omega arith)
 
+      back : (u : Bytes) (i : ℕ) → i ≤ suc (x .steps) → u ≡ one-more (encode e) (T .after) i → Reaches g t room (suc budget) (encode e) u
+      back u zero l q = subst (λ (b : Bytes). Reaches g t room (suc budget) (encode e) b) (sym q) the-script
+      back u (suc i) l q = after-step moved (T .reaches u .1 (i, omega arith, q))
+
       forth : (u : Bytes) → Reaches g t room (suc budget) (encode e) u → (i : ℕ) × (i ≤ suc (x .steps)) × (u ≡ one-more (encode e) (T .after) i)
       forth u the-script = (0, omega arith, refl)
       forth u (after-step (moved-to {e = e″} m) r) =
           let same : e″ ≡ e′ = moves-inj (sym (fit-step-is g t types X room e refl F m) ∙ h) in
           let w = T .reaches u .0 (subst (λ (b : Term). Reaches g t room budget (encode b) u) same r) in
           (suc (w .0), omega (arith, w .1), w .2)
-
-      back : (u : Bytes) (i : ℕ) → i ≤ suc (x .steps) → u ≡ one-more (encode e) (T .after) i → Reaches g t room (suc budget) (encode e) u
-      back u zero l q = subst (λ (b : Bytes). Reaches g t room (suc budget) (encode e) b) (sym q) the-script
-      back u (suc i) l q = after-step moved (T .reaches u .1 (i, omega arith, q))
 
   pub run-terms : (budget : ℕ) (e : Term) → Fit g t e → Of budget e (run (readers g) (type-at t) room budget e)
   unfolding run
