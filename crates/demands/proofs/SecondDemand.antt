@@ -4,8 +4,9 @@ use mathlib.Core.Bool.{Bool, true, false, cond}
 use mathlib.Core.Logic.{_↔_}
 use mathlib.Core.List.{[], _∷_}
 use mathlib.Core.Option.{some}
-use Prim.Native.Nat.{ℕ, suc, zero, min}
+use Prim.Native.Nat.{ℕ, suc, zero, _≤_, min}
 use native.Mathlib.Omega.{arith}
+use borrow.Author.Tests.{le-leb}
 use Rattle.calculus.specs.Security.{Security}
 use Rattle.calculus.specs.Types.{Ty}
 use Rattle.calculus.specs.Subtyping.{Subtype}
@@ -18,18 +19,19 @@ use Rattle.calculus.proofs.SecureTyping.{sc-empty}
 use Rattle.calculus.proofs.Soundness.{infer-sound}
 use Rattle.calculus.proofs.Completeness.{infer-complete}
 use Rattle.rules.specs.Answer.{Bytes, Octets, Answer, accepted, refused, _>>_}
+use Rattle.rules.specs.Limits.{work-length, answer-length}
 use Rattle.rules.specs.Groups.{readers}
 use Rattle.rules.specs.Types.{type-at, encode-type}
 use Rattle.rules.specs.Script.{encode, term}
 use Rattle.rules.specs.Typing.{typing}
 use Rattle.rules.specs.Step.{End, at-value, moves, may-not, wrong-kind, too-big, exceeds, limited, step-in, end-number}
 use Rattle.rules.specs.Run.{Ran, run, ends}
-use Rattle.rules.specs.Calls.{types-check, script-check, checking, type-bytes, stepping, running}
+use Rattle.rules.specs.Calls.{q1, types-check, script-check, checking, type-bytes, stepping, running}
 use Rattle.rules.specs.Reach.{verdict, Accepted}
 use Rattle.rules.proofs.Scripts.{term-encode}
 use Rattle.demands.specs.Runs.{moved-to, Repeats, spent-on-value, spent, stops, goes-on}
 use Rattle.demands.specs.Demands.{Demand2, Typed}
-use Rattle.demands.proofs.Answers.{accepted-inj}
+use Rattle.demands.proofs.Answers.{accepted-inj, asks, and-true}
 use Rattle.rules.proofs.Asked.{and-then}
 use Rattle.rules.proofs.Search.{some-inj}
 use Rattle.demands.proofs.Readers.{readers-laws}
@@ -46,6 +48,13 @@ found-accepted (refused q p) e = let x : _≡_ {A = ℕ} 0 1 = cc in absurd (ome
 -- a question answered yes goes on
 pub goes : {A : Type 0} (m : Answer (Unit {0})) (n : Answer A) → m ≡ accepted tt → _>>_ m n ≡ n
 goes m n h = rw h
+
+-- longer buffers than question 1 asks answer as those that it asks
+pub longer-same : (g t s : Bytes) (work answer : ℕ) → work-length ≤ work → answer-length ≤ answer → checking work answer g t s ≡ verdict g t s
+unfolding checking
+longer-same g t s work answer l m =
+    goes (q1 work answer) (_>>_ (script-check [] g t s) (typing (readers g) (type-at t) [] 0 (term s)))
+    (asks 1 0 _ (and-true (le-leb work-length work l) (le-leb answer-length answer m)))
 
 module _ (g t s : Bytes) (octets-g : Octets g) (octets-s : Octets s) where
   abbrev S : Security

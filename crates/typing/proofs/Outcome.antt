@@ -1,20 +1,25 @@
 -- What checking answers and leaves, by the question that ends it.
 use mathlib.Core.Path.{_≡_, refl, sym, ap, _∙_}
 use mathlib.Core.Bool.{Bool, true, false, _&&_, cond}
+use mathlib.Core.Logic.{_↔_}
 use mathlib.Core.List.{[]}
 use Prim.Native.Nat.{ℕ, _≤_, _<_}
 use native.Mathlib.Omega.{arith}
 use borrow.Author.Tests.{le-leb, lt-leb}
 use lib.Dec.{leb}
 use lib.ListN.{length}
-use Rattle.calculus.specs.Types.{Ty}
-use Rattle.rules.specs.Answer.{Bytes, Answer, accepted, refused, _>>_ as then, ask}
+use Rattle.calculus.specs.Types.{Ty, sizeT}
+use Rattle.rules.specs.Answer.{Bytes, Octets, Answer, accepted, refused, _>>_ as then, ask}
+use Rattle.rules.specs.Limits.{work-length, answer-length}
 use Rattle.rules.specs.Groups.{readers}
 use Rattle.rules.specs.Types.{type-at}
 use Rattle.rules.specs.Script.{term}
 use Rattle.rules.specs.Typing.{typing}
 use Rattle.rules.specs.Calls.{zeros, script-check, checking, type-records, answer-after, work-after}
+use Rattle.rules.specs.Reach.{verdict}
+use Rattle.demands.proofs.Answers.{accepted-inj, accepted≢refused}
 use Rattle.demands.proofs.FirstDemand.{first-demand, script-below}
+use Rattle.demands.proofs.SecondDemand.{longer-same, second-demand}
 use Rattle.answer.specs.Said.{said}
 use Rattle.answer.specs.declared.Checked.{Checked}
 use Rattle.answer.specs.declared.Checked.the-variants as checked
@@ -23,6 +28,7 @@ use Rattle.inference.specs.Memory.{Meets, finds, refuses}
 use Rattle.inference.specs.declared.Found.{Found}
 use Rattle.inference.specs.declared.Found.the-variants.{Refused}
 use Rattle.typing.specs.Answered.{answered, refusal}
+use Rattle.typing.specs.Judged.{Judged}
 
 abbrev pub Outcome : Answer Ty → Found → Bytes → Bytes → Bytes → Bytes → Type 0
 Outcome o x work work′ answer answer′ = (answered x ≡ type-records o) × (work′ ≡ work-after o work) × (answer′ ≡ answer-after o answer)
@@ -87,3 +93,21 @@ module _ (g t s work answer : Bytes) where
             p ∙ cleared typed work (λ n i k. first-demand g t s .typing-asks n i k .0) ∙ ap (λ y. work-after y work) (sym e),
             q ∙ ap (λ y. answer-after y answer) (sym e),
           )
+
+-- the answer reports the verdict that demand 2 speaks of
+counts-when : (o : Answer Ty) (n : ℕ) → (type-records o ≡ accepted n) ↔ ((type : Ty) × (o ≡ accepted type) × (n ≡ sizeT type))
+unfolding type-records
+counts-when (accepted type) n = (λ e. (type, refl, sym (accepted-inj e)), λ h. ap accepted (ap sizeT (accepted-inj (h .1)) ∙ sym (h .2)))
+counts-when (refused q p) n = (λ e. accepted≢refused (sym e), λ h. accepted≢refused (sym (h .1)))
+
+pub judged : (g t s work answer : Bytes) → Octets g → Octets s → (x : Found) (work′ answer′ : Bytes) → Outcome (asked g t s work answer) x work work′ answer answer′
+    → work-length ≤ length work → answer-length ≤ length answer → Judged g t s answer (answered x) answer′
+judged g t s work answer G O x work′ answer′ h l m =
+    let same = longer-same g t s (length work) (length answer) l m in
+    record {
+      demand = second-demand g t s G O;
+      counts-when = λ n.
+          let c = counts-when (verdict g t s) n in
+          (λ e. c .0 (sym (h .0 ∙ ap type-records same) ∙ e), λ w. h .0 ∙ ap type-records same ∙ c .1 w);
+      writes = λ type a. h .2 ∙ ap (λ (o : Answer Ty). answer-after o answer) (same ∙ a);
+    }

@@ -22,6 +22,7 @@ ghost use Rattle.records.specs.Place.{At};
 ghost use Rattle.inference.specs.Memory.{Meets, Ready};
 ghost use Rattle.typing.specs.Parts.{Operand-at, Part-of, kept-between};
 ghost use Rattle.typing.specs.Answered.{answered, refusal, Answers};
+ghost use Rattle.typing.specs.Judged.{Judged};
 
 pub const WORK_LENGTH: usize = DEPTH_LIMIT * SLOT;
 
@@ -155,9 +156,7 @@ fn refused(a: Checked) -> Found
 }
 
 // Checking: questions 1 to 24. The type is written to the answer buffer's front, and the work buffer is left all zeros once
-// typing has begun.
-// That it accepts exactly the scripts to which the calculus gives a type, and reports the lowest, is demand 2 of this definition
-// (crates/demands).
+// typing has begun. The last clause is demand 2.
 pub fn checking(
     groups: &[u8],
     types: &[u8],
@@ -170,7 +169,10 @@ pub fn checking(
         × (now (work .exit) ≡ work-after (checking (length (now (work .entry))) (length (now (answer .entry)))
         (now (groups .entry)) (now (types .entry)) (now (script .entry))) (now (work .entry)))
         × (now (answer .exit) ≡ answer-after (checking (length (now (work .entry))) (length (now (answer .entry)))
-        (now (groups .entry)) (now (types .entry)) (now (script .entry))) (now (answer .entry))) ⌝ }
+        (now (groups .entry)) (now (types .entry)) (now (script .entry))) (now (answer .entry)))
+        × (work-length ≤ length (now (work .entry)) → answer-length ≤ length (now (answer .entry))
+        → Judged (now (groups .entry)) (now (types .entry)) (now (script .entry)) (now (answer .entry)) (answered x)
+        (now (answer .exit))) ⌝ }
 {
     if work.len() < WORK_LENGTH {
         return Found::Refused(1, 0);

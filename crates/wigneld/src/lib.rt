@@ -6,13 +6,15 @@ ghost use mathlib.Core.Path.{_≡_};
 ghost use Prim.Native.Nat.{_≤_};
 ghost use lib.ListN.{length};
 ghost use Rattle.calculus.specs.Types.{Ty};
+ghost use Rattle.rules.specs.Limits.{work-length, answer-length};
 ghost use Rattle.rules.specs.Calls.{checking, type-records, work-after, answer-after};
 ghost use Rattle.rules.specs.Calls.{running, run-report, first-after, scratch-after, sheeting, sheet-records, sheet-after};
 ghost use Rattle.rules.specs.Reach.{Accepted};
 ghost use Rattle.typing.specs.Answered.{answered};
+ghost use Rattle.typing.specs.Judged.{Judged};
 ghost use Rattle.evaluation.specs.Runs.{run-reported};
 ghost use Rattle.sheet.specs.Said.{reported};
-ghost use Rattle.packing.specs.Packed.{packed, run-ended, steps-after, Bounded, Run-counted};
+ghost use Rattle.packing.specs.Packed.{packed, unpacked, run-ended, steps-after, Bounded, Run-counted};
 ghost use Rattle.wigneld.specs.Exported.{steps-told, Demanded};
 use evaluation::RunAnswer;
 use inference::Found;
@@ -29,7 +31,7 @@ fn found(a: Found) -> u64
     }
 }
 
-// Checking: questions 1 to 24.
+// Checking: questions 1 to 24. The last clause is demand 2, of the answer that a caller reads off the number.
 #[no_mangle]
 pub extern "C" fn wigneld_check(
     groups: &[u8],
@@ -43,7 +45,10 @@ pub extern "C" fn wigneld_check(
         × (now (work .exit) ≡ work-after (checking (length (now (work .entry))) (length (now (answer .entry)))
         (now (groups .entry)) (now (types .entry)) (now (script .entry))) (now (work .entry)))
         × (now (answer .exit) ≡ answer-after (checking (length (now (work .entry))) (length (now (answer .entry)))
-        (now (groups .entry)) (now (types .entry)) (now (script .entry))) (now (answer .entry))) ⌝ }
+        (now (groups .entry)) (now (types .entry)) (now (script .entry))) (now (answer .entry)))
+        × (work-length ≤ length (now (work .entry)) → answer-length ≤ length (now (answer .entry))
+        → Judged (now (groups .entry)) (now (types .entry)) (now (script .entry)) (now (answer .entry)) (unpacked n)
+        (now (answer .exit))) ⌝ }
 {
     found(typing::checking(groups, types, script, work, answer))
 }
