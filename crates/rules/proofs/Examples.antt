@@ -2,13 +2,11 @@
 use mathlib.Core.Path.{refl}
 use Rattle.rules.specs.Examples.{Examples}
 use Rattle.rules.specs.Answer.{first-from}
-use Rattle.rules.specs.Types.{encode-type}
-use Rattle.rules.specs.Script.{term, encode, counts, ok18, subterm}
-use Rattle.rules.specs.Strip.{strip-from}
-use Rattle.rules.specs.Calls.{groups-check, types-check, at-or-below, checking, type-bytes, stepping, running, run-report, sheeting}
+use Rattle.rules.specs.Script.{term, counts, ok18}
+use Rattle.rules.specs.Calls.{groups-check, types-check, at-or-below, checking, type-bytes, running, run-report}
 
 pub examples : Examples
-unfolding first-from encode-type term encode counts ok18 subterm strip-from groups-check types-check at-or-below checking type-bytes stepping running run-report sheeting
+unfolding first-from term counts ok18 groups-check types-check at-or-below checking type-bytes running run-report
 examples = record {
   row-and-bit = refl;
   not-transposed = refl;
@@ -17,10 +15,19 @@ examples = record {
   not-lowest = refl;
   not-transitive = refl;
   no-groups = refl;
+  row-bytes = refl;
+  nine-groups = refl;
+  ninth-above = refl;
+  32-rows = refl;
+  33-rows = refl;
+  4096-types = refl;
+  4097-types = refl;
+  8192-records = refl;
+  8193-records = refl;
   joined-type = refl;
-  joined-value = refl;
   no-types = refl;
   kind-past-3 = refl;
+  byte-3 = refl;
   group-past-rows = refl;
   indirect-above = refl;
   unfinished = refl;
@@ -31,14 +38,25 @@ examples = record {
   first-index = refl;
   second-index = refl;
   no-room = refl;
+  no-scratch = refl;
   unnamed-field = refl;
+  label-past-rows = refl;
+  case-past-rows = refl;
+  protect-past-rows = refl;
   no-such-type = refl;
+  no-result-type = refl;
   no-sum = refl;
   no-function = refl;
   cut-short = refl;
   left-over = refl;
+  cut-shorter = refl;
+  more-left-over = refl;
   depth-256 = refl;
   depth-257 = refl;
+  depth-first = refl;
+  number-bytes = refl;
+  type-256 = refl;
+  variable-256 = refl;
   branch-binder = refl;
   one-binder = refl;
   tested-unbound = refl;
@@ -48,37 +66,15 @@ examples = record {
   condition-first = refl;
   left-first = refl;
   size-last = refl;
+  projection-may-not = refl;
+  injection-wanted = refl;
+  branch-wanted = refl;
+  second-branch-wanted = refl;
+  body-wanted = refl;
+  function-of-65 = refl;
   63-found = refl;
   65-found = refl;
   short-work = refl;
   short-answer = refl;
   long-enough = refl;
-  answer-kept = refl;
-  answer-unchanged = refl;
-  work-cleared = refl;
-  work-cleared-at-21 = refl;
-  work-unchanged-at-19 = refl;
-  value-at-budget = refl;
-  denied-at-budget = refl;
-  big-at-budget = refl;
-  largest-budget = refl;
-  kind-before-reader = refl;
-  argument-moves = refl;
-  short-scratch = refl;
-  short-first = refl;
-  first-filled = refl;
-  scratch-cleared = refl;
-  first-unchanged = refl;
-  unrolled = refl;
-  part = refl;
-  no-part = refl;
-  no-term = refl;
-  stripped-script = refl;
-  stripped-types = refl;
-  closed-then-parts = refl;
-  open-to-1 = refl;
-  body-not-shown = refl;
-  wide-group = refl;
-  no-value = refl;
-  short-sheet = refl;
 }

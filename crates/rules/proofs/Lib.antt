@@ -23,4 +23,5 @@ pub mod Pending
 pub mod TypeTables
 pub mod SecureTables
 pub mod Cases
+pub mod CallExamples
 pub mod Examples

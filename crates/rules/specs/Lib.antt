@@ -13,3 +13,4 @@ pub mod Reach
 pub mod Report
 pub mod Cases
 pub mod Examples
+pub mod CallExamples
