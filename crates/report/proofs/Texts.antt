@@ -10,20 +10,19 @@ use lib.ListN.{length, take, drop, length-append}
 use lib.Seq.{take-at}
 use Rattle.calculus.specs.Types.{Ty, sizeT}
 use Rattle.rules.specs.Answer.{Bytes, Octets, Answer, accepted, refused}
-use Rattle.rules.specs.Limits.{script-limit, report-budget, report-buffer, report-sheet}
+use Rattle.rules.specs.Limits.{script-width, sheet-width, script-limit, report-budget, report-buffer, report-sheet}
 use Rattle.rules.specs.Groups.{rows}
 use Rattle.rules.specs.Script.{encode, term, size}
 use Rattle.rules.specs.Sheet.{sheet}
 use Rattle.rules.specs.Run.{Ran}
 use Rattle.rules.specs.Calls.{zeros, q25, q26, q27, script-check, type-records, running, Report, run-report, first-after, sheeting, sheet-records, sheet-after}
 use Rattle.rules.specs.Reach.{verdict}
-use Rattle.rules.specs.Report.{refusal-line, accepted-line, run-line, sheet-lines, sheet-text, value-text, run-text, checked-text, report}
+use Rattle.rules.specs.Report.{refusal-line, accepted-line, run-line, sheet-line, sheet-lines, sheet-text, value-text, run-text, checked-text, report}
 use Rattle.demands.proofs.Answers.{accepted-inj}
 use Rattle.rules.proofs.Asked.{ask-true, and-then}
 use Rattle.substitution.proofs.Reading.{term-length}
 use Rattle.packing.proofs.Exported.{run-ends}
 use Rattle.text.specs.Written.{Written}
-use Rattle.lines.specs.Lines.{run-words, sheet-line}
 use Rattle.text.proofs.Placed.{keeps}
 use Rattle.lines.proofs.Lines.{refusal-length, accepted-length, run-length, sheet-length, sheet-lines-first, no-lines}
 use Rattle.report.specs.Room.{value-room, run-room, report-room}
@@ -45,12 +44,12 @@ page-fits g t s group room b e =
 
 -- the counted records lie in the sheet's buffer,
 pub count-within : (a : Answer Bytes) (count room : ℕ) → accepted count ≡ sheet-records a → ((b : Bytes) → a ≡ accepted b → length b ≤ room)
-    → 4 * count ≤ room
+    → sheet-width * count ≤ room
 unfolding sheet-records
 count-within (accepted b) count room e f = omega (arith, accepted-inj e, f b refl)
 count-within (refused q p) count room e f = absurd (either e)
 
-whole-lines : (n : ℕ) (b rest : Bytes) → n ≡ length b / 4 → sheet-lines (take (4 * n) (b ++ rest)) ≡ sheet-lines b
+whole-lines : (n : ℕ) (b rest : Bytes) → n ≡ length b / sheet-width → sheet-lines (take (sheet-width * n) (b ++ rest)) ≡ sheet-lines b
 unfolding sheet-lines
 whole-lines zero b rest e = sym (no-lines b 0 (omega arith))
 whole-lines (suc n) [] rest e = absurd (omega arith)
@@ -58,18 +57,18 @@ whole-lines (suc n) (k ∷ []) rest e = absurd (omega arith)
 whole-lines (suc n) (k ∷ r ∷ []) rest e = absurd (omega arith)
 whole-lines (suc n) (k ∷ r ∷ ir ∷ []) rest e = absurd (omega arith)
 whole-lines (suc n) (k ∷ r ∷ ir ∷ z ∷ b) rest e =
-    let four : 4 * suc n ≡ suc (suc (suc (suc (4 * n)))) = omega arith in
+    let four : sheet-width * suc n ≡ suc (suc (suc (suc (sheet-width * n)))) = omega arith in
     ap (λ (m : ℕ). sheet-lines (take m (k ∷ r ∷ ir ∷ z ∷ (b ++ rest)))) four
-    ∙ sheet-lines-first k r ir z (take (4 * n) (b ++ rest))
+    ∙ sheet-lines-first k r ir z (take (sheet-width * n) (b ++ rest))
     ∙ ap (λ (x : Bytes). sheet-line k r ir ++ x) (whole-lines n b rest (omega arith))
     ∙ sym (sheet-lines-first k r ir z b)
 
 -- and their lines are the sheet's
 pub counted-lines : (a : Answer Bytes) (count : ℕ) (old w : Bytes) → accepted count ≡ sheet-records a → w ≡ sheet-after a old
-    → sheet-lines (take (4 * count) w) ≡ sheet-text a
+    → sheet-lines (take (sheet-width * count) w) ≡ sheet-text a
 unfolding sheet-records
 counted-lines (accepted b) count old w e h =
-    ap (λ (x : Bytes). sheet-lines (take (4 * count) x)) h ∙ whole-lines count b (drop (length b) old) (accepted-inj e)
+    ap (λ (x : Bytes). sheet-lines (take (sheet-width * count) x)) h ∙ whole-lines count b (drop (length b) old) (accepted-inj e)
 counted-lines (refused q p) count old w e h = absurd (either e)
 
 pub sheet-refusal : (a : Answer Bytes) (q p : ℕ) → refused q p ≡ sheet-records a → refusal-line q p ≡ sheet-text a
@@ -113,21 +112,27 @@ ended (refused q p) end steps records e = absurd (either e)
 
 -- its last term stands in front of the first buffer
 pub last-in-front : (a : Answer Ran) (end steps records : ℕ) (old w : Bytes) (x : Ended a end steps records) → w ≡ first-after a old
-    → encode (x .ran .last) ≡ take (6 * records) w
+    → encode (x .ran .last) ≡ take (script-width * records) w
 last-in-front a end steps records old w x h =
     let e : Bytes = encode (x .ran .last) in
     let rest : Bytes = zeros (length old - length e) in
-    let l : length e ≡ 6 * records = term-length (x .ran .last) ∙ ap (λ (n : ℕ). 6 * n) (x .records-is) in
-    sym (ap (take (6 * records)) (h ∙ ap (λ (b : Answer Ran). first-after b old) (x .is)) ∙ take-at e rest (6 * records) l)
+    let l : length e ≡ script-width * records = term-length (x .ran .last) ∙ ap (λ (n : ℕ). script-width * n) (x .records-is) in
+    sym (ap (take (script-width * records)) (h ∙ ap (λ (b : Answer Ran). first-after b old) (x .is)) ∙ take-at e rest (script-width * records) l)
 
 -- and has at most 8,192 records
 pub few-records : (g t s : Bytes) (budget first scratch end steps records : ℕ) → Octets s → Ended (running g t s budget first scratch) end steps records
     → records ≤ script-limit
 few-records g t s budget first scratch end steps records o x = omega (arith, run-ends g t s budget first scratch (x .ran) o (x .is) .last, x .records-is)
 
-pub run-accepted : (g t : Bytes) (a : Answer Ran) (x : Ran) → a ≡ accepted x → run-text g t a ≡ run-line x ++ value-text g t x
+pub run-accepted : (g t : Bytes) (a : Answer Ran) (end steps records : ℕ) (x : Ended a end steps records)
+    → run-text g t a ≡ run-line end steps records ++ value-text g t (x .ran)
 unfolding run-text
-run-accepted g t a x e = ap (run-text g t) e
+run-accepted g t a end steps records x =
+    let e1 = x .end-is in
+    let e2 = x .steps-is in
+    let e3 = x .records-is in
+    let line : run-line (x .ran .end) (x .ran .steps) (size (x .ran .last)) ≡ run-line end steps records = cc in
+    ap (run-text g t) (x .is) ∙ ap (λ (b : Bytes). b ++ value-text g t (x .ran)) line
 
 pub run-refused : (g t : Bytes) (a : Answer Ran) (q p : ℕ) → refused q p ≡ run-report a → run-text g t a ≡ refusal-line q p
 unfolding run-text run-report
@@ -163,7 +168,7 @@ accepted-fits records at room l = omega (arith, accepted-length records)
 pub after-accepted : (records room : ℕ) {end : ℕ} {w w1 : Bytes} → Written 0 (accepted-line records) w end w1 → 30 + room ≤ length w → end + room ≤ length w1
 after-accepted records room x l = omega (arith, x .ends, keeps x (accepted-fits records 0 _ (omega arith)), accepted-length records)
 
-pub run-line-fits : (end steps records at room : ℕ) → at + 81 ≤ room → at + length (run-words end steps records) ≤ room
+pub run-line-fits : (end steps records at room : ℕ) → at + 81 ≤ room → at + length (run-line end steps records) ≤ room
 run-line-fits end steps records at room l = omega (arith, run-length end steps records)
 
 pub sheet-room : (a : Answer Bytes) → ((b : Bytes) → a ≡ accepted b → length b ≤ report-sheet) → length (sheet-text a) ≤ value-room
@@ -181,13 +186,11 @@ value-length g t x = go (eqb (x .end) 0) refl
     go true e = rw (e, value-text) (sheet-room a (page-fits g t (encode (x .last)) 0 report-sheet))
     go false e = rw (e, value-text) (omega arith)
 
-pub run-line-length : (x : Ran) → length (run-line x) ≤ 81
-unfolding run-line run-words
-run-line-length x = run-length (x .end) (x .steps) (size (x .last))
-
 run-text-length : (g t : Bytes) (a : Answer Ran) → length (run-text g t a) ≤ run-room
 unfolding run-text
-run-text-length g t (accepted x) = omega (arith, length-append (run-line x) (value-text g t x), run-line-length x, value-length g t x)
+run-text-length g t (accepted x) =
+    omega
+    (arith, length-append (run-line (x .end) (x .steps) (size (x .last))) (value-text g t x), run-length (x .end) (x .steps) (size (x .last)), value-length g t x)
 run-text-length g t (refused q p) = omega (arith, refusal-length q p)
 
 -- No report is longer, whatever the files hold.

@@ -28,6 +28,10 @@ script-limit = 8192
 abbrev pub depth-limit : ℕ
 depth-limit = 256
 
+-- the document's last question
+abbrev pub last-question : ℕ
+last-question = 27
+
 -- Question 1's lengths: a type for the answer, and a type for each level of a script for the work.
 abbrev pub answer-length : ℕ
 answer-length = type-limit * type-width

@@ -36,27 +36,36 @@ unfoldable pub word : ℕ → Bytes
 unfolding text
 word kind = getD (text "unit" ∷ text "first" ∷ text "second" ∷ text "pair" ∷ text "function" ∷ text "closed" ∷ list.[]) kind list.[]
 
+-- a word and a number
+abbrev pub named : String → ℕ → Bytes
+named s n = text s ++ decimal n
+
 unfoldable pub refusal-line : ℕ → ℕ → Bytes
 unfolding text decimal
-refusal-line q p = text "refused " ++ decimal q ++ text " at " ++ decimal p ++ text "\n"
+refusal-line q p = named "refused " q ++ named " at " p ++ text "\n"
 
 unfoldable pub accepted-line : ℕ → Bytes
 unfolding text decimal
-accepted-line n = text "accepted " ++ decimal n ++ text "\n"
+accepted-line n = named "accepted " n ++ text "\n"
 
 -- "end, steps and records of the run"
-unfoldable pub run-line : Ran → Bytes
-unfolding text decimal size
-run-line x = text "end " ++ decimal (x .end) ++ text " steps " ++ decimal (x .steps) ++ text " records " ++ decimal (size (x .last)) ++ text "\n"
+unfoldable pub run-line : ℕ → ℕ → ℕ → Bytes
+unfolding text decimal
+run-line end steps records = named "end " end ++ named " steps " steps ++ named " records " records ++ text "\n"
 
--- "word, r, ir", a line for each record of the sheet
-unfoldable pub sheet-lines : Bytes → Bytes
+-- "word, r, ir" of a record of the sheet
+unfoldable pub sheet-line : ℕ → ℕ → ℕ → Bytes
 unfolding text decimal word
+sheet-line kind r ir = word kind ++ named " " r ++ named " " ir ++ text "\n"
+
+-- a line for each of its records
+unfoldable pub sheet-lines : Bytes → Bytes
+unfolding sheet-line
 sheet-lines list.[] = list.[]
 sheet-lines (k ∷ list.[]) = list.[]
 sheet-lines (k ∷ r ∷ list.[]) = list.[]
 sheet-lines (k ∷ r ∷ ir ∷ list.[]) = list.[]
-sheet-lines (k ∷ r ∷ ir ∷ z ∷ b) = word k ++ text " " ++ decimal r ++ text " " ++ decimal ir ++ text "\n" ++ sheet-lines b
+sheet-lines (k ∷ r ∷ ir ∷ z ∷ b) = sheet-line k r ir ++ sheet-lines b
 
 -- An accepted script's run and sheet aren't refused; these lines are here because a text has to be given for every answer.
 abbrev pub sheet-text : Answer Bytes → Bytes
@@ -69,8 +78,8 @@ unfolding sheeting encode sheet-lines refusal-line
 value-text g t x = elim (eqb (x .end) 0) [ true ↦ sheet-text (sheeting g t (encode (x .last)) 0 report-sheet) | false ↦ list.[] ]
 
 unfoldable pub run-text : Bytes → Bytes → Answer Ran → Bytes
-unfolding run-line value-text refusal-line
-run-text g t (accepted x) = run-line x ++ value-text g t x
+unfolding run-line value-text refusal-line size
+run-text g t (accepted x) = run-line (x .end) (x .steps) (size (x .last)) ++ value-text g t x
 run-text g t (refused q p) = refusal-line q p
 
 unfoldable pub checked-text : Bytes → Bytes → Bytes → Answer Ty → Bytes

@@ -1,95 +1,66 @@
--- `lines::accepted_line` meets its contract: its pieces one after the other.
-use mathlib.Core.Path.{_≡_, sym, subst}
-use mathlib.Core.List.{_++_, append-assoc}
+-- `lines::accepted_line` meets its contract: a word and a number, and the end of the line.
+use mathlib.Core.List.{_++_}
 use Prim.Native.Nat.{_+_, _≤_}
 use lib.ListN.{length}
 use Rattle.rules.specs.Answer.{Bytes}
-use Rattle.rules.specs.Report.{text, decimal, accepted-line}
+use Rattle.rules.specs.Report.{text, named, accepted-line}
 use Rattle.text.specs.Written.{Written}
 use Rattle.text.proofs.Placed.{room-first, room-next, both}
 use borrow.Author.Needs.{needs}
 use Rattle.lines.proofs.accepted_line.Statement.{statement}
 use Rattle.lines.proofs.accepted_line.Tie as tie
 
--- back from each piece to the one before
-abbrev back-1 : tie.After-put → tie.Start
-back-1 c = c .before .before .before .before
+-- the line, a piece longer each time
+abbrev front-1 : tie.Start → Bytes
+front-1 s = named "accepted " (s .args .records)
 
-abbrev start-1 : tie.After-put → tie.Start
-start-1 c = back-1 c
+abbrev front-2 : tie.Start → Bytes
+front-2 s = front-1 s ++ text "\n"
 
-abbrev back-2 : tie.After-decimal → tie.After-put
-back-2 c = c .before .before .before .before
-
-abbrev start-2 : tie.After-decimal → tie.Start
-start-2 c = start-1 (back-2 c)
-
--- what follows each piece
-abbrev after-2 : tie.Start → Bytes
-after-2 s = text "\n"
-
-abbrev after-1 : tie.Start → Bytes
-after-1 s = decimal (s .args .records) ++ after-2 s
-
-flat : (s : tie.Start) → accepted-line (s .args .records) ≡ text "accepted " ++ after-1 s
+-- and the room for each
+room-2 : (s : tie.Start) → s .args .at + length (front-2 s) ≤ length (s .args .out .now)
 unfolding accepted-line
-flat s = simp append-assoc
+room-2 s = s .pre
 
--- the room that is left before each piece
-room-0 : (s : tie.Start) → s .args .at + length (text "accepted " ++ after-1 s) ≤ length (s .args .out .now)
-room-0 s = subst (λ (b : Bytes). s .args .at + length b ≤ length (s .args .out .now)) (flat s) (s .pre)
+room-1 : (s : tie.Start) → s .args .at + length (front-1 s) ≤ length (s .args .out .now)
+room-1 s = room-first (s .args .at) (front-1 s) (text "\n") (s .args .out .now) (room-2 s)
 
-room-1 : (c : tie.After-put) → c .put .result + length (after-1 (start-1 c)) ≤ length (c .put .last .1 .0)
+-- what is written after each of them
+abbrev start-1 : tie.After-named → tie.Start
+start-1 c = c .before .before .before .before
+
+wrote-1 : (c : tie.After-named) → let s = start-1 c in Written (s .args .at) (front-1 s) (s .args .out .now) (c .named .result) (c .named .last .1 .1 .0)
 unfolding text
-room-1 c = room-next (after-1 (start-1 c)) (c .put .ensures) (room-0 (back-1 c))
+wrote-1 c = c .named .ensures
 
-room-2 : (c : tie.After-decimal) → c .decimal .result + length (after-2 (start-2 c)) ≤ length (c .decimal .last .1 .0)
+slice-aggregate-named : tie.Need-slice-aggregate-named
+slice-aggregate-named c = search needs
+
+named-requires : tie.Need-named-requires
 unfolding text
-room-2 c = room-next (after-2 (start-2 c)) (c .decimal .ensures) (room-1 (back-2 c))
+named-requires c κs = room-1 (c .before .before .before)
 
 slice-aggregate-put : tie.Need-slice-aggregate-put
 slice-aggregate-put c = search needs
 
 put-requires : tie.Need-put-requires
 unfolding text
-put-requires c κs =
-    let s = c .before .before .before in
-    room-first (s .args .at) (text "accepted ") (after-1 s) (s .args .out .now) (room-0 s)
-
-decimal-requires : tie.Need-decimal-requires
-decimal-requires c κs =
-    let x = c .before .before .before in
-    let s = start-1 x in
-    room-first (x .put .result) (decimal (s .args .records)) (after-2 s) (x .put .last .1 .0) (room-1 x)
-
-slice-aggregate-put-2 : tie.Need-slice-aggregate-put-2
-slice-aggregate-put-2 c = search needs
-
-put-requires-2 : tie.Need-put-requires-2
-unfolding text
-put-requires-2 c κs = room-2 (c .before .before .before .before)
+put-requires c κs = let x = c .before .before .before .before in room-next (text "\n") (wrote-1 x) (room-2 (start-1 x))
 
 same-length : tie.Need-same-length
 same-length c = search needs
 
 returns : tie.Need-returns
-unfolding text
-returns c =
-    let c3 = c .before .before in
-    let c2 = c .before .before .before .before .before .before .before in
-    let c1 = back-2 c2 in
-    let s = back-1 c1 in
-    subst (λ (b : Bytes). Written (s .args .at) b (s .args .out .now) (c3 .put2 .result) (c3 .put2 .last .1 .0)) (sym (flat s))
-    (both (room-0 s) (c1 .put .ensures) (both (room-1 c1) (c2 .decimal .ensures) (c3 .put2 .ensures)))
+unfolding text accepted-line
+returns c = let x = c .before .before .before .before .before .before .before in both (room-2 (start-1 x)) (wrote-1 x) (c .before .before .put .ensures)
 
 pub accepted-line-spec : {M : Type 1} → statement M
 accepted-line-spec =
     tie.close
     (tie.spec
+    slice-aggregate-named
+    named-requires
     slice-aggregate-put
     put-requires
-    decimal-requires
-    slice-aggregate-put-2
-    put-requires-2
     same-length
     returns)

@@ -1,142 +1,88 @@
--- `lines::refusal_line` meets its contract: its pieces one after the other.
-use mathlib.Core.Path.{_≡_, sym, subst}
-use mathlib.Core.List.{_++_, append-assoc}
+-- `lines::refusal_line` meets its contract: two words with their numbers, and the end of the line.
+use mathlib.Core.List.{_++_}
 use Prim.Native.Nat.{_+_, _≤_}
 use lib.ListN.{length}
 use Rattle.rules.specs.Answer.{Bytes}
-use Rattle.rules.specs.Report.{text, decimal, refusal-line}
+use Rattle.rules.specs.Report.{text, named, refusal-line}
 use Rattle.text.specs.Written.{Written}
 use Rattle.text.proofs.Placed.{room-first, room-next, both}
 use borrow.Author.Needs.{needs}
 use Rattle.lines.proofs.refusal_line.Statement.{statement}
 use Rattle.lines.proofs.refusal_line.Tie as tie
 
--- back from each piece to the one before
-abbrev back-1 : tie.After-put → tie.Start
-back-1 c = c .before .before .before .before
+-- the line, a piece longer each time
+abbrev front-1 : tie.Start → Bytes
+front-1 s = named "refused " (s .args .question)
 
-abbrev start-1 : tie.After-put → tie.Start
-start-1 c = back-1 c
+abbrev front-2 : tie.Start → Bytes
+front-2 s = front-1 s ++ named " at " (s .args .place)
 
-abbrev back-2 : tie.After-decimal → tie.After-put
-back-2 c = c .before .before .before .before
+abbrev front-3 : tie.Start → Bytes
+front-3 s = front-2 s ++ text "\n"
 
-abbrev start-2 : tie.After-decimal → tie.Start
-start-2 c = start-1 (back-2 c)
-
-abbrev back-3 : tie.After-put2 → tie.After-decimal
-back-3 c = c .before .before .before .before .before
-
-abbrev start-3 : tie.After-put2 → tie.Start
-start-3 c = start-2 (back-3 c)
-
-abbrev back-4 : tie.After-decimal2 → tie.After-put2
-back-4 c = c .before .before .before .before
-
-abbrev start-4 : tie.After-decimal2 → tie.Start
-start-4 c = start-3 (back-4 c)
-
--- what follows each piece
-abbrev after-4 : tie.Start → Bytes
-after-4 s = text "\n"
-
-abbrev after-3 : tie.Start → Bytes
-after-3 s = decimal (s .args .place) ++ after-4 s
-
-abbrev after-2 : tie.Start → Bytes
-after-2 s = text " at " ++ after-3 s
-
-abbrev after-1 : tie.Start → Bytes
-after-1 s = decimal (s .args .question) ++ after-2 s
-
-flat : (s : tie.Start) → refusal-line (s .args .question) (s .args .place) ≡ text "refused " ++ after-1 s
+-- and the room for each
+room-3 : (s : tie.Start) → s .args .at + length (front-3 s) ≤ length (s .args .out .now)
 unfolding refusal-line
-flat s = simp append-assoc
+room-3 s = s .pre
 
--- the room that is left before each piece
-room-0 : (s : tie.Start) → s .args .at + length (text "refused " ++ after-1 s) ≤ length (s .args .out .now)
-room-0 s = subst (λ (b : Bytes). s .args .at + length b ≤ length (s .args .out .now)) (flat s) (s .pre)
+room-2 : (s : tie.Start) → s .args .at + length (front-2 s) ≤ length (s .args .out .now)
+room-2 s = room-first (s .args .at) (front-2 s) (text "\n") (s .args .out .now) (room-3 s)
 
-room-1 : (c : tie.After-put) → c .put .result + length (after-1 (start-1 c)) ≤ length (c .put .last .1 .0)
+room-1 : (s : tie.Start) → s .args .at + length (front-1 s) ≤ length (s .args .out .now)
+room-1 s = room-first (s .args .at) (front-1 s) (named " at " (s .args .place)) (s .args .out .now) (room-2 s)
+
+-- what is written after each of them
+abbrev start-1 : tie.After-named → tie.Start
+start-1 c = c .before .before .before .before
+
+wrote-1 : (c : tie.After-named) → let s = start-1 c in Written (s .args .at) (front-1 s) (s .args .out .now) (c .named .result) (c .named .last .1 .1 .0)
 unfolding text
-room-1 c = room-next (after-1 (start-1 c)) (c .put .ensures) (room-0 (back-1 c))
+wrote-1 c = c .named .ensures
 
-room-2 : (c : tie.After-decimal) → c .decimal .result + length (after-2 (start-2 c)) ≤ length (c .decimal .last .1 .0)
-unfolding text
-room-2 c = room-next (after-2 (start-2 c)) (c .decimal .ensures) (room-1 (back-2 c))
+abbrev start-2 : tie.After-named2 → tie.Start
+start-2 c = start-1 (c .before .before .before .before .before)
 
-room-3 : (c : tie.After-put2) → c .put2 .result + length (after-3 (start-3 c)) ≤ length (c .put2 .last .1 .0)
+wrote-2 : (c : tie.After-named2) → let s = start-2 c in Written (s .args .at) (front-2 s) (s .args .out .now) (c .named2 .result) (c .named2 .last .1 .1 .0)
 unfolding text
-room-3 c = room-next (after-3 (start-3 c)) (c .put2 .ensures) (room-2 (back-3 c))
+wrote-2 c = both (room-2 (start-2 c)) (wrote-1 (c .before .before .before .before .before)) (c .named2 .ensures)
 
-room-4 : (c : tie.After-decimal2) → c .decimal2 .result + length (after-4 (start-4 c)) ≤ length (c .decimal2 .last .1 .0)
+slice-aggregate-named : tie.Need-slice-aggregate-named
+slice-aggregate-named c = search needs
+
+named-requires : tie.Need-named-requires
 unfolding text
-room-4 c = room-next (after-4 (start-4 c)) (c .decimal2 .ensures) (room-3 (back-4 c))
+named-requires c κs = room-1 (c .before .before .before)
+
+slice-aggregate-named-2 : tie.Need-slice-aggregate-named-2
+slice-aggregate-named-2 c = search needs
+
+named-requires-2 : tie.Need-named-requires-2
+unfolding text
+named-requires-2 c κs = let x = c .before .before .before .before in room-next (named " at " (start-1 x .args .place)) (wrote-1 x) (room-2 (start-1 x))
 
 slice-aggregate-put : tie.Need-slice-aggregate-put
 slice-aggregate-put c = search needs
 
 put-requires : tie.Need-put-requires
 unfolding text
-put-requires c κs =
-    let s = c .before .before .before in
-    room-first (s .args .at) (text "refused ") (after-1 s) (s .args .out .now) (room-0 s)
-
-decimal-requires : tie.Need-decimal-requires
-decimal-requires c κs =
-    let x = c .before .before .before in
-    let s = start-1 x in
-    room-first (x .put .result) (decimal (s .args .question)) (after-2 s) (x .put .last .1 .0) (room-1 x)
-
-slice-aggregate-put-2 : tie.Need-slice-aggregate-put-2
-slice-aggregate-put-2 c = search needs
-
-put-requires-2 : tie.Need-put-requires-2
-unfolding text
-put-requires-2 c κs =
-    let x = c .before .before .before .before in
-    let s = start-2 x in
-    room-first (x .decimal .result) (text " at ") (after-3 s) (x .decimal .last .1 .0) (room-2 x)
-
-decimal-requires-2 : tie.Need-decimal-requires-2
-decimal-requires-2 c κs =
-    let x = c .before .before .before in
-    let s = start-3 x in
-    room-first (x .put2 .result) (decimal (s .args .place)) (after-4 s) (x .put2 .last .1 .0) (room-3 x)
-
-slice-aggregate-put-3 : tie.Need-slice-aggregate-put-3
-slice-aggregate-put-3 c = search needs
-
-put-requires-3 : tie.Need-put-requires-3
-unfolding text
-put-requires-3 c κs = room-4 (c .before .before .before .before)
+put-requires c κs = let x = c .before .before .before .before in room-next (text "\n") (wrote-2 x) (room-3 (start-2 x))
 
 same-length : tie.Need-same-length
 same-length c = search needs
 
 returns : tie.Need-returns
-unfolding text
-returns c =
-    let c5 = c .before .before in
-    let c4 = c .before .before .before .before .before .before .before in
-    let c3 = back-4 c4 in
-    let c2 = back-3 c3 in
-    let c1 = back-2 c2 in
-    let s = back-1 c1 in
-    subst (λ (b : Bytes). Written (s .args .at) b (s .args .out .now) (c5 .put3 .result) (c5 .put3 .last .1 .0)) (sym (flat s))
-    (both (room-0 s) (c1 .put .ensures) (both (room-1 c1) (c2 .decimal .ensures) (both (room-2 c2) (c3 .put2 .ensures) (both (room-3 c3) (c4 .decimal2 .ensures) (c5 .put3 .ensures)))))
+unfolding text refusal-line
+returns c = let x = c .before .before .before .before .before .before .before in both (room-3 (start-2 x)) (wrote-2 x) (c .before .before .put .ensures)
 
 pub refusal-line-spec : {M : Type 1} → statement M
 refusal-line-spec =
     tie.close
     (tie.spec
+    slice-aggregate-named
+    named-requires
+    slice-aggregate-named-2
+    named-requires-2
     slice-aggregate-put
     put-requires
-    decimal-requires
-    slice-aggregate-put-2
-    put-requires-2
-    decimal-requires-2
-    slice-aggregate-put-3
-    put-requires-3
     same-length
     returns)

@@ -1,192 +1,110 @@
--- `lines::run_line` meets its contract: its pieces one after the other.
-use mathlib.Core.Path.{_≡_, sym, subst}
-use mathlib.Core.List.{_++_, append-assoc}
+-- `lines::run_line` meets its contract: three words with their numbers, and the end of the line.
+use mathlib.Core.List.{_++_}
 use Prim.Native.Nat.{_+_, _≤_}
 use lib.ListN.{length}
 use Rattle.rules.specs.Answer.{Bytes}
-use Rattle.rules.specs.Report.{text, decimal}
-use Rattle.lines.specs.Lines.{run-words}
-use Rattle.lines.proofs.Lines.{run-line-of}
+use Rattle.rules.specs.Report.{text, named, run-line}
 use Rattle.text.specs.Written.{Written}
 use Rattle.text.proofs.Placed.{room-first, room-next, both}
 use borrow.Author.Needs.{needs}
 use Rattle.lines.proofs.run_line.Statement.{statement}
 use Rattle.lines.proofs.run_line.Tie as tie
 
--- back from each piece to the one before
-abbrev back-1 : tie.After-put → tie.Start
-back-1 c = c .before .before .before .before
+-- the line, a piece longer each time
+abbrev front-1 : tie.Start → Bytes
+front-1 s = named "end " (s .args .end)
 
-abbrev start-1 : tie.After-put → tie.Start
-start-1 c = back-1 c
+abbrev front-2 : tie.Start → Bytes
+front-2 s = front-1 s ++ named " steps " (s .args .steps)
 
-abbrev back-2 : tie.After-decimal → tie.After-put
-back-2 c = c .before .before .before .before
+abbrev front-3 : tie.Start → Bytes
+front-3 s = front-2 s ++ named " records " (s .args .records)
 
-abbrev start-2 : tie.After-decimal → tie.Start
-start-2 c = start-1 (back-2 c)
+abbrev front-4 : tie.Start → Bytes
+front-4 s = front-3 s ++ text "\n"
 
-abbrev back-3 : tie.After-put2 → tie.After-decimal
-back-3 c = c .before .before .before .before .before
+-- and the room for each
+room-4 : (s : tie.Start) → s .args .at + length (front-4 s) ≤ length (s .args .out .now)
+unfolding run-line
+room-4 s = s .pre
 
-abbrev start-3 : tie.After-put2 → tie.Start
-start-3 c = start-2 (back-3 c)
+room-3 : (s : tie.Start) → s .args .at + length (front-3 s) ≤ length (s .args .out .now)
+room-3 s = room-first (s .args .at) (front-3 s) (text "\n") (s .args .out .now) (room-4 s)
 
-abbrev back-4 : tie.After-decimal2 → tie.After-put2
-back-4 c = c .before .before .before .before
+room-2 : (s : tie.Start) → s .args .at + length (front-2 s) ≤ length (s .args .out .now)
+room-2 s = room-first (s .args .at) (front-2 s) (named " records " (s .args .records)) (s .args .out .now) (room-3 s)
 
-abbrev start-4 : tie.After-decimal2 → tie.Start
-start-4 c = start-3 (back-4 c)
+room-1 : (s : tie.Start) → s .args .at + length (front-1 s) ≤ length (s .args .out .now)
+room-1 s = room-first (s .args .at) (front-1 s) (named " steps " (s .args .steps)) (s .args .out .now) (room-2 s)
 
-abbrev back-5 : tie.After-put3 → tie.After-decimal2
-back-5 c = c .before .before .before .before .before
+-- what is written after each of them
+abbrev start-1 : tie.After-named → tie.Start
+start-1 c = c .before .before .before .before
 
-abbrev start-5 : tie.After-put3 → tie.Start
-start-5 c = start-4 (back-5 c)
-
-abbrev back-6 : tie.After-decimal3 → tie.After-put3
-back-6 c = c .before .before .before .before
-
-abbrev start-6 : tie.After-decimal3 → tie.Start
-start-6 c = start-5 (back-6 c)
-
--- what follows each piece
-abbrev after-6 : tie.Start → Bytes
-after-6 s = text "\n"
-
-abbrev after-5 : tie.Start → Bytes
-after-5 s = decimal (s .args .records) ++ after-6 s
-
-abbrev after-4 : tie.Start → Bytes
-after-4 s = text " records " ++ after-5 s
-
-abbrev after-3 : tie.Start → Bytes
-after-3 s = decimal (s .args .steps) ++ after-4 s
-
-abbrev after-2 : tie.Start → Bytes
-after-2 s = text " steps " ++ after-3 s
-
-abbrev after-1 : tie.Start → Bytes
-after-1 s = decimal (s .args .end) ++ after-2 s
-
-flat : (s : tie.Start) → run-words (s .args .end) (s .args .steps) (s .args .records) ≡ text "end " ++ after-1 s
-unfolding run-words
-flat s = simp append-assoc
-
--- the room that is left before each piece
-room-0 : (s : tie.Start) → s .args .at + length (text "end " ++ after-1 s) ≤ length (s .args .out .now)
-room-0 s = subst (λ (b : Bytes). s .args .at + length b ≤ length (s .args .out .now)) (flat s) (s .pre)
-
-room-1 : (c : tie.After-put) → c .put .result + length (after-1 (start-1 c)) ≤ length (c .put .last .1 .0)
+wrote-1 : (c : tie.After-named) → let s = start-1 c in Written (s .args .at) (front-1 s) (s .args .out .now) (c .named .result) (c .named .last .1 .1 .0)
 unfolding text
-room-1 c = room-next (after-1 (start-1 c)) (c .put .ensures) (room-0 (back-1 c))
+wrote-1 c = c .named .ensures
 
-room-2 : (c : tie.After-decimal) → c .decimal .result + length (after-2 (start-2 c)) ≤ length (c .decimal .last .1 .0)
-unfolding text
-room-2 c = room-next (after-2 (start-2 c)) (c .decimal .ensures) (room-1 (back-2 c))
+abbrev start-2 : tie.After-named2 → tie.Start
+start-2 c = start-1 (c .before .before .before .before .before)
 
-room-3 : (c : tie.After-put2) → c .put2 .result + length (after-3 (start-3 c)) ≤ length (c .put2 .last .1 .0)
+wrote-2 : (c : tie.After-named2) → let s = start-2 c in Written (s .args .at) (front-2 s) (s .args .out .now) (c .named2 .result) (c .named2 .last .1 .1 .0)
 unfolding text
-room-3 c = room-next (after-3 (start-3 c)) (c .put2 .ensures) (room-2 (back-3 c))
+wrote-2 c = both (room-2 (start-2 c)) (wrote-1 (c .before .before .before .before .before)) (c .named2 .ensures)
 
-room-4 : (c : tie.After-decimal2) → c .decimal2 .result + length (after-4 (start-4 c)) ≤ length (c .decimal2 .last .1 .0)
-unfolding text
-room-4 c = room-next (after-4 (start-4 c)) (c .decimal2 .ensures) (room-3 (back-4 c))
+abbrev start-3 : tie.After-named3 → tie.Start
+start-3 c = start-2 (c .before .before .before .before .before)
 
-room-5 : (c : tie.After-put3) → c .put3 .result + length (after-5 (start-5 c)) ≤ length (c .put3 .last .1 .0)
+wrote-3 : (c : tie.After-named3) → let s = start-3 c in Written (s .args .at) (front-3 s) (s .args .out .now) (c .named3 .result) (c .named3 .last .1 .1 .0)
 unfolding text
-room-5 c = room-next (after-5 (start-5 c)) (c .put3 .ensures) (room-4 (back-5 c))
+wrote-3 c = both (room-3 (start-3 c)) (wrote-2 (c .before .before .before .before .before)) (c .named3 .ensures)
 
-room-6 : (c : tie.After-decimal3) → c .decimal3 .result + length (after-6 (start-6 c)) ≤ length (c .decimal3 .last .1 .0)
+slice-aggregate-named : tie.Need-slice-aggregate-named
+slice-aggregate-named c = search needs
+
+named-requires : tie.Need-named-requires
 unfolding text
-room-6 c = room-next (after-6 (start-6 c)) (c .decimal3 .ensures) (room-5 (back-6 c))
+named-requires c κs = room-1 (c .before .before .before)
+
+slice-aggregate-named-2 : tie.Need-slice-aggregate-named-2
+slice-aggregate-named-2 c = search needs
+
+named-requires-2 : tie.Need-named-requires-2
+unfolding text
+named-requires-2 c κs = let x = c .before .before .before .before in room-next (named " steps " (start-1 x .args .steps)) (wrote-1 x) (room-2 (start-1 x))
+
+slice-aggregate-named-3 : tie.Need-slice-aggregate-named-3
+slice-aggregate-named-3 c = search needs
+
+named-requires-3 : tie.Need-named-requires-3
+unfolding text
+named-requires-3 c κs = let x = c .before .before .before .before in room-next (named " records " (start-2 x .args .records)) (wrote-2 x) (room-3 (start-2 x))
 
 slice-aggregate-put : tie.Need-slice-aggregate-put
 slice-aggregate-put c = search needs
 
 put-requires : tie.Need-put-requires
 unfolding text
-put-requires c κs =
-    let s = c .before .before .before in
-    room-first (s .args .at) (text "end ") (after-1 s) (s .args .out .now) (room-0 s)
-
-decimal-requires : tie.Need-decimal-requires
-decimal-requires c κs =
-    let x = c .before .before .before in
-    let s = start-1 x in
-    room-first (x .put .result) (decimal (s .args .end)) (after-2 s) (x .put .last .1 .0) (room-1 x)
-
-slice-aggregate-put-2 : tie.Need-slice-aggregate-put-2
-slice-aggregate-put-2 c = search needs
-
-put-requires-2 : tie.Need-put-requires-2
-unfolding text
-put-requires-2 c κs =
-    let x = c .before .before .before .before in
-    let s = start-2 x in
-    room-first (x .decimal .result) (text " steps ") (after-3 s) (x .decimal .last .1 .0) (room-2 x)
-
-decimal-requires-2 : tie.Need-decimal-requires-2
-decimal-requires-2 c κs =
-    let x = c .before .before .before in
-    let s = start-3 x in
-    room-first (x .put2 .result) (decimal (s .args .steps)) (after-4 s) (x .put2 .last .1 .0) (room-3 x)
-
-slice-aggregate-put-3 : tie.Need-slice-aggregate-put-3
-slice-aggregate-put-3 c = search needs
-
-put-requires-3 : tie.Need-put-requires-3
-unfolding text
-put-requires-3 c κs =
-    let x = c .before .before .before .before in
-    let s = start-4 x in
-    room-first (x .decimal2 .result) (text " records ") (after-5 s) (x .decimal2 .last .1 .0) (room-4 x)
-
-decimal-requires-3 : tie.Need-decimal-requires-3
-decimal-requires-3 c κs =
-    let x = c .before .before .before in
-    let s = start-5 x in
-    room-first (x .put3 .result) (decimal (s .args .records)) (after-6 s) (x .put3 .last .1 .0) (room-5 x)
-
-slice-aggregate-put-4 : tie.Need-slice-aggregate-put-4
-slice-aggregate-put-4 c = search needs
-
-put-requires-4 : tie.Need-put-requires-4
-unfolding text
-put-requires-4 c κs = room-6 (c .before .before .before .before)
+put-requires c κs = let x = c .before .before .before .before in room-next (text "\n") (wrote-3 x) (room-4 (start-3 x))
 
 same-length : tie.Need-same-length
 same-length c = search needs
 
 returns : tie.Need-returns
-unfolding text
-returns c x e1 e2 e3 =
-    let c7 = c .before .before in
-    let c6 = c .before .before .before .before .before .before .before in
-    let c5 = back-6 c6 in
-    let c4 = back-5 c5 in
-    let c3 = back-4 c4 in
-    let c2 = back-3 c3 in
-    let c1 = back-2 c2 in
-    let s = back-1 c1 in
-    run-line-of x e1 e2 e3
-    (subst (λ (b : Bytes). Written (s .args .at) b (s .args .out .now) (c7 .put4 .result) (c7 .put4 .last .1 .0)) (sym (flat s))
-    (both (room-0 s) (c1 .put .ensures) (both (room-1 c1) (c2 .decimal .ensures) (both (room-2 c2) (c3 .put2 .ensures) (both (room-3 c3) (c4 .decimal2 .ensures) (both (room-4 c4) (c5 .put3 .ensures) (both (room-5 c5) (c6 .decimal3 .ensures) (c7 .put4 .ensures))))))))
+unfolding text run-line
+returns c = let x = c .before .before .before .before .before .before .before in both (room-4 (start-3 x)) (wrote-3 x) (c .before .before .put .ensures)
 
 pub run-line-spec : {M : Type 1} → statement M
 run-line-spec =
     tie.close
     (tie.spec
+    slice-aggregate-named
+    named-requires
+    slice-aggregate-named-2
+    named-requires-2
+    slice-aggregate-named-3
+    named-requires-3
     slice-aggregate-put
     put-requires
-    decimal-requires
-    slice-aggregate-put-2
-    put-requires-2
-    decimal-requires-2
-    slice-aggregate-put-3
-    put-requires-3
-    decimal-requires-3
-    slice-aggregate-put-4
-    put-requires-4
     same-length
     returns)

@@ -5,7 +5,7 @@ use native.Mathlib.Omega.{arith}
 use lib.ListN.{length, take}
 use lib.Seq.{length-take-le}
 use Rattle.rules.specs.Answer.{Bytes, Octets, Answer}
-use Rattle.rules.specs.Limits.{script-limit, report-budget, report-buffer}
+use Rattle.rules.specs.Limits.{script-width, script-limit, report-budget, report-buffer}
 use Rattle.rules.specs.Run.{Ran}
 use Rattle.rules.specs.Script.{encode}
 use Rattle.rules.specs.Calls.{running}
@@ -13,7 +13,8 @@ use Rattle.rules.specs.Report.{run-line}
 use Rattle.evaluation.specs.Runs.{run-reported}
 use Rattle.text.specs.Written.{Written}
 use Rattle.text.proofs.Placed.{then, keeps}
-use Rattle.report.proofs.Texts.{Ended, ended, last-in-front, few-records, run-accepted, run-refused, refusal-fits, run-line-fits, run-line-length}
+use Rattle.lines.proofs.Lines.{run-length}
+use Rattle.report.proofs.Texts.{Ended, ended, last-in-front, few-records, run-accepted, run-refused, refusal-fits, run-line-fits}
 use borrow.Author.Needs.{needs}
 use Rattle.report.proofs.run_text.Statement.{statement}
 use Rattle.report.proofs.run_text.Tie as tie
@@ -63,10 +64,10 @@ few c =
     few-records (s .args .groups .now) (s .args .types .now) (s .args .script .now) report-budget report-buffer report-buffer (end-of c) (steps-of c) (records-of c) o (run-of c)
 
 -- its last term, in front of the first buffer
-in-first : (c : tie.After-known-told) → 6 * records-of c ≤ length (first-of c)
+in-first : (c : tie.After-known-told) → script-width * records-of c ≤ length (first-of c)
 in-first c = omega (arith, few c)
 
-last-of : (c : tie.After-known-told) → encode (run-of c .ran .last) ≡ take (6 * records-of c) (first-of c)
+last-of : (c : tie.After-known-told) → encode (run-of c .ran .last) ≡ take (script-width * records-of c) (first-of c)
 last-of c = last-in-front (answer (start c)) (end-of c) (steps-of c) (records-of c) _ (first-of c) (run-of c) (c .before .before .before .before .before .run .ensures .1)
 
 run-line-requires : tie.Need-run-line-requires
@@ -81,19 +82,18 @@ array-share-prefix-first c = omega (arith, in-first (c .before .before .before .
 slice-aggregate-value-text : tie.Need-slice-aggregate-value-text
 slice-aggregate-value-text c = let k = c .before .before .before .before .before in sym (length-take-le _ (first-of k) (omega (arith, in-first k)))
 
--- its line
-wrote : (c : tie.After-slice-known2)
-    → Written (start (c .before .before .before .before) .args .at) (run-line (run-of (c .before .before .before .before) .ran)) (start (c .before .before .before .before) .args .out .now) (c .before .before .run-line .result) (c .before .before .run-line .last .1 .1 .1 .0)
-wrote c = let x = run-of (c .before .before .before .before) in c .before .before .run-line .ensures (x .ran) (x .end-is) (x .steps-is) (x .records-is)
+-- its line, and the room for it
+abbrev line : tie.After-known-told → Bytes
+line c = run-line (end-of c) (steps-of c) (records-of c)
 
-room : (c : tie.After-known-told) → start c .args .at + length (run-line (run-of c .ran)) ≤ length (start c .args .out .now)
-room c = omega (arith, run-line-length (run-of c .ran), start c .pre)
+room : (c : tie.After-known-told) → start c .args .at + length (line c) ≤ length (start c .args .out .now)
+room c = run-line-fits (end-of c) (steps-of c) (records-of c) _ _ (omega (arith, start c .pre))
 
 value-text-requires : tie.Need-value-text-requires
 value-text-requires c κs =
     let k = c .before .before .before .before .before .before in
-    let w = wrote (c .before .before) in
-    omega (arith, w .ends, keeps w (room k), run-line-length (run-of k .ran), start k .pre)
+    let w = c .before .before .before .before .run-line .ensures in
+    omega (arith, w .ends, keeps w (room k), run-length (end-of k) (steps-of k) (records-of k), start k .pre)
 
 enum-known-a-2 : tie.Need-enum-known-a-2
 enum-known-a-2 c = search needs
@@ -114,8 +114,8 @@ returns c =
     let x = run-of k in
     let v = c .before .before .value-text in
     subst (λ (b : Bytes). Written (s .args .at) b (s .args .out .now) (v .result) (v .last .1 .1 .1 .1 .0))
-    (sym (run-accepted (s .args .groups .now) (s .args .types .now) (answer s) (x .ran) (x .is)))
-    (then (wrote (c .before .before .before .before .before)) (v .ensures (x .ran) (x .end-is) (last-of k)) (room k))
+    (sym (run-accepted (s .args .groups .now) (s .args .types .now) (answer s) (end-of k) (steps-of k) (records-of k) x))
+    (then (c .before .before .before .before .before .before .before .run-line .ensures) (v .ensures (x .ran) (x .end-is) (last-of k)) (room k))
 
 same-length-2 : tie.Need-same-length-2
 same-length-2 c = search needs

@@ -5,7 +5,7 @@ use native.Mathlib.Omega.{arith}
 use lib.ListN.{length, take}
 use lib.Seq.{length-take-le}
 use Rattle.rules.specs.Answer.{Bytes, Answer, accepted}
-use Rattle.rules.specs.Limits.{report-sheet}
+use Rattle.rules.specs.Limits.{sheet-width, report-sheet}
 use Rattle.rules.specs.Script.{encode}
 use Rattle.rules.specs.Run.{Ran}
 use Rattle.rules.specs.Calls.{sheeting, sheet-records}
@@ -60,18 +60,18 @@ counted : (c : tie.After-known-told) → accepted (count-of c) ≡ sheet-records
 counted c = sym (ap reported (c .before .a .given .1)) ∙ c .before .before .before .before .page .ensures .0
 
 -- the counted records lie in its buffer,
-within : (c : tie.After-known-told) → 4 * count-of c ≤ report-sheet
+within : (c : tie.After-known-told) → sheet-width * count-of c ≤ report-sheet
 within c = count-within (answer (start c)) (count-of c) report-sheet (counted c) (fits (start c))
 
-in-page : (c : tie.After-known-told) → 4 * count-of c ≤ length (page-of c)
+in-page : (c : tie.After-known-told) → sheet-width * count-of c ≤ length (page-of c)
 in-page c = omega (arith, within c)
 
 -- their lines are the sheet's,
-lines : (c : tie.After-known-told) → sheet-lines (take (4 * count-of c) (page-of c)) ≡ sheet-text (answer (start c))
+lines : (c : tie.After-known-told) → sheet-lines (take (sheet-width * count-of c) (page-of c)) ≡ sheet-text (answer (start c))
 lines c = counted-lines (answer (start c)) (count-of c) _ (page-of c) (counted c) (c .before .before .before .before .page .ensures .1)
 
 -- and there is room for them
-lines-length : (c : tie.After-known-told) → length (sheet-lines (take (4 * count-of c) (page-of c))) ≤ value-room
+lines-length : (c : tie.After-known-told) → length (sheet-lines (take (sheet-width * count-of c) (page-of c))) ≤ value-room
 lines-length c = omega (arith, ap length (lines c), sheet-room (answer (start c)) (fits (start c)))
 
 mul-bytes : tie.Need-mul-bytes
@@ -81,7 +81,7 @@ array-share-prefix-sheet : tie.Need-array-share-prefix-sheet
 array-share-prefix-sheet c = in-page c
 
 slice-aggregate-sheet-lines : tie.Need-slice-aggregate-sheet-lines
-slice-aggregate-sheet-lines c = sym (length-take-le (4 * count-of (c .before)) (page-of (c .before)) (in-page (c .before)))
+slice-aggregate-sheet-lines c = sym (length-take-le (sheet-width * count-of (c .before)) (page-of (c .before)) (in-page (c .before)))
 
 sheet-lines-requires : tie.Need-sheet-lines-requires
 sheet-lines-requires c κs = omega (arith, lines-length (c .before .before), start (c .before .before) .pre)
