@@ -11,6 +11,7 @@ use lib.Bits.{bitAnd, and-lt}
 use lib.Pow.{shr-lt, pow-pos}
 use lib.Count.{trailingZeros, trailing-le}
 use Rattle.rules.specs.Answer.{Bytes, first-below, all-below, _⇒_}
+use Rattle.rules.specs.Limits.{group-limit}
 use Rattle.rules.specs.Groups.{row, bit, common, within, is-number, row-of-lowest}
 use Rattle.rules.proofs.Search.{all-below-true, all-below-all}
 use Rattle.rules.proofs.Asked.{implied}
@@ -47,9 +48,9 @@ all-same : (n : ℕ) (ok : ℕ → Bool) (b : Bool)
 all-same n ok b f g = same b (all-below ok n) (λ e. all-below-true n ok (f e)) (λ e. g (all-below-all n ok e))
 
 -- question 3 of a word: nothing is left above its n lowest bits
-pub bits-below : (w n : ℕ) → w < 2 ^ 32 → n ≤ 32 → eqb (w / 2 ^ n) 0 ≡ all-below (λ h. bit w h ⇒ ltb h n) 32
+pub bits-below : (w n : ℕ) → w < 2 ^ 32 → n ≤ group-limit → eqb (w / 2 ^ n) 0 ≡ all-below (λ h. bit w h ⇒ ltb h n) group-limit
 bits-below w n l m =
-    all-same 32 (λ h. bit w h ⇒ ltb h n) _ (λ e k a. implies _ _ (clear (eqb-true _ _ e) k)) (λ f. eq-eqb _ _ (zero-above f))
+    all-same group-limit (λ h. bit w h ⇒ ltb h n) _ (λ e k a. implies _ _ (clear (eqb-true _ _ e) k)) (λ f. eq-eqb _ _ (zero-above f))
   where
     above : (k : ℕ) → n ≤ k → bit (w / 2 ^ n) (k - n) ≡ bit w k
     above k a = bit-shr w n (k - n) ∙ ap (bit w) (omega arith)
@@ -61,7 +62,7 @@ bits-below w n l m =
         go true d = refl
         go false d = sym (bit-of-zero (k - n)) ∙ ap (λ (x : ℕ). bit x (k - n)) (sym e) ∙ above k (ltb-false k n d) ∙ h
 
-    zero-above : ((k : ℕ) → k < 32 → (bit w k ⇒ ltb k n) ≡ true) → w / 2 ^ n ≡ 0
+    zero-above : ((k : ℕ) → k < group-limit → (bit w k ⇒ ltb k n) ≡ true) → w / 2 ^ n ≡ 0
     zero-above f =
         bits-same (32 - n) (w / 2 ^ n) 0 (shr-lt (32 - n) n (rw width l)) (pow-pos (32 - n))
         (λ i a. bit-shr w n i ∙ off (n + i) (omega arith) (omega arith) ∙ sym (bit-of-zero i))
@@ -69,35 +70,35 @@ bits-below w n l m =
         width : (32 - n) + n ≡ 32
         width = omega arith
 
-        off : (k : ℕ) → n ≤ k → k < 32 → bit w k ≡ false
+        off : (k : ℕ) → n ≤ k → k < group-limit → bit w k ≡ false
         off k a b = no-implied _ (rw (le-ltb k n a) at (f k b))
 
 -- question 4 of a word
-pub lowest-is : (w g : ℕ) → g < 32 → eqb (trailingZeros 32 w) g ≡ is-number (first-below (bit w) 32) g
+pub lowest-is : (w g : ℕ) → g < group-limit → eqb (trailingZeros 32 w) g ≡ is-number (first-below (bit w) group-limit) g
 lowest-is w g l =
     elim (ℕ-discrete (trailingZeros 32 w) 32) [
       | yes e ↦ ne-eqb _ _ (λ (d : trailingZeros 32 w ≡ g). omega arith) ∙ sym (number (lowest-none (bit w) w (λ k. refl) (omega arith)))
       | no ne ↦ sym (number (lowest-some (bit w) w (λ k. refl) (omega (arith, trailing-le 32 w))))
     ]
   where
-    number : {o : Option ℕ} → first-below (bit w) 32 ≡ o → is-number (first-below (bit w) 32) g ≡ is-number o g
+    number : {o : Option ℕ} → first-below (bit w) group-limit ≡ o → is-number (first-below (bit w) group-limit) g ≡ is-number o g
     number e = ap (λ (o : Option ℕ). is-number o g) e
 
 -- question 5 of two words: the first is within the second
 pub within-word : (v w : ℕ) → v < 2 ^ 32 → w < 2 ^ 32 → eqb (bitAnd v w) v ≡ within v w
-within-word v w l m = all-same 32 (λ k. bit v k ⇒ bit w k) _ (λ e k a. implies _ _ (have k (eqb-true _ _ e))) (λ f. eq-eqb _ _ (kept f))
+within-word v w l m = all-same group-limit (λ k. bit v k ⇒ bit w k) _ (λ e k a. implies _ _ (have k (eqb-true _ _ e))) (λ f. eq-eqb _ _ (kept f))
   where
     have : (k : ℕ) → bitAnd v w ≡ v → bit v k ≡ true → bit w k ≡ true
     have k e = both-second _ _ (sym (bit-and v w k) ∙ ap (λ (n : ℕ). bit n k) e)
 
-    kept : ((k : ℕ) → k < 32 → (bit v k ⇒ bit w k) ≡ true) → bitAnd v w ≡ v
+    kept : ((k : ℕ) → k < group-limit → (bit v k ⇒ bit w k) ≡ true) → bitAnd v w ≡ v
     kept f = bits-same 32 _ _ (and-lt 32 v w l m) l (λ k a. bit-and v w k ∙ both-first _ _ (implied _ _ (f k a)))
 
 -- a word has exactly the bits that a test gives
 equal-word : (set : ℕ → Bool) (w z : ℕ) → ((k : ℕ) → set k ≡ bit w k) → w < 2 ^ 32 → z < 2 ^ 32
-    → eqb z w ≡ all-below (λ k. Bool·beq (set k) (bit z k)) 32
+    → eqb z w ≡ all-below (λ k. Bool·beq (set k) (bit z k)) group-limit
 equal-word set w z is l m =
-    all-same 32 (λ k. Bool·beq (set k) (bit z k)) _ (λ e k a. agree k (eqb-true _ _ e))
+    all-same group-limit (λ k. Bool·beq (set k) (bit z k)) _ (λ e k a. agree k (eqb-true _ _ e))
     (λ f. eq-eqb _ _ (bits-same 32 z w m l (λ k a. sym (same-bits _ _ (f k a)) ∙ is k)))
   where
     agree : (k : ℕ) → z ≡ w → Bool·beq (set k) (bit z k) ≡ true
@@ -129,5 +130,5 @@ module _ (t : Bytes) (g h x y : ℕ) (ex : x ≡ row t g) (ey : y ≡ row t h) w
       → z < 2 ^ 32 → eqb z (bitAnd x y) ≡ pair6 t g h
   common-row lx ly ne z ez lz =
       equal-word (common t g h) (bitAnd x y) z (common-word t g h x y ex ey) (and-lt 32 x y lx ly) lz
-      ∙ ap (λ (n : ℕ). all-below (λ k. Bool·beq (common t g h k) (bit n k)) 32) ez
+      ∙ ap (λ (n : ℕ). all-below (λ k. Bool·beq (common t g h k) (bit n k)) group-limit) ez
       ∙ sym (ap (row-of-lowest t (common t g h)) (common-some t g h x y ex ey lx ly ne))

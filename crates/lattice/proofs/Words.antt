@@ -11,6 +11,7 @@ use lib.Bits.{bitAnd, and-lt}
 use lib.Pow.{pow-mono}
 use lib.Count.{trailingZeros, trailing-of-zero}
 use Rattle.rules.specs.Answer.{Bytes, first-below}
+use Rattle.rules.specs.Limits.{row-width, group-limit}
 use Rattle.rules.specs.Groups.{rows, row, bit, common, join, or-zero}
 use Rattle.rules.proofs.Search.{from-none, from-some}
 use Rattle.lattice.proofs.Bits.{bit-and, trailing-set, trailing-clear, trailing-lt}
@@ -20,10 +21,10 @@ pub row-past : (t : Bytes) (g : ℕ) → rows t < g → 0 ≡ row t g
 row-past t g l =
     omega (
       arith,
-      List·getD-eq-default t 0 {n = 4 * g} (omega arith),
-      List·getD-eq-default t 0 {n = 4 * g + 1} (omega arith),
-      List·getD-eq-default t 0 {n = 4 * g + 2} (omega arith),
-      List·getD-eq-default t 0 {n = 4 * g + 3} (omega arith),
+      List·getD-eq-default t 0 {n = row-width * g} (omega arith),
+      List·getD-eq-default t 0 {n = row-width * g + 1} (omega arith),
+      List·getD-eq-default t 0 {n = row-width * g + 2} (omega arith),
+      List·getD-eq-default t 0 {n = row-width * g + 3} (omega arith),
     )
 
 -- a word has 32 bits
@@ -35,15 +36,15 @@ bit-of-zero k = ap (λ (n : ℕ). eqb (n % 2) 1) (zero-div (2 ^ k))
 
 -- the lowest of the bits that a test gives, where they are those of a word
 module _ (test : ℕ → Bool) (w : ℕ) (is : (k : ℕ) → test k ≡ bit w k) where
-  pub lowest-some : trailingZeros 32 w < 32 → first-below test 32 ≡ some (trailingZeros 32 w)
+  pub lowest-some : trailingZeros 32 w < 32 → first-below test group-limit ≡ some (trailingZeros 32 w)
   lowest-some l =
       from-some test 32 0 (trailingZeros 32 w) (omega arith) (omega arith) (λ k a b. is k ∙ trailing-clear 32 w k b)
       (is (trailingZeros 32 w) ∙ trailing-set 32 w l)
 
-  pub lowest-none : 32 ≤ trailingZeros 32 w → first-below test 32 ≡ none
+  pub lowest-none : 32 ≤ trailingZeros 32 w → first-below test group-limit ≡ none
   lowest-none l = from-none test 32 0 (λ k a b. is k ∙ trailing-clear 32 w k (omega arith))
 
-  pub lowest-zero : w ≡ 0 → first-below test 32 ≡ none
+  pub lowest-zero : w ≡ 0 → first-below test group-limit ≡ none
   lowest-zero e = lowest-none (omega (arith, ap (trailingZeros 32) e, trailing-of-zero 32))
 
 -- rows g and h of a table, as words
@@ -56,7 +57,7 @@ module _ (t : Bytes) (g h x y : ℕ) (ex : x ≡ row t g) (ey : y ≡ row t h) w
   join-none e = sym (ap or-zero (lowest-zero (common t g h) (bitAnd x y) common-word e))
 
   module _ (lx : x < 2 ^ 32) (ly : y < 2 ^ 32) (ne : bitAnd x y ≡ 0 → ⊥) where
-    pub common-some : first-below (common t g h) 32 ≡ some (trailingZeros 32 (bitAnd x y))
+    pub common-some : first-below (common t g h) group-limit ≡ some (trailingZeros 32 (bitAnd x y))
     common-some = lowest-some (common t g h) (bitAnd x y) common-word (trailing-lt 32 (bitAnd x y) (and-lt 32 x y lx ly) ne)
 
     pub join-some : trailingZeros 32 (bitAnd x y) ≡ join t g h

@@ -9,6 +9,7 @@ use lib.Seq.{take-all, drop-at, drop-drop}
 use Rattle.calculus.specs.Security.{Security}
 use Rattle.calculus.specs.Types.{Ty, one, node, top, raiseT, sizeT}
 use Rattle.rules.specs.Answer.{Bytes, byte}
+use Rattle.rules.specs.Limits.{type-width}
 use Rattle.rules.specs.Types.{encode-type}
 use Rattle.rules.proofs.PrefixLaws.{encode-length, size-positive, unique}
 use Rattle.rules.proofs.TypeCode.{type-code, type-prefix}
@@ -18,7 +19,7 @@ use Rattle.types.specs.Held.{Held, Starts, Sided, Counted, kind-of, left
 pub to-end : (a : ℕ) (s : Bytes) → take (length s - a) (drop a s) ≡ drop a s
 to-end a s = take-all (length s - a) (drop a s) (simp length-drop (omega arith))
 
-pub type-length : (t : Ty) → length (encode-type t) ≡ 4 * sizeT t
+pub type-length : (t : Ty) → length (encode-type t) ≡ type-width * sizeT t
 type-length t = encode-length type-code t
 
 pub type-positive : (t : Ty) → 1 ≤ sizeT t
@@ -46,13 +47,13 @@ pub first : (a b c : Bool) → a ≡ false → false ≡ a && (b && c)
 first a b c p = rw p
 
 module _ {s : Bytes} where
-  pub held-length : {t : Ty} (h : Held s t) → length s ≡ 4 * sizeT t + length (h .rest)
+  pub held-length : {t : Ty} (h : Held s t) → length s ≡ type-width * sizeT t + length (h .rest)
   held-length {t} h = ap length (h .is) ∙ length-append (encode-type t) (h .rest) ∙ omega (arith, type-length t)
 
-  pub long : {t : Ty} → Held s t → 4 ≤ length s
+  pub long : {t : Ty} → Held s t → type-width ≤ length s
   long {t} h = omega (arith, held-length h, type-positive t)
 
-  pub starts-long : Starts s → 4 ≤ length s
+  pub starts-long : Starts s → type-width ≤ length s
   starts-long w = long (w .held)
 
   pub kind-is : (t : Ty) → Held s t → byte s 0 ≡ kind-of t
@@ -70,23 +71,23 @@ module _ {s : Bytes} where
   indirect-is (one k) h = ap (λ l. byte l 2) (h .is)
   indirect-is (node f k a b) h = ap (λ l. byte l 2) (h .is)
 
-  pub left-held : (t : Ty) → (kind-of t ≡ 0 → ⊥) → Held s t → Held (drop 4 s) (left-of t)
+  pub left-held : (t : Ty) → (kind-of t ≡ 0 → ⊥) → Held s t → Held (drop type-width s) (left-of t)
   unfolding encode-type
   left-held (one k) two h = absurd (two refl)
   left-held (node f k a b) two h =
-      record { rest = encode-type b ++ h .rest; is = ap (drop 4) (h .is) ∙ append-assoc (encode-type a) (encode-type b) (h .rest) }
+      record { rest = encode-type b ++ h .rest; is = ap (drop type-width) (h .is) ∙ append-assoc (encode-type a) (encode-type b) (h .rest) }
 
-  pub right-held : (t : Ty) (n : ℕ) → (kind-of t ≡ 0 → ⊥) → n ≡ sizeT (left-of t) → Held s t → Held (drop (4 + 4 * n) s) (right-of t)
+  pub right-held : (t : Ty) (n : ℕ) → (kind-of t ≡ 0 → ⊥) → n ≡ sizeT (left-of t) → Held s t → Held (drop (type-width + type-width * n) s) (right-of t)
   unfolding encode-type
   right-held (one k) n two e h = absurd (two refl)
   right-held (node f k a b) n two e h =
       record {
         rest = h .rest;
-        is = sym (drop-drop (4 * n) 4 s) ∙ ap (drop (4 * n)) (ap (drop 4) (h .is) ∙ append-assoc (encode-type a) (encode-type b) (h .rest))
-            ∙ drop-at (encode-type a) (encode-type b ++ h .rest) (4 * n) (omega (arith, type-length a));
+        is = sym (drop-drop (type-width * n) type-width s) ∙ ap (drop (type-width * n)) (ap (drop type-width) (h .is) ∙ append-assoc (encode-type a) (encode-type b) (h .rest))
+            ∙ drop-at (encode-type a) (encode-type b ++ h .rest) (type-width * n) (omega (arith, type-length a));
       }
 
-  pub right-fits : (t : Ty) (n : ℕ) → (kind-of t ≡ 0 → ⊥) → n ≡ sizeT (left-of t) → Held s t → 8 + 4 * n ≤ length s
+  pub right-fits : (t : Ty) (n : ℕ) → (kind-of t ≡ 0 → ⊥) → n ≡ sizeT (left-of t) → Held s t → 2 * type-width + type-width * n ≤ length s
   unfolding sizeT
   right-fits (one k) n two e h = absurd (two refl)
   right-fits (node f k a b) n two e h = omega (arith, held-length h, type-positive b)
@@ -98,14 +99,14 @@ module _ {s : Bytes} where
   pub two-of : (w : Sided s) (t : Ty) → Held s t → kind-of t ≡ 0 → ⊥
   two-of w t h e = w .two (ap kind-of (same-type (w .held) h) ∙ e)
 
-  pub sided-left : Sided s → (t : Ty) → Held s t → Held (drop 4 s) (left-of t)
+  pub sided-left : Sided s → (t : Ty) → Held s t → Held (drop type-width s) (left-of t)
   sided-left w t h = left-held t (two-of w t h) h
 
-  pub counted-right : {n : ℕ} → Counted s n → (t : Ty) → Held s t → Held (drop (4 + 4 * n) s) (right-of t)
+  pub counted-right : {n : ℕ} → Counted s n → (t : Ty) → Held s t → Held (drop (type-width + type-width * n) s) (right-of t)
   counted-right {n} w t h =
       right-held t n (λ e. w .two (ap kind-of (same-type (w .held) h) ∙ e)) (w .count ∙ ap (λ u. sizeT (left-of u)) (same-type (w .held) h)) h
 
-  pub counted-fits : {n : ℕ} → Counted s n → 8 + 4 * n ≤ length s
+  pub counted-fits : {n : ℕ} → Counted s n → 2 * type-width + type-width * n ≤ length s
   counted-fits {n} w = right-fits (w .type) n (w .two) (w .count) (w .held)
 
   -- the first record with r and ir joined in

@@ -13,6 +13,13 @@ ghost use Rattle.types.specs.Held.{Held, Starts, Sided, Counted, kind-of
 
 pub const TYPE_WIDTH: usize = 4;
 
+// Where r, ir and the byte that is 0 stand in a record, after its kind.
+pub const R: usize = 1;
+
+pub const IR: usize = 2;
+
+pub const ZERO: usize = 3;
+
 pub const TYPE_LIMIT: usize = 63;
 
 pub const UNIT: u8 = 0;
@@ -42,14 +49,14 @@ pub fn reader_at(types: &[u8], i: usize) -> Reader
     requires { ⌜ i < type-count (now types) ⌝ }
     ensures { λ a. ⌜ a .0 ≡ type-r (now (types .entry)) i ⌝ }
 {
-    Reader(types[TYPE_WIDTH * i + 1])
+    Reader(types[TYPE_WIDTH * i + R])
 }
 
 pub fn indirect_at(types: &[u8], i: usize) -> Indirect
     requires { ⌜ i < type-count (now types) ⌝ }
     ensures { λ a. ⌜ a .0 ≡ type-ir (now (types .entry)) i ⌝ }
 {
-    Indirect(types[TYPE_WIDTH * i + 2])
+    Indirect(types[TYPE_WIDTH * i + IR])
 }
 
 // How many sides a kind is followed by.
@@ -135,6 +142,6 @@ pub fn raise(groups: &[u8], s: &mut [u8], by: Indirect)
 {
     let r = reader(s).joined(groups, by);
     let ir = indirect(s).joined(groups, by);
-    s[1] = r.0;
-    s[2] = ir.0;
+    s[R] = r.0;
+    s[IR] = ir.0;
 }

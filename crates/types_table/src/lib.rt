@@ -41,7 +41,7 @@ fn well_formed(n: usize, types: &[u8], i: usize) -> bool
     ensures { λ a. ⌜ a ≡ ok9 n (now (types .entry)) i ⌝ }
 {
     types::kind_at(types, i) <= FUNCTION
-        && (types[TYPE_WIDTH * i + 3] == 0
+        && (types[TYPE_WIDTH * i + types::ZERO] == 0
             && (wide(types::reader_at(types, i).0) < n && wide(types::indirect_at(types, i).0) < n))
 }
 

@@ -4,6 +4,7 @@ use Prim.Native.Nat.{ℕ}
 use native.Mathlib.Omega.{arith}
 use lib.Count.{trailing-le}
 use Rattle.rules.specs.Answer.{first-from, first-below}
+use Rattle.rules.specs.Limits.{group-limit}
 use Rattle.rules.specs.Groups.{bit, is-number, ok4}
 use Rattle.groups_table.proofs.Rows.{lowest-is}
 use borrow.Author.Needs.{needs}
@@ -20,7 +21,7 @@ returns : tie.Need-returns
 unfolding ok4 first-from
 returns c =
     let s = c .before .before in
-    lowest-is _ _ (s .pre) ∙ ap (λ (w : ℕ). is-number (first-below (bit w) 32) (s .args .g)) (c .row .ensures)
+    lowest-is _ _ (s .pre) ∙ ap (λ (w : ℕ). is-number (first-below (bit w) group-limit) (s .args .g)) (c .row .ensures)
 
 pub lowest-is-own-spec : {M : Type 1} → statement M
 lowest-is-own-spec = tie.close (tie.spec row-requires cast-result returns)

@@ -6,6 +6,7 @@ use native.Mathlib.Omega.{arith}
 use borrow.Author.Count.{below-more}
 use borrow.Author.Needs.{needs}
 use Rattle.rules.specs.Answer.{first-from}
+use Rattle.rules.specs.Limits.{group-limit}
 use Rattle.rules.specs.Groups.{ok5}
 use Rattle.rules.proofs.Search.{all-below-true, all-below-false}
 use Rattle.groups_table.specs.Pairs.{pair5}
@@ -14,10 +15,10 @@ use Rattle.groups_table.proofs.transitive.Statement.{statement}
 use Rattle.groups_table.proofs.transitive.Tie as tie
 
 abbrev Inv-loop : tie.InvT-loop
-Inv-loop groups g above₀ above = (above ≤ 32) × ((k : ℕ) → k < above → pair5 groups g k ≡ true)
+Inv-loop groups g above₀ above = (above ≤ group-limit) × ((k : ℕ) → k < above → pair5 groups g k ≡ true)
 
 abbrev μ-loop : tie.MeasureT-loop
-μ-loop groups g above₀ above = 32 - above
+μ-loop groups g above₀ above = group-limit - above
 
 loop-holds : tie.Need-loop-holds Inv-loop μ-loop
 loop-holds c = (omega arith, λ k l. absurd (omega arith))
@@ -30,7 +31,7 @@ unfolding ok5 first-from
 returns c =
     let s = c .before .before .before .before .before in
     sym
-    (all-below-false 32 (pair5 (s .args .groups .now) (s .args .g)) _ (omega arith) (c .before .before .before .loop .inv .1)
+    (all-below-false group-limit (pair5 (s .args .groups .now) (s .args .g)) _ (omega arith) (c .before .before .before .loop .inv .1)
     (failed _ _ (c .before .transitive-through .ensures) (c .if1 .taken)))
 
 add-above : tie.Need-add-above Inv-loop μ-loop
@@ -49,7 +50,7 @@ returns-2 : tie.Need-returns-2 Inv-loop μ-loop
 unfolding ok5 first-from
 returns-2 c =
     let s = c .before .before .before in
-    sym (all-below-true 32 (pair5 (s .args .groups .now) (s .args .g)) (λ k l. c .before .loop .inv .1 k (omega arith)))
+    sym (all-below-true group-limit (pair5 (s .args .groups .now) (s .args .g)) (λ k l. c .before .loop .inv .1 k (omega arith)))
 
 pub transitive-spec : {M : Type 1} → statement M
 transitive-spec =

@@ -6,6 +6,7 @@ use native.Mathlib.Omega.{arith}
 use lib.ListN.{drop}
 use Rattle.calculus.specs.Subtyping.{subtype, below}
 use Rattle.rules.specs.Answer.{Bytes, Answer, accepted}
+use Rattle.rules.specs.Limits.{type-width}
 use Rattle.rules.specs.Groups.{readers}
 use Rattle.rules.specs.Types.{type-count, type-at}
 use Rattle.rules.specs.Calls.{types-check, at-or-below}
@@ -45,13 +46,13 @@ abbrev start-25 : tie.Else2 → tie.Start
 start-25 c = start (c .before .before .before)
 
 held : (c : tie.Else2) (i : ℕ) → i < type-count (types-of (start-25 c))
-    → Held (drop (4 * i) (types-of (start-25 c))) (type-at (types-of (start-25 c)) i)
+    → Held (drop (type-width * i) (types-of (start-25 c))) (type-at (types-of (start-25 c)) i)
 held c i l = type-held (groups-of (start-25 c)) (types-of (start-25 c)) (yes (c .before .before .before)) i l
 
-held-i : (c : tie.Else2) → Held (drop (4 * start-25 c .args .i) (types-of (start-25 c))) (type-at (types-of (start-25 c)) (start-25 c .args .i))
+held-i : (c : tie.Else2) → Held (drop (type-width * start-25 c .args .i) (types-of (start-25 c))) (type-at (types-of (start-25 c)) (start-25 c .args .i))
 held-i c = held c (start-25 c .args .i) (omega arith)
 
-held-j : (c : tie.Else2) → Held (drop (4 * start-25 c .args .j) (types-of (start-25 c))) (type-at (types-of (start-25 c)) (start-25 c .args .j))
+held-j : (c : tie.Else2) → Held (drop (type-width * start-25 c .args .j) (types-of (start-25 c))) (type-at (types-of (start-25 c)) (start-25 c .args .j))
 held-j c = held c (start-25 c .args .j) (omega arith)
 
 types-check-requires : tie.Need-types-check-requires
