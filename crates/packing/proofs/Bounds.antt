@@ -1,4 +1,4 @@
--- Every call's refusal has a question from 1 to 27 and a place of at most 8,192, and what it gives has its bound too: all of it
+-- Every call's refusal has a question of the document and a place of at most 8,192, and what it gives has its bound too: all of it
 -- fits the exported number. Assumes nothing.
 use mathlib.Core.Path.{_≡_, refl}
 use mathlib.Core.Bool.{Bool, true, false, not, _&&_}
@@ -10,7 +10,7 @@ use lib.Dec.{eqb, leb, ltb}
 use lib.ListN.{length, getD}
 use Rattle.calculus.specs.Terms.{is-value}
 use Rattle.rules.specs.Answer.{Bytes, Octets, Answer, accepted, refused, _>>=_, _>>_, ask, first-from, refused-at, each, all-below}
-use Rattle.rules.specs.Limits.{row-width, type-width, script-width, group-limit, table-limit, script-limit, work-length, answer-length}
+use Rattle.rules.specs.Limits.{row-width, type-width, script-width, group-limit, table-limit, script-limit, last-question, work-length, answer-length}
 use Rattle.rules.specs.Groups.{rows, readers, ok3, ok4, ok5, ok6, ok7, q2, q3, q4, q5, q6}
 use Rattle.rules.specs.Types.{type-count, type-at, ok9, ok10, ok11, ok12, q8, q9, q10, q11}
 use Rattle.rules.specs.Script.{records, arity, kind, term, size, depths, binders, term-end, exactly, ok14, ok15, ok16, ok18, ok19, q13, q14, q15, q16, q17, q18}
@@ -28,11 +28,11 @@ then : {B : Type 0} (a : Answer (Unit {0})) (b : Answer B) → Bounded a → (a 
 then (accepted tt) b x f = f refl
 then (refused q p) b (bounded-no l m n) f = bounded-no l m n
 
-ask-bounded : (q p : ℕ) (b : Bool) → 1 ≤ q → q ≤ 27 → p ≤ script-limit → Bounded (ask q p b)
+ask-bounded : (q p : ℕ) (b : Bool) → 1 ≤ q → q ≤ last-question → p ≤ script-limit → Bounded (ask q p b)
 ask-bounded q p true l m n = bounded-yes
 ask-bounded q p false l m n = bounded-no l m n
 
-from-bounded : (q : ℕ) (test : ℕ → Bool) (n i : ℕ) → 1 ≤ q → q ≤ 27 → i + n ≤ script-limit → Bounded (refused-at q (first-from test n i))
+from-bounded : (q : ℕ) (test : ℕ → Bool) (n i : ℕ) → 1 ≤ q → q ≤ last-question → i + n ≤ script-limit → Bounded (refused-at q (first-from test n i))
 unfolding first-from
 from-bounded q test zero i l m b = bounded-yes
 from-bounded q test (suc n) i l m b = go (test i) refl (from-bounded q test n (suc i) l m (omega arith))
@@ -41,7 +41,7 @@ from-bounded q test (suc n) i l m b = go (test i) refl (from-bounded q test n (s
     go true e ih = rw (e, first-from) (bounded-no {p = i} l m (omega arith))
     go false e ih = rw (e, first-from) ih
 
-each-bounded : (q n : ℕ) (ok : ℕ → Bool) → 1 ≤ q → q ≤ 27 → n ≤ script-limit → Bounded (each q n ok)
+each-bounded : (q n : ℕ) (ok : ℕ → Bool) → 1 ≤ q → q ≤ last-question → n ≤ script-limit → Bounded (each q n ok)
 each-bounded q n ok l m b = from-bounded q (λ i. not (ok i)) n 0 l m (omega arith)
 
 exactly-bounded : (n : ℕ) (o : Option ℕ) → n ≤ script-limit → ((e : ℕ) → o ≡ some e → e ≤ n) → Bounded (exactly n o)
@@ -49,7 +49,7 @@ exactly-bounded n none b f = bounded-no {q = 17} (omega arith) (omega arith) b
 exactly-bounded n (some e) b f = ask-bounded 17 e (eqb e n) (omega arith) (omega arith) (omega (arith, f e refl))
 
 -- a question whose place is 0
-front : (q : ℕ) (b : Bool) → 1 ≤ q → q ≤ 27 → Bounded (ask q 0 b)
+front : (q : ℕ) (b : Bool) → 1 ≤ q → q ≤ last-question → Bounded (ask q 0 b)
 front q b l m = ask-bounded q 0 b l m (omega arith)
 
 at-13 : (rooms : List ℕ) (s : Bytes) → Bounded (q13 rooms s)

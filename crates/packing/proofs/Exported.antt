@@ -8,20 +8,21 @@ use borrow.Author.Tests.{leb-true}
 use lib.ListN.{length}
 use Rattle.calculus.specs.Types.{Ty, sizeT, type-limit}
 use Rattle.rules.specs.Answer.{Bytes, Octets, Answer, accepted, refused}
-use Rattle.rules.specs.Limits.{script-limit}
+use Rattle.rules.specs.Limits.{sheet-width, script-limit}
 use Rattle.rules.specs.Groups.{rows, readers}
 use Rattle.rules.specs.Types.{type-at}
 use Rattle.rules.specs.Script.{records, term, size, q13}
-use Rattle.rules.specs.Step.{End, at-value, moves, may-not, wrong-kind, too-big, end-count, step-in}
+use Rattle.rules.specs.Step.{End, at-value, moves, may-not, wrong-kind, too-big, end-number, end-count, step-in}
 use Rattle.rules.proofs.ScriptLength.{q13-fitting}
 use Rattle.rules.specs.Typing.{typing}
 use Rattle.rules.specs.Sheet.{sheet}
 use Rattle.rules.specs.Run.{Ran}
-use Rattle.rules.specs.Calls.{q1, q25, q26, q27, types-check, script-check, checking, type-records, stepping, running, run-report, sheeting, sheet-records}
+use Rattle.rules.specs.Calls.{q1, q25, q26, q27, types-check, script-check, checking, type-records, stepping, step-report, running, run-report, sheeting, sheet-records}
 use Rattle.demands.proofs.Answers.{accepted-inj}
 use Rattle.rules.proofs.Asked.{and-then}
 use Rattle.demands.proofs.TypesTable.{tables}
-use Rattle.packing.specs.Packed.{half, passed, yes-or-no, ended, run-ended, Bounded, bounded-yes, bounded-no, Counted, counted-yes, counted-no, Holds, holds-yes, holds-no}
+use Rattle.packing.specs.Packed.{half, packed, passed, yes-or-no, ended, step-ended, run-ended, Bounded, bounded-yes, bounded-no, Counted, counted-yes, counted-no, Holds, holds-yes, holds-no}
+use Rattle.packing.proofs.Unpacked.{Reads, unended}
 use Rattle.packing.proofs.Bounds.{check-bounded, run-bounded, page-bounded, script-small}
 use Rattle.packing.proofs.Sizes.{Small, small-yes, small-no, no-binders, typing-small, Within, within-move, step-within, Ends, run-within, sheet-length}
 
@@ -76,7 +77,7 @@ page-holds g t s group room o = go (sheeting g t s group room) refl (page-bounde
         let e2 = and-then (q25 0 group (rows g)) _ (e1 .1) .1 in
         let e3 = and-then (q26 (term s)) _ e2 .1 in
         let e4 = and-then (q27 (sheet g group (term s)) room) _ e3 .1 in
-        holds-yes {n = length b / 4}
+        holds-yes {n = length b / sheet-width}
         (omega (arith, ap length (accepted-inj e4), sheet-length g group (term s), script-small [] g t s o (e1 .0)))
     go (refused q p) e (bounded-no l m n) = holds-no {q = q} {p = p} l m (omega arith)
 
@@ -113,6 +114,16 @@ step-count g t s room x e =
     let e13 = and-then (q13 [] s) _ (and-then (types-check g t) _ (e1 .0) .1) .0 in
     subst (λ (y : End). end-count (records s) y ≤ script-limit) (accepted-inj (e1 .1))
     (count-small (records s) (step-in (readers g) (type-at t) room (term s)) (q13-fitting [] s e13 .limited) (step-within (readers g) (type-at t) room (term s)))
+
+-- What a caller reads off an accepted run's and an accepted step's number is its end and its record count.
+pub run-read : (g t s : Bytes) (budget first scratch : ℕ) (x : Ran) → Octets s → running g t s budget first scratch ≡ accepted x
+    → Reads (packed (run-ended (run-report (accepted x)))) (x .end) (size (x .last))
+unfolding run-report
+run-read g t s budget first scratch x o e = unended (x .end) (size (x .last)) (run-ends g t s budget first scratch x o e .last)
+
+pub step-read : (g t s : Bytes) (room : ℕ) (x : End) → stepping g t s room ≡ accepted x
+    → Reads (packed (step-ended (step-report s (accepted x)))) (end-number x) (end-count (records s) x)
+step-read g t s room x e = unended (end-number x) (end-count (records s) x) (step-count g t s room x e)
 
 pub place-fits : {A : Type 0} (q p : ℕ) → Bounded {A = A} (refused q p) → p < half
 place-fits q p (bounded-no l m n) = omega arith

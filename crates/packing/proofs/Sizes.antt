@@ -13,7 +13,7 @@ use Rattle.calculus.specs.Terms.{Side, first, second, choose, Term, var, unit, 
 use Rattle.calculus.specs.Reduction.{Outcome, value, moved, denied, stuck, step}
 use Rattle.calculus.proofs.Raising.{raise-size}
 use Rattle.rules.specs.Answer.{Bytes, Answer, accepted, refused, _>>=_, _>>_, ask}
-use Rattle.rules.specs.Limits.{script-limit}
+use Rattle.rules.specs.Limits.{sheet-width, script-limit}
 use Rattle.rules.specs.Groups.{leq}
 use Rattle.rules.specs.Types.{no-type}
 use Rattle.rules.specs.Script.{size}
@@ -186,14 +186,14 @@ module _ (S : Security) (tab : ℕ → Ty) (room : ℕ) where
 
 -- ---- sheets
 
-record-length : (t : Bytes) (g kind : ℕ) (k : Property) → length (sheet-record t g kind k) ≡ 4
+record-length : (t : Bytes) (g kind : ℕ) (k : Property) → length (sheet-record t g kind k) ≡ sheet-width
 record-length t g kind k = go (leq t (k .r) g)
   where
-    go : (b : Bool) → length (cond b (kind ∷ k .r ∷ k .ir ∷ 0 ∷ []) (5 ∷ 0 ∷ 0 ∷ 0 ∷ [])) ≡ 4
+    go : (b : Bool) → length (cond b (kind ∷ k .r ∷ k .ir ∷ 0 ∷ []) (5 ∷ 0 ∷ 0 ∷ 0 ∷ [])) ≡ sheet-width
     go true = refl
     go false = refl
 
-pub sheet-length : (t : Bytes) (g : ℕ) (e : Term) → length (sheet t g e) ≤ 4 * size e
+pub sheet-length : (t : Bytes) (g : ℕ) (e : Term) → length (sheet t g e) ≤ sheet-width * size e
 unfolding sheet size
 sheet-length t g (var n) = omega arith
 sheet-length t g (unit k) = omega (arith, record-length t g 0 k)

@@ -10,15 +10,15 @@ use lib.ListN.{length, take, drop, set, getD, length-append, length-set}
 use lib.Seq.{take-at, take-all, drop-cons, set-at}
 use Rattle.rules.specs.Answer.{Bytes}
 use Rattle.rules.specs.Calls.{fill-front}
-use Rattle.packing.specs.Packed.{low-bytes, steps-in}
+use Rattle.packing.specs.Packed.{low-bytes, steps-width, steps-in}
 
 -- the first i bytes are written, and those of `rest` are still to come
 pub record So-far (n : ℕ) (old : Bytes) (i rest : ℕ) (w : Bytes) : Type 0 where
   pub done : Bytes
   pub count : length done ≡ i
-  pub low : i ≤ 8
+  pub low : i ≤ steps-width
   pub inside : i ≤ length old
-  pub splits : low-bytes 8 n ≡ done ++ low-bytes (8 - i) rest
+  pub splits : low-bytes steps-width n ≡ done ++ low-bytes (steps-width - i) rest
   pub holds : w ≡ done ++ drop i old
   pub same : length w ≡ length old
 
@@ -38,16 +38,16 @@ stored done old i b e l =
     ∙ ap (λ (k : ℕ). done ++ (b ∷ drop k old)) n
     ∙ sym (append-assoc done (b ∷ []) (drop (i + 1) old))
 
-pub goes-on : {n i rest : ℕ} {old w : Bytes} → So-far n old i rest w → i < 8 → i < length old → So-far n old (i + 1) (rest / 256) (set w i (rest % 256))
+pub goes-on : {n i rest : ℕ} {old w : Bytes} → So-far n old i rest w → i < steps-width → i < length old → So-far n old (i + 1) (rest / 256) (set w i (rest % 256))
 goes-on {n} {i} {rest} {old} {w} x a b =
-    let m : 8 - i ≡ suc (8 - (i + 1)) = omega arith in
+    let m : steps-width - i ≡ suc (steps-width - (i + 1)) = omega arith in
     record {
       done = x .done ++ (rest % 256 ∷ []);
       count = omega (arith, length-append (x .done) (rest % 256 ∷ []), x .count);
       low = omega arith;
       inside = omega arith;
-      splits = x .splits ∙ ap (λ (k : ℕ). x .done ++ low-bytes k rest) m ∙ ap (λ (y : Bytes). x .done ++ y) (next-byte (8 - (i + 1)) rest)
-          ∙ sym (append-assoc (x .done) (rest % 256 ∷ []) (low-bytes (8 - (i + 1)) (rest / 256)));
+      splits = x .splits ∙ ap (λ (k : ℕ). x .done ++ low-bytes k rest) m ∙ ap (λ (y : Bytes). x .done ++ y) (next-byte (steps-width - (i + 1)) rest)
+          ∙ sym (append-assoc (x .done) (rest % 256 ∷ []) (low-bytes (steps-width - (i + 1)) (rest / 256)));
       holds = ap (λ (y : Bytes). set y i (rest % 256)) (x .holds) ∙ stored (x .done) old i (rest % 256) (x .count) b;
       same = simp length-set (x .same);
     }
@@ -57,18 +57,18 @@ unfolding low-bytes
 none-left rest = refl
 
 -- what is done is all that the slice has room for
-all-done : {n i rest : ℕ} {old w : Bytes} (x : So-far n old i rest w) → min (length old) 8 ≤ i → take (length old) (low-bytes 8 n) ≡ x .done
-all-done {n} {i} {rest} {old} {w} x l = ap (take (length old)) (x .splits) ∙ go (leb (length old) 8) refl
+all-done : {n i rest : ℕ} {old w : Bytes} (x : So-far n old i rest w) → min (length old) steps-width ≤ i → take (length old) (low-bytes steps-width n) ≡ x .done
+all-done {n} {i} {rest} {old} {w} x l = ap (take (length old)) (x .splits) ∙ go (leb (length old) steps-width) refl
   where
-    go : (b : Bool) → leb (length old) 8 ≡ b → take (length old) (x .done ++ low-bytes (8 - i) rest) ≡ x .done
-    go true e = take-at (x .done) (low-bytes (8 - i) rest) (length old) (omega (arith, x .count, x .inside, leb-true (length old) 8 e))
+    go : (b : Bool) → leb (length old) steps-width ≡ b → take (length old) (x .done ++ low-bytes (steps-width - i) rest) ≡ x .done
+    go true e = take-at (x .done) (low-bytes (steps-width - i) rest) (length old) (omega (arith, x .count, x .inside, leb-true (length old) steps-width e))
     go false e =
-        let z : 8 - i ≡ 0 = omega (arith, leb-false (length old) 8 e) in
+        let z : steps-width - i ≡ 0 = omega (arith, leb-false (length old) steps-width e) in
         ap (λ (k : ℕ). take (length old) (x .done ++ low-bytes k rest)) z
         ∙ ap (λ (y : Bytes). take (length old) (x .done ++ y)) (none-left rest)
         ∙ ap (take (length old)) (append-nil (x .done))
         ∙ take-all (length old) (x .done) (omega (arith, x .count, x .inside))
 
 -- all that the slice has room for
-pub ends : {n i rest : ℕ} {old w : Bytes} → So-far n old i rest w → min (length old) 8 ≤ i → w ≡ steps-in n old
+pub ends : {n i rest : ℕ} {old w : Bytes} → So-far n old i rest w → min (length old) steps-width ≤ i → w ≡ steps-in n old
 ends {n} {i} {rest} {old} {w} x l = x .holds ∙ ap (λ (k : ℕ). x .done ++ drop k old) (sym (x .count)) ∙ ap (λ (b : Bytes). fill-front b old) (sym (all-done x l))

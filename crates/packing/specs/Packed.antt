@@ -5,7 +5,7 @@ use Prim.Native.Nat.{ℕ, zero, suc, _+_, _*_, _/_, _%_, _≤_, _<_}
 use lib.Dec.{eqb}
 use lib.ListN.{length, take}
 use Rattle.rules.specs.Answer.{Bytes, Answer, accepted, refused}
-use Rattle.rules.specs.Limits.{script-limit}
+use Rattle.rules.specs.Limits.{script-limit, last-question}
 use Rattle.rules.specs.Run.{Ran}
 use Rattle.rules.specs.Calls.{StepReport, Report, fill-front}
 
@@ -25,12 +25,12 @@ unpacked n = cond (eqb (n / half) 0) (accepted (n % half)) (refused (n / half) (
 -- an answer that one number holds
 pub data Holds : Answer ℕ → Type 0 where
   holds-yes : {n : ℕ} → n < half → Holds (accepted n)
-  holds-no : {q p : ℕ} → 1 ≤ q → q ≤ 27 → p < half → Holds (refused q p)
+  holds-no : {q p : ℕ} → 1 ≤ q → q ≤ last-question → p < half → Holds (refused q p)
 
 -- an answer whose refusal, if it is one, has a question and a place of the document: no place is past 8,192
 pub data Bounded {A : Type 0} : Answer A → Type 0 where
   bounded-yes : {a : A} → Bounded (accepted a)
-  bounded-no : {q p : ℕ} → 1 ≤ q → q ≤ 27 → p ≤ script-limit → Bounded (refused q p)
+  bounded-no : {q p : ℕ} → 1 ≤ q → q ≤ last-question → p ≤ script-limit → Bounded (refused q p)
 
 -- a report whose record count, or a refusal whose place, is at most a script's: one number holds either
 pub data Counted {A : Type 0} (count : A → ℕ) : Answer A → Type 0 where
@@ -43,7 +43,7 @@ Step-counted = Counted (λ x. x .count)
 abbrev pub Run-counted : Answer Report → Type 0
 Run-counted = Counted (λ x. x .count)
 
--- the lower half of a check of tables, of 'at or below', and of a run or a step: end * 65,536 + records
+-- the lower half of a check of tables, of 'at or below', and of a run or a step: end * 2^16 + records
 abbrev pub passed : Answer (Unit {0}) → Answer ℕ
 passed (accepted tt) = accepted 0
 passed (refused q p) = refused q p
@@ -52,8 +52,18 @@ abbrev pub yes-or-no : Answer Bool → Answer ℕ
 yes-or-no (accepted b) = accepted (cond b 1 0)
 yes-or-no (refused q p) = refused q p
 
+abbrev pub quarter : ℕ
+quarter = 65536
+
 abbrev pub ended : ℕ → ℕ → ℕ
-ended end count = end * 65536 + count
+ended end count = end * quarter + count
+
+-- what a caller reads off it
+abbrev pub end-of : ℕ → ℕ
+end-of n = n / quarter
+
+abbrev pub count-of : ℕ → ℕ
+count-of n = n % quarter
 
 abbrev pub step-ended : Answer StepReport → Answer ℕ
 step-ended (accepted x) = accepted (ended (x .end) (x .count))
@@ -68,9 +78,13 @@ unfoldable pub low-bytes : ℕ → ℕ → Bytes
 low-bytes zero n = []
 low-bytes (suc k) n = n % 256 ∷ low-bytes k (n / 256)
 
--- Steps made have 64 bits: as many of their 8 bytes as a slice has, later bytes kept; nothing on a refusal.
+-- "budget and steps made have 64 bits": 8 bytes
+abbrev pub steps-width : ℕ
+steps-width = 8
+
+-- as many of them as a slice has, later bytes kept; nothing on a refusal
 abbrev pub steps-in : ℕ → Bytes → Bytes
-steps-in n old = fill-front (take (length old) (low-bytes 8 n)) old
+steps-in n old = fill-front (take (length old) (low-bytes steps-width n)) old
 
 abbrev pub steps-after : Answer Ran → Bytes → Bytes
 steps-after (accepted x) old = steps-in (x .steps) old

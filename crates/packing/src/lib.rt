@@ -2,13 +2,13 @@
 
 ghost use mathlib.Core.Path.{_≡_};
 ghost use Prim.Native.Nat.{_+_, _*_, _<_, min};
-ghost use Rattle.packing.specs.Packed.{half, ended, steps-in};
+ghost use Rattle.packing.specs.Packed.{half, ended, steps-width, steps-in};
 
 const HALF: u64 = 4294967296;
 
-const END: u64 = 65536;
+const QUARTER: u64 = 65536;
 
-const STEPS: usize = 8;
+const STEPS_WIDTH: usize = 8;
 
 // A refusal: the question in the upper half, the place in the lower.
 pub fn refusal(question: u8, place: usize) -> u64
@@ -23,20 +23,20 @@ pub fn end_and_count(end: u8, count: usize) -> u64
     requires { ⌜ count < half ⌝ }
     ensures { λ n. ⌜ n ≡ ended end count ⌝ }
 {
-    (end as u64) * END + (count as u64)
+    (end as u64) * QUARTER + (count as u64)
 }
 
-fn at_most_8(n: usize) -> usize
-    ensures { λ m. ⌜ m ≡ min n 8 ⌝ }
+fn within_steps(n: usize) -> usize
+    ensures { λ m. ⌜ m ≡ min n steps-width ⌝ }
 {
-    if n < STEPS { n } else { STEPS }
+    if n < STEPS_WIDTH { n } else { STEPS_WIDTH }
 }
 
 // The step count, lowest byte first, as far as the slice goes.
 pub fn put_steps(n: u64, steps: &mut [u8])
     ensures { λ _. ⌜ now (steps .exit) ≡ steps-in n (now (steps .entry)) ⌝ }
 {
-    let end = at_most_8(steps.len());
+    let end = within_steps(steps.len());
     let mut rest = n;
     let mut i: usize = 0;
     while i < end {

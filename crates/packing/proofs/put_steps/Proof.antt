@@ -12,8 +12,8 @@ Inv-loop n steps₀ end rest₀ i₀ steps rest i = So-far n steps₀ i rest ste
 abbrev μ-loop : tie.MeasureT-loop
 μ-loop n steps₀ end rest₀ i₀ steps rest i = end - i
 
-at-most-8-requires : tie.Need-at-most-8-requires Inv-loop μ-loop
-at-most-8-requires c κs = search needs
+within-steps-requires : tie.Need-within-steps-requires Inv-loop μ-loop
+within-steps-requires c κs = search needs
 
 loop-holds : tie.Need-loop-holds Inv-loop μ-loop
 loop-holds c = begins _ _
@@ -32,13 +32,13 @@ loop-less c = omega arith
 
 loop-again : tie.Need-loop-again Inv-loop μ-loop
 loop-again c =
-    goes-on (c .before .loop .inv) (omega (arith, c .before .before .at-most-8 .ensures)) (omega (arith, c .before .before .at-most-8 .ensures))
+    goes-on (c .before .loop .inv) (omega (arith, c .before .before .within-steps .ensures)) (omega (arith, c .before .before .within-steps .ensures))
 
 same-length : tie.Need-same-length Inv-loop μ-loop
 same-length c = c .before .loop .inv .same
 
 returns : tie.Need-returns Inv-loop μ-loop
-returns c = ends (c .before .loop .inv) (omega (arith, c .before .before .at-most-8 .ensures))
+returns c = ends (c .before .loop .inv) (omega (arith, c .before .before .within-steps .ensures))
 
 pub put-steps-spec : {M : Type 1} → statement M
 put-steps-spec =
@@ -46,7 +46,7 @@ put-steps-spec =
     (tie.spec
     Inv-loop
     μ-loop
-    at-most-8-requires
+    within-steps-requires
     loop-holds
     cast-steps
     slice-write-steps
