@@ -1,9 +1,10 @@
 -- What a list that starts with a type has at its front.
-use mathlib.Core.Path.{_≡_, refl, ap, _∙_}
+use mathlib.Core.Path.{_≡_, refl, sym, ap, _∙_, subst}
+use mathlib.Core.Bool.{Bool, true, false}
 use mathlib.Core.List.{_++_}
 use Prim.Native.Nat.{ℕ, _+_, _-_, _*_, _≤_}
 use native.Mathlib.Omega.{arith}
-use lib.ListN.{length, take, drop, length-append}
+use lib.ListN.{length, take, drop, length-append, length-drop}
 use lib.Seq.{take-at}
 use Rattle.calculus.specs.Security.{Security}
 use Rattle.calculus.specs.Types.{Ty, one, node, sizeT, raiseT}
@@ -11,9 +12,10 @@ use Rattle.rules.specs.Answer.{Bytes}
 use Rattle.rules.specs.Types.{encode-type}
 use Rattle.rules.specs.Typing.{left, right}
 use Rattle.types.specs.Held.{Held, kind-of, left-of, right-of}
-use Rattle.types.proofs.Parts.{type-length, right-held, same-type}
+use Rattle.types.proofs.Parts.{type-length, type-positive, left-held, right-held, same-type}
+use Rattle.inference.specs.Stages.{side-of}
 
-pub sides-size : (t : Ty) → (kind-of t ≡ 0 → ⊥) → sizeT t ≡ 1 + (sizeT (left-of t) + sizeT (right-of t))
+pub sides-size : (t : Ty) → (kind-of t ≡ 0 → ⊥) → sizeT t ≡ 1 + (sizeT (left t) + sizeT (right t))
 unfolding sizeT
 sides-size (one k) n = absurd (n refl)
 sides-size (node c k a b) n = refl
@@ -38,12 +40,24 @@ module _ {l : Bytes} {t : Ty} (h : Held l t) where
   pub held-bytes : (n : ℕ) → n ≡ sizeT t → take (4 * n) l ≡ encode-type t
   held-bytes n e = ap (λ j. take (4 * j) l) e ∙ held-take
 
--- the right side, where the code starts it
-pub held-right : (l : Bytes) (t : Ty) (at : ℕ) → at ≡ 4 + 4 * sizeT (left-of t) → Held l t → (kind-of t ≡ 0 → ⊥) → Held (drop at l) (right-of t)
-held-right l t at e h n = rw e (right-held t (sizeT (left-of t)) n refl h)
+-- a part that starts with a type
+pub held-within : {t : Ty} (a : ℕ) (l : Bytes) → Held (drop a l) t → a + 4 * sizeT t ≤ length l
+held-within {t} a l h = omega (arith, held-long h, length-drop a l, type-positive t)
+
+-- the sides, where they start
+module _ {l : Bytes} (t : Ty) (n : kind-of t ≡ 0 → ⊥) (h : Held l t) where
+  pub held-left : Held (drop 4 l) (left t)
+  held-left = subst (λ u. Held (drop 4 l) u) (sym (left-is t n)) (left-held t n h)
+
+  pub held-right : (m : ℕ) → m ≡ sizeT (left-of t) → Held (drop (4 + 4 * m) l) (right t)
+  held-right m e = subst (λ u. Held (drop (4 + 4 * m) l) u) (sym (right-is t n)) (right-held t m n e h)
+
+pub side-small : (d : Bool) (t : Ty) → (kind-of t ≡ 0 → ⊥) → sizeT (side-of d t) ≤ sizeT t
+side-small true t n = omega (arith, sides-size t n)
+side-small false t n = omega (arith, sides-size t n)
 
 -- the sides' bytes
-pub sides-bytes : (w : Bytes) (t : Ty) → Held w t → (kind-of t ≡ 0 → ⊥) → take (4 * (sizeT t - 1)) (drop 4 w) ≡ encode-type (left-of t) ++ encode-type (right-of t)
+pub sides-bytes : (w : Bytes) (t : Ty) → Held w t → (kind-of t ≡ 0 → ⊥) → take (4 * (sizeT t - 1)) (drop 4 w) ≡ encode-type (left t) ++ encode-type (right t)
 unfolding encode-type sizeT
 sides-bytes w (one k) h n = absurd (n refl)
 sides-bytes w (node c k a b) h n =

@@ -9,7 +9,8 @@ use borrow.Rule.Slice.PartMut.{putMid}
 use Rattle.calculus.specs.Types.{Ty, sizeT}
 use Rattle.rules.specs.Answer.{Bytes, Answer}
 use Rattle.rules.specs.Types.{encode-type, no-type}
-use Rattle.types.specs.Held.{Held, kind-of, left-of, right-of}
+use Rattle.rules.specs.Typing.{left, right}
+use Rattle.types.specs.Held.{Held, kind-of}
 use Rattle.memory.specs.Splice.{splice}
 use Rattle.memory.proofs.Laws.{length-splice, drop-past, drop-before}
 use Rattle.inference.specs.Memory.{high, Slot, Sized, Holds, Wrote, Meets, finds, refuses, Entered, Beside}
@@ -89,6 +90,9 @@ held-lent {t} a w y h l m =
 pub sized-lent : {t : Ty} {n : ℕ} (a : ℕ) (w y : Bytes) → Sized w n t → 252 ≤ a → a ≤ length w → Sized (take a w ++ y) n t
 sized-lent a w y s l m = record { held = held-lent a w y (s .held) (omega (arith, s .small)) m; small = s .small; count = s .count }
 
+abbrev pub slot-of : {t : Ty} {n : ℕ} {l : Bytes} → Sized l n t → Slot l t
+slot-of s = record { held = s .held; small = s .small }
+
 -- one binder more
 pub push : {t : Ty} {Γ : List Ty} {l hi : Bytes} → Slot l t → length l ≡ 252 + length hi → drop 252 l ≡ hi → Holds Γ hi → Holds (t ∷ Γ) l
 push {t} {Γ} {l} {hi} s n d h = record { len = omega (arith, h .len); slot = at }
@@ -128,11 +132,14 @@ slot-at i b w Γ l h m r =
     subst (λ x. Slot x (getD Γ i no-type)) (drop-drop (252 * i) (length w - 252 * b) w ∙ ap (λ j. drop j w) e) (h .slot i (omega arith))
 
 -- a type written in front
+pub front-held : (t : Ty) (w : Bytes) {w′ : Bytes} → w′ ≡ splice 0 (encode-type t) w → Held w′ t
+front-held t w e = rw e (record { rest = drop (0 + length (encode-type t)) w; is = refl })
+
 pub wrote-first : {t : Ty} {b n : ℕ} {w x w′ : Bytes} → n ≡ sizeT t → sizeT t ≤ 63 → x ≡ encode-type t → 252 * (b + 1) ≤ length w → w′ ≡ splice 0 x w → Wrote t b w n w′
 wrote-first {t} {b} {n} {w} {x} {w′} c s e l q =
     let z : w′ ≡ splice 0 (encode-type t) w = q ∙ ap (λ y. splice 0 y w) e in
     record {
-      sized = record { held = rw z (record { rest = drop (0 + length (encode-type t)) w; is = refl }); small = s; count = c };
+      sized = record { held = front-held t w z; small = s; count = c };
       kept = rw z (high-splice 0 b (encode-type t) w (omega (arith, type-length t)));
     }
 
@@ -148,24 +155,24 @@ slot-written {t} {Γ} {b} {w} {x} {w′} s e l q m h =
     (rw z (high-splice at b (encode-type t) w (omega (arith, type-length t)))) n l m h
 
 -- the two sides of a tested type written to the next slot
-pub beside-written : {t : Ty} {b : ℕ} (w : Bytes) {x : Bytes} (w′ : Bytes) → (kind-of t ≡ 0 → ⊥) → sizeT t ≤ 63 → x ≡ encode-type (left-of t) ++ encode-type (right-of t) → 252 * (b + 1) ≤ length w
+pub beside-written : {t : Ty} {b : ℕ} (w : Bytes) {x : Bytes} (w′ : Bytes) → (kind-of t ≡ 0 → ⊥) → sizeT t ≤ 63 → x ≡ encode-type (left t) ++ encode-type (right t) → 252 * (b + 1) ≤ length w
     → w′ ≡ splice (length w - 252 * (b + 1)) x w → Beside t b w′ × (high b w′ ≡ high b w) × (length w′ ≡ length w)
 beside-written {t} {b} w {x} w′ nz s e l q =
     let at : ℕ = length w - 252 * (b + 1) in
     let ss = sides-size t nz in
-    let la : length (encode-type (left-of t)) ≡ 4 * sizeT (left-of t) = type-length (left-of t) in
-    let lb : length (encode-type (right-of t)) ≡ 4 * sizeT (right-of t) = type-length (right-of t) in
-    let y : Bytes = encode-type (left-of t) ++ encode-type (right-of t) in
-    let ly : length y ≡ 4 * sizeT (left-of t) + 4 * sizeT (right-of t) = length-append (encode-type (left-of t)) (encode-type (right-of t)) ∙ omega arith in
+    let la : length (encode-type (left t)) ≡ 4 * sizeT (left t) = type-length (left t) in
+    let lb : length (encode-type (right t)) ≡ 4 * sizeT (right t) = type-length (right t) in
+    let y : Bytes = encode-type (left t) ++ encode-type (right t) in
+    let ly : length y ≡ 4 * sizeT (left t) + 4 * sizeT (right t) = length-append (encode-type (left t)) (encode-type (right t)) ∙ omega arith in
     let z : w′ ≡ splice at y w = q ∙ ap (λ u. splice at u w) e in
-    let h : high (b + 1) w′ ≡ encode-type (left-of t) ++ (encode-type (right-of t) ++ drop (length y) (high (b + 1) w)) =
-    ap (high (b + 1)) z ∙ high-slot b y w l (omega arith) ∙ append-assoc (encode-type (left-of t)) (encode-type (right-of t)) (drop (length y) (high (b + 1) w)) in (
+    let h : high (b + 1) w′ ≡ encode-type (left t) ++ (encode-type (right t) ++ drop (length y) (high (b + 1) w)) =
+    ap (high (b + 1)) z ∙ high-slot b y w l (omega arith) ∙ append-assoc (encode-type (left t)) (encode-type (right t)) (drop (length y) (high (b + 1) w)) in (
       record {
-        left = record { held = record { rest = encode-type (right-of t) ++ drop (length y) (high (b + 1) w); is = h }; small = omega arith };
-        right = record {
+        one = record { held = record { rest = encode-type (right t) ++ drop (length y) (high (b + 1) w); is = h }; small = omega arith };
+        other = record {
           held = record {
             rest = drop (length y) (high (b + 1) w);
-            is = ap (drop (4 * sizeT (left-of t))) h ∙ drop-at (encode-type (left-of t)) (encode-type (right-of t) ++ drop (length y) (high (b + 1) w)) (4 * sizeT (left-of t)) la;
+            is = ap (drop (4 * sizeT (left t))) h ∙ drop-at (encode-type (left t)) (encode-type (right t) ++ drop (length y) (high (b + 1) w)) (4 * sizeT (left t)) la;
           };
           small = omega arith;
         };

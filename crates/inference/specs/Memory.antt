@@ -9,7 +9,8 @@ use Rattle.rules.specs.Answer.{Bytes, Answer, accepted, refused}
 use Rattle.rules.specs.Limits.{type-width, script-limit, answer-length}
 use Rattle.rules.specs.Types.{type-count, no-type, type-at}
 use Rattle.rules.specs.Script.{encode, size, depth}
-use Rattle.types.specs.Held.{Held, kind-of, left-of, right-of}
+use Rattle.rules.specs.Typing.{left, right}
+use Rattle.types.specs.Held.{Held, kind-of}
 use Rattle.inference.specs.Operands.{Formed}
 use Rattle.inference.specs.declared.Found.{Found}
 use Rattle.inference.specs.declared.Found.the-variants.{Typed, Refused}
@@ -92,19 +93,6 @@ pub record Typed-front (l : Bytes) (n : ℕ) : Type 0 where
   pub type : Ty
   pub sized : Sized l n type
 
--- and it has two sides
-pub record Sided-front (l : Bytes) (n : ℕ) : Type 0 where
-  pub type : Ty
-  pub sized : Sized l n type
-  pub two : kind-of type ≡ 0 → ⊥
-
--- a type in front, and another of m records at `from`
-pub record Part (l : Bytes) (from m : ℕ) : Type 0 where
-  pub type : Ty
-  pub held : Held l type
-  pub side : Ty
-  pub sized : Sized (drop from l) m side
-
 -- a named type of the table
 pub record Named (types : Bytes) (i : ℕ) : Type 0 where
   pub type : Ty
@@ -120,9 +108,9 @@ pub record Named-sided (types : Bytes) (i : ℕ) : Type 0 where
 
 -- a case's slot b + 1 holds the two sides of the tested type, one after the other
 pub record Beside (t : Ty) (b : ℕ) (w : Bytes) : Type 0 where
-  pub left : Slot (high (b + 1) w) (left-of t)
-  pub right : Slot (drop (type-width * sizeT (left-of t)) (high (b + 1) w)) (right-of t)
-  pub fits : type-width * sizeT (left-of t) + type-width * sizeT (right-of t) ≤ answer-length
+  pub one : Slot (high (b + 1) w) (left t)
+  pub other : Slot (drop (type-width * sizeT (left t)) (high (b + 1) w)) (right t)
+  pub fits : type-width * sizeT (left t) + type-width * sizeT (right t) ≤ answer-length
 
 pub record Some-sides (b : ℕ) (w : Bytes) : Type 0 where
   pub type : Ty

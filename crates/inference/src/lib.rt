@@ -18,19 +18,19 @@ ghost use mathlib.Core.Path.{_≡_};
 ghost use mathlib.Core.List.{List, [], _∷_};
 ghost use Prim.Native.Nat.{ℕ, _+_, _*_, _≤_};
 ghost use lib.ListN.{length, drop, getD};
-ghost use Rattle.calculus.specs.Types.{Former, Ty, top, raiseT};
+ghost use Rattle.calculus.specs.Types.{Former, Ty, top, raiseT, sizeT};
 ghost use Rattle.calculus.specs.Subtyping.{subtype, below};
 ghost use Rattle.calculus.specs.Terms.{Term};
 ghost use Rattle.rules.specs.Answer.{accepted};
 ghost use Rattle.rules.specs.Limits.{type-width, script-width, answer-length};
 ghost use Rattle.rules.specs.Groups.{readers};
-ghost use Rattle.rules.specs.Types.{former-kind, no-type, type-at};
+ghost use Rattle.rules.specs.Types.{former-kind, no-type, type-at, encode-type};
 ghost use Rattle.rules.specs.Script.{kind, number, encode};
-ghost use Rattle.rules.specs.Typing.{q22};
+ghost use Rattle.rules.specs.Typing.{left, right, q22};
 ghost use Rattle.memory.specs.Splice.{splice};
-ghost use Rattle.types.specs.Held.{Held, Starts, Sided, left-of, right-of, kind-of};
+ghost use Rattle.types.specs.Held.{Held, Starts, Sided};
 ghost use Rattle.inference.specs.Memory.{high, Slot, Sized, Holds, Meets, Ready, Enters, Says, Named, Named-sided, Beside};
-ghost use Rattle.inference.specs.Memory.{Some-sides, In-scope, Typed-front, Sided-front, Part, Entered};
+ghost use Rattle.inference.specs.Memory.{Some-sides, In-scope, Typed-front, Entered};
 ghost use Rattle.inference.specs.Stages.{leaf-type, before-first, first-context, kept-front, function-type, pair-type};
 ghost use Rattle.inference.specs.Stages.{injection-type, may-read, after-one, between, second-context, after-two, Leaf, One};
 ghost use Rattle.inference.specs.Stages.{Some, Passes, Two, Set-aside, side-of, wanting, projection-type};
@@ -64,28 +64,65 @@ fn put(w: &mut [u8], kind: u8, r: Reader, ir: Indirect)
     w[3] = 0;
 }
 
-// Question 22 against the type that record i of the types table starts.
+// The part of the types table that starts with the type of record i.
+fn named(types: &[u8], i: usize) -> &[u8]
+    requires { ⌜ type-width * i ≤ length (now types) ⌝ }
+    ensures { λ a. ⌜ now a ≡ drop (type-width * i) (now (types .entry)) ⌝ }
+{
+    let from = TYPE_WIDTH * i;
+    &types[from..]
+}
+
+// The named type to the work buffer, from byte `at` on: its record count.
+fn copy_named(types: &[u8], i: usize, w: &mut [u8], at: usize) -> usize
+    requires { ⌜ Named (now types) i × (at + answer-length ≤ length (now w)) ⌝ }
+    ensures { λ n. ⌜ ((t : Ty) → Held (drop (type-width * i) (now (types .entry))) t
+        → (n ≡ sizeT t) × (now (w .exit) ≡ splice at (encode-type t) (now (w .entry)))) ⌝ }
+{
+    let t = named(types, i);
+    let n = types::type_records(t);
+    memory::copy(t, TYPE_WIDTH * n, w, at);
+    n
+}
+
+// The type that byte `from` of the work buffer starts, moved down to byte `to`: its record count.
+fn move_type(w: &mut [u8], from: usize, to: usize) -> usize
+    requires { ⌜ Starts (drop from (now w)) × (to ≤ from) ⌝ }
+    ensures { λ n. ⌜ ((t : Ty) → Held (drop from (now (w .entry))) t
+        → (n ≡ sizeT t) × (now (w .exit) ≡ splice to (encode-type t) (now (w .entry)))) ⌝ }
+{
+    let n = types::type_records(&w[from..]);
+    memory::down(w, from, to, TYPE_WIDTH * n);
+    n
+}
+
+// Where a side of the type that s starts with starts.
+fn side_at(s: &[u8], second: bool) -> usize
+    requires { ⌜ Sided (now s) ⌝ }
+    ensures { λ a. ⌜ ((t : Ty) → Held (now (s .entry)) t → Held (drop a (now (s .entry))) (side-of second t)) ⌝ }
+{
+    if second {
+        return TYPE_WIDTH + TYPE_WIDTH * types::type_records(types::left_side(s));
+    }
+    TYPE_WIDTH
+}
+
+// The part that starts with that side.
+fn side(s: &[u8], second: bool) -> &[u8]
+    requires { ⌜ Sided (now s) ⌝ }
+    ensures { λ a. ⌜ ((t : Ty) → Held (now (s .entry)) t → Held (now a) (side-of second t)) ⌝ }
+{
+    let from = side_at(s, second);
+    &s[from..]
+}
+
+// Question 22 against the named type.
 fn wanted(groups: &[u8], types: &[u8], i: usize, w: &[u8]) -> bool
     requires { ⌜ Named (now types) i × Starts (now w) ⌝ }
     ensures { λ x. ⌜ ((s t : Ty) → Held (now (w .entry)) s → Held (drop (type-width * i) (now (types .entry))) t
         → x ≡ subtype (readers (now (groups .entry))) below s t) ⌝ }
 {
-    let from = TYPE_WIDTH * i;
-    subtyping::is_subtype(groups, w, &types[from..])
-}
-
-// Question 22 against a side of it.
-fn wanted_side(groups: &[u8], types: &[u8], i: usize, second: bool, w: &[u8]) -> bool
-    requires { ⌜ Named-sided (now types) i × Starts (now w) ⌝ }
-    ensures { λ x. ⌜ ((s t : Ty) → Held (now (w .entry)) s → Held (drop (type-width * i) (now (types .entry))) t
-        → x ≡ subtype (readers (now (groups .entry))) below s (side-of second t)) ⌝ }
-{
-    let from = TYPE_WIDTH * i;
-    if second {
-        let n = types::type_records(types::left_side(&types[from..]));
-        return subtyping::is_subtype(groups, w, types::right_side(&types[from..], n));
-    }
-    subtyping::is_subtype(groups, w, types::left_side(&types[from..]))
+    subtyping::is_subtype(groups, w, named(types, i))
 }
 
 // Questions 20 and 21 of the type in front; a yes goes on with this number of binders.
@@ -104,17 +141,18 @@ fn asks(groups: &[u8], former: u8, r: Reader, place: usize, binders: usize, w: &
     Found::Refused(21, place)
 }
 
-// What reading the object in front gives: the type of m records at `from`, raised by the indirect readers in front.
-fn lift(groups: &[u8], w: &mut [u8], from: usize, m: usize) -> Found
-    requires { ⌜ Part (now w) from m × (answer-length ≤ length (now w)) ⌝ }
-    ensures { λ x. ⌜ ((s t : Ty) (b : ℕ) → Held (now (w .entry)) s → Sized (drop from (now (w .entry))) m t
-        → answer-length * (b + 1) ≤ length (now (w .entry))
-        → Meets (accepted (raiseT (readers (now (groups .entry))) t (top s .ir))) b (now (w .entry)) x (now (w .exit))) ⌝ }
+// What reading the object in front gives: a side of its type, raised by its indirect readers.
+fn read_side(groups: &[u8], w: &mut [u8], second: bool) -> Found
+    requires { ⌜ Sided (now w) × (answer-length ≤ length (now w)) ⌝ }
+    ensures { λ x. ⌜ ((t : Ty) (b : ℕ) → Slot (now (w .entry)) t → answer-length * (b + 1) ≤ length (now (w .entry))
+        → Meets (accepted (raiseT (readers (now (groups .entry))) (side-of second t) (top t .ir))) b
+        (now (w .entry)) x (now (w .exit))) ⌝ }
 {
     let by = types::indirect(w);
-    memory::down(w, from, 0, TYPE_WIDTH * m);
+    let from = side_at(w, second);
+    let n = move_type(w, from, 0);
     types::raise(groups, w, by);
-    Found::Typed(m)
+    Found::Typed(n)
 }
 
 // A variable: the type in its slot.
@@ -124,8 +162,7 @@ fn variable(i: usize, b: usize, w: &mut [u8]) -> Found
         → Meets (accepted (getD Γ i no-type)) b (now (w .entry)) x (now (w .exit))) ⌝ }
 {
     let at = w.len() - SLOT * (b - i);
-    let n = types::type_records(&w[at..]);
-    memory::down(w, at, 0, TYPE_WIDTH * n);
+    let n = move_type(w, at, 0);
     Found::Typed(n)
 }
 
@@ -153,22 +190,19 @@ fn bind(types: &[u8], i: usize, b: usize, w: &mut [u8])
     ensures { λ _. ⌜ ((Γ : List Ty) (t : Ty) → Slot (drop (type-width * i) (now (types .entry))) t → length Γ ≡ b
         → Holds Γ (high b (now (w .entry))) → Entered (t ∷ Γ) b (now (w .entry)) (b + 1) (now (w .exit))) ⌝ }
 {
-    let from = TYPE_WIDTH * i;
-    let n = types::type_records(&types[from..]);
     let at = w.len() - SLOT * (b + 1);
-    memory::copy(&types[from..], TYPE_WIDTH * n, w, at);
+    copy_named(types, i, w, at);
 }
 
 // Question 23: ir of the named function type against that of its result.
 fn absorbs(groups: &[u8], types: &[u8], i: usize) -> bool
     requires { ⌜ Named-sided (now types) i ⌝ }
     ensures { λ x. ⌜ ((t : Ty) → Held (drop (type-width * i) (now (types .entry))) t
-        → x ≡ readers (now (groups .entry)) .absorbs (top t) (top (right-of t))) ⌝ }
+        → x ≡ readers (now (groups .entry)) .absorbs (top t) (top (right t))) ⌝ }
 {
-    let from = TYPE_WIDTH * i;
-    let own = types::indirect(&types[from..]);
-    let n = types::type_records(types::left_side(&types[from..]));
-    let result = types::indirect(types::right_side(&types[from..], n));
+    let t = named(types, i);
+    let own = types::indirect(t);
+    let result = types::indirect(side(t, true));
     own.at_or_below(groups, result)
 }
 
@@ -225,14 +259,14 @@ fn function(
         → answer-length * (b + 1) ≤ length (now (w .entry))
         → Meets (function-type place (record { r = r .0; ir = ir .0 }) s t) b (now (w .entry)) x (now (w .exit))) ⌝ }
 {
-    let from = TYPE_WIDTH * i;
-    let m = types::type_records(&types[from..]);
+    let t = named(types, i);
+    let m = types::type_records(t);
     if TYPE_LIMIT <= m + n {
         return Found::Refused(24, place);
     }
     let at = TYPE_WIDTH + TYPE_WIDTH * m;
     memory::up(w, 0, at, TYPE_WIDTH * n);
-    memory::copy(&types[from..], TYPE_WIDTH * m, w, TYPE_WIDTH);
+    memory::copy(t, TYPE_WIDTH * m, w, TYPE_WIDTH);
     put(w, types::FUNCTION, r, ir);
     Found::Typed(m + n + 1)
 }
@@ -255,10 +289,9 @@ fn inject(
         → Meets (injection-type (readers (now (groups .entry))) place (record { r = r .0; ir = ir .0 }) u (side-of second u) t) b
         (now (w .entry)) x (now (w .exit))) ⌝ }
 {
-    if wanted_side(groups, types, i, second, &w[TYPE_WIDTH..]) {
-        let from = TYPE_WIDTH * i;
-        let n = types::type_records(&types[from..]);
-        memory::copy(&types[from..], TYPE_WIDTH * n, w, 0);
+    let own = side(named(types, i), second);
+    if subtyping::is_subtype(groups, &w[TYPE_WIDTH..], own) {
+        let n = copy_named(types, i, w, 0);
         put(w, types::SUM, r, ir);
         return Found::Typed(n);
     }
@@ -266,21 +299,16 @@ fn inject(
 }
 
 // A projection of the type in front: questions 20 and 21, and the side.
-fn project(groups: &[u8], second: bool, r: Reader, place: usize, w: &mut [u8], n: usize) -> Found
-    requires { ⌜ Typed-front (now w) n × (answer-length ≤ length (now w)) ⌝ }
-    ensures { λ x. ⌜ ((t : Ty) (b : ℕ) → Sized (now (w .entry)) n t → answer-length * (b + 1) ≤ length (now (w .entry))
+fn project(groups: &[u8], second: bool, r: Reader, place: usize, w: &mut [u8]) -> Found
+    requires { ⌜ Starts (now w) × (answer-length ≤ length (now w)) ⌝ }
+    ensures { λ x. ⌜ ((t : Ty) (b : ℕ) → Slot (now (w .entry)) t → answer-length * (b + 1) ≤ length (now (w .entry))
         → Meets (projection-type (readers (now (groups .entry))) place (r .0) second t) b (now (w .entry)) x (now (w .exit))) ⌝ }
 {
     let x = asks(groups, types::PAIR, r, place, 0, w);
     let Found::Typed(_) = x else {
         return x;
     };
-    let l = types::type_records(types::left_side(w));
-    if second {
-        let from = TYPE_WIDTH + TYPE_WIDTH * l;
-        return lift(groups, w, from, n - 1 - l);
-    }
-    lift(groups, w, TYPE_WIDTH, l)
+    read_side(groups, w, second)
 }
 
 // A protect: the type in front, raised.
@@ -301,9 +329,7 @@ fn adopt(groups: &[u8], types: &[u8], i: usize, place: usize, w: &mut [u8]) -> F
         → Meets (wanting (readers (now (groups .entry))) place t u u) b (now (w .entry)) x (now (w .exit))) ⌝ }
 {
     if wanted(groups, types, i, w) {
-        let from = TYPE_WIDTH * i;
-        let n = types::type_records(&types[from..]);
-        memory::copy(&types[from..], TYPE_WIDTH * n, w, 0);
+        let n = copy_named(types, i, w, 0);
         return Found::Typed(n);
     }
     Found::Refused(22, place)
@@ -331,10 +357,10 @@ pub fn last(groups: &[u8], types: &[u8], s: &[u8], place: usize, w: &mut [u8], n
         return inject(groups, types, true, i, r, ir, place, w);
     }
     if k == FIRST_PROJECTION {
-        return project(groups, false, r, place, w, n);
+        return project(groups, false, r, place, w);
     }
     if k == SECOND_PROJECTION {
-        return project(groups, true, r, place, w, n);
+        return project(groups, true, r, place, w);
     }
     if k == PROTECT {
         return protect(groups, ir, w, n);
@@ -392,28 +418,25 @@ fn both(r: Reader, ir: Indirect, place: usize, w: &mut [u8], n: usize, m: usize)
     Found::Typed(n + m + 1)
 }
 
-// Question 22 of an application: the argument's type, from the next slot's length on, against the left side in front.
+// Question 22 of an application: the argument's type, from the next slot's length on, against the parameter's, in front.
 fn argument_fits(groups: &[u8], w: &[u8]) -> bool
     requires { ⌜ Sided (now w) × (Starts (drop answer-length (now w)) × (answer-length ≤ length (now w))) ⌝ }
     ensures { λ x. ⌜ ((s t : Ty) → Held (now (w .entry)) s → Held (drop answer-length (now (w .entry))) t
-        → x ≡ subtype (readers (now (groups .entry))) below t (left-of s)) ⌝ }
+        → x ≡ subtype (readers (now (groups .entry))) below t (left s)) ⌝ }
 {
-    subtyping::is_subtype(groups, &w[SLOT..], types::left_side(w))
+    subtyping::is_subtype(groups, &w[SLOT..], side(w, false))
 }
 
-// An application: the function's type is in front, the argument's from the next slot's length on. The result is the right
-// side, raised.
-fn apply(groups: &[u8], place: usize, w: &mut [u8], n: usize) -> Found
-    requires { ⌜ Sided-front (now w) n × (Starts (drop answer-length (now w)) × (answer-length * 2 ≤ length (now w))) ⌝ }
-    ensures { λ x. ⌜ ((s t : Ty) (b : ℕ) → Sized (now (w .entry)) n s → (kind-of s ≡ 0 → ⊥)
+// An application: the function's type is in front, the argument's from the next slot's length on. Question 22, and the result.
+fn apply(groups: &[u8], place: usize, w: &mut [u8]) -> Found
+    requires { ⌜ Sided (now w) × (Starts (drop answer-length (now w)) × (answer-length * 2 ≤ length (now w))) ⌝ }
+    ensures { λ x. ⌜ ((s t : Ty) (b : ℕ) → Slot (now (w .entry)) s
         → Held (drop answer-length (now (w .entry))) t → answer-length * (b + 1) ≤ length (now (w .entry))
-        → Meets (wanting (readers (now (groups .entry))) place t (left-of s)
-        (raiseT (readers (now (groups .entry))) (right-of s) (top s .ir))) b (now (w .entry)) x (now (w .exit))) ⌝ }
+        → Meets (wanting (readers (now (groups .entry))) place t (left s)
+        (raiseT (readers (now (groups .entry))) (right s) (top s .ir))) b (now (w .entry)) x (now (w .exit))) ⌝ }
 {
     if argument_fits(groups, w) {
-        let l = types::type_records(types::left_side(w));
-        let from = TYPE_WIDTH + TYPE_WIDTH * l;
-        return lift(groups, w, from, n - 1 - l);
+        return read_side(groups, w, true);
     }
     Found::Refused(22, place)
 }
@@ -436,7 +459,7 @@ pub fn ends(groups: &[u8], s: &[u8], place: usize, w: &mut [u8], n: usize, m: us
             m,
         );
     }
-    apply(groups, place, w, n)
+    apply(groups, place, w)
 }
 
 // After a case's first branch: question 22, and the right side to the slot's start.
@@ -444,14 +467,12 @@ pub fn turn(groups: &[u8], types: &[u8], i: usize, place: usize, b: usize, w: &m
     requires { ⌜ Named (now types) i × (Starts (now w) × (Some-sides b (now w) × (answer-length * (b + 2) ≤ length (now w)))) ⌝ }
     ensures { λ x. ⌜ ((Γ : List Ty) (s t u : Ty) → Beside s b (now (w .entry)) → Held (now (w .entry)) t
         → Held (drop (type-width * i) (now (types .entry))) u → length Γ ≡ b → Holds Γ (high b (now (w .entry)))
-        → Enters (q22 (readers (now (groups .entry))) place t u) (right-of s ∷ Γ) b (now (w .entry)) x (now (w .exit))) ⌝ }
+        → Enters (q22 (readers (now (groups .entry))) place t u) (right s ∷ Γ) b (now (w .entry)) x (now (w .exit))) ⌝ }
 {
     if wanted(groups, types, i, w) {
         let at = w.len() - SLOT * (b + 1);
-        let l = types::type_records(&w[at..]);
-        let from = at + TYPE_WIDTH * l;
-        let m = types::type_records(&w[from..]);
-        memory::down(w, from, at, TYPE_WIDTH * m);
+        let from = at + TYPE_WIDTH * types::type_records(&w[at..]);
+        move_type(w, from, at);
         return Found::Typed(b + 1);
     }
     Found::Refused(22, place)

@@ -6,14 +6,14 @@ use native.Mathlib.Omega.{arith}
 use borrow.Rule.Slice.PartMut.{putMid}
 use denote.Enum.Declared.{tagOf}
 use lib.ListN.{length, take, drop, length-drop}
-use Rattle.calculus.specs.Types.{sum, Ty, top, raiseT}
+use Rattle.calculus.specs.Types.{Ty, top, raiseT}
 use Rattle.calculus.specs.Terms.{Term, case}
 use Rattle.rules.specs.Answer.{Bytes, Answer, accepted, refused, _>>=_ as bind, _>>_ as then}
 use Rattle.rules.specs.Groups.{readers}
 use Rattle.rules.specs.Types.{type-at, type-count}
 use Rattle.rules.specs.Script.{encode, size, depth, kind, r, ir, number}
 use Rattle.rules.specs.Typing.{left, right, q22, typing}
-use Rattle.types.specs.Held.{Held, Starts, kind-of, right-of}
+use Rattle.types.specs.Held.{Held, Starts}
 use Rattle.inference.specs.Operands.{operand-count, Formed}
 use Rattle.records.specs.Operands.{first-operand, second-operand, third-operand}
 use Rattle.inference.specs.Memory.{high, Sized, Holds, Meets, finds, refuses, Ready, Entered, Enters, enters, stops, Named, Beside, Some-sides}
@@ -22,10 +22,9 @@ use Rattle.typing.specs.Parts.{kept-between}
 use Rattle.inference.specs.declared.Found.{Found}
 use Rattle.inference.specs.declared.Found.the-variants.{Typed, Refused}
 use Rattle.inference.proofs.Found.{the-type}
-use Rattle.inference.proofs.Front.{right-is}
 use Rattle.inference.proofs.Regions.{high-drop, lent-rest, drop-lent, length-lent, high-lent, high-within, sized-lent, rebase}
 use Rattle.inference.proofs.Shapes.{of-fields, depth-positive}
-use Rattle.inference.proofs.Rules.{meets-of, Typed-as, typed-as, refused-as, refused-meets, read-two}
+use Rattle.inference.proofs.Rules.{meets-of, Typed-as, typed-as, refused-as, refused-meets}
 use Rattle.inference.proofs.Names.{named, case-index}
 use Rattle.typing.proofs.Apart.{after-second, stops-before, stops-first, one-typed, first-typed, second-typed, branch-typed}
 use Rattle.typing.proofs.Below.{first-smaller, second-smaller, third-smaller, first-formed, second-formed, third-formed, first-room, second-room, several-front, branch-binders, is-case}
@@ -65,7 +64,7 @@ denied f (denies {q = q} {p = p}) = (q, p, refl, refl)
 -- ---- a part that was lent
 
 beside-same : {t : Ty} {b : ℕ} {w w′ : Bytes} → high (b + 1) w′ ≡ high (b + 1) w → Beside t b w → Beside t b w′
-beside-same e d = record { left = rw e (d .left); right = rw e (d .right); fits = d .fits }
+beside-same e d = record { one = rw e (d .one); other = rw e (d .other); fits = d .fits }
 
 record Back (b : ℕ) (w₁ w₂ z : Bytes) (low : ℕ) : Type 0 where
   is : w₂ ≡ take low w₁ ++ z
@@ -396,10 +395,6 @@ module _ (g : Bytes) {types s : Bytes} {place b : ℕ} {w : Bytes} (v : Ready ty
   pub case-named : i < type-count types
   case-named = case-index types b i (v .tree) (v .formed) case-is
 
-  pub tested-sides : (t : Ty) → between (readers g) place (v .tree) t ≡ accepted tt → kind-of t ≡ 0 → ⊥
-  unfolding between
-  tested-sides t a = read-two (readers g) place sum t (r s 0) (sym (ap (λ e. between (readers g) place e t) case-is) ∙ a)
-
   module _ {t : Ty} {n m : ℕ} {w₄ : Bytes} (d : Done3 g v t n m w₄) where
     pub case-room : 252 * (b + 2) ≤ length w₄
     case-room = omega (arith, v .room, d .same, depth-positive (first-operand (v .tree)), first-smaller (v .tree) (omega arith) .deeper)
@@ -419,7 +414,7 @@ module _ (g : Bytes) {types s : Bytes} {place b : ℕ} {w : Bytes} (v : Ready ty
         (λ u. wanting (readers g) place u (type-at types i) (raiseT (readers g) (type-at types i) (top t .ir))))
     under-branch = d .is ∙ branch-typed (readers g) (type-at types) (v .ctx) place t (d .other) case-is
 
-    module _ {x : Found} {w₅ : Bytes} (h : Enters (q22 (readers g) place (d .other) (type-at types i)) (right-of t ∷ v .ctx) b w₄ x w₅) where
+    module _ {x : Found} {w₅ : Bytes} (h : Enters (q22 (readers g) place (d .other) (type-at types i)) (right t ∷ v .ctx) b w₄ x w₅) where
       pub turn-refuses : tagOf the-type x ≡ 1 → Meets (typing (readers g) (type-at types) (v .ctx) place (v .tree)) b w x w₅
       turn-refuses f =
           let y = stopped f h in
@@ -435,14 +430,13 @@ module _ (g : Bytes) {types s : Bytes} {place b : ℕ} {w : Bytes} (v : Ready ty
           let k = p .1 in
           let e = p .2 in
           let q : k ≡ c = omega (arith, e .binders, v .binders) in
-          let z = right-is t (tested-sides t (d .asked)) in
           record {
             is = under-branch
                 ∙ ap (λ a. then a
                 (bind (typing (readers g) (type-at types) (right t ∷ v .ctx) (1 + place + size (first-operand (v .tree)) + size (second-operand (v .tree))) (third-operand (v .tree)))
                 (λ u. wanting (readers g) place u (type-at types i) (raiseT (readers g) (type-at types i) (top t .ir))))) (p .0);
             binders = omega (arith, v .binders);
-            holds = subst (λ u. Holds (u ∷ v .ctx) (high c w₅)) (sym z) (subst (λ j. Holds (right-of t ∷ v .ctx) (high j w₅)) q (e .holds));
+            holds = subst (λ j. Holds (right t ∷ v .ctx) (high j w₅)) q (e .holds);
             kept = e .kept ∙ d .kept;
             same = l ∙ d .same;
           }

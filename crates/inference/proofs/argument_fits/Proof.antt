@@ -1,5 +1,5 @@
 -- `inference::argument_fits` meets its contract.
-use Rattle.types.specs.Held.{left-of}
+use Rattle.rules.specs.Typing.{left}
 use Rattle.types.proofs.Parts.{to-end}
 use borrow.Author.Needs.{needs}
 use Rattle.inference.proofs.argument_fits.Statement.{statement}
@@ -14,16 +14,24 @@ part-is-subtype-start c = search needs
 part-is-subtype-end : tie.Need-part-is-subtype-end
 part-is-subtype-end c = search needs
 
-left-side-requires : tie.Need-left-side-requires
-left-side-requires c κs = (c .before .before .before) .pre .0
+side-requires : tie.Need-side-requires
+side-requires c κs = c .before .before .before .pre .0
 
 is-subtype-requires : tie.Need-is-subtype-requires
-is-subtype-requires c κs = (rw to-end ((c .before .before .before .before) .pre .1 .0), record { type = left-of ((c .before .before .before .before) .pre .0 .type); held = c .left-side .ensures .0 ((c .before .before .before .before) .pre .0 .type) ((c .before .before .before .before) .pre .0 .held) })
+is-subtype-requires c κs =
+    let p = c .before .before .before .before .pre in
+    (rw to-end (p .1 .0), record { type = left (p .0 .type); held = c .side .ensures (p .0 .type) (p .0 .held) })
 
 returns : tie.Need-returns
-returns c = λ s t h k. c .is-subtype .ensures t (left-of s) (rw to-end k) ((c .before) .left-side .ensures .0 s h)
+returns c = λ s t h k. c .is-subtype .ensures t (left s) (rw to-end k) (c .before .side .ensures s h)
 
 pub argument-fits-spec : {M : Type 1} → statement M
 argument-fits-spec =
     tie.close
-    (tie.spec sub-is-subtype part-is-subtype-start part-is-subtype-end left-side-requires is-subtype-requires returns)
+    (tie.spec
+    sub-is-subtype
+    part-is-subtype-start
+    part-is-subtype-end
+    side-requires
+    is-subtype-requires
+    returns)

@@ -2,17 +2,15 @@
 use mathlib.Core.Path.{_≡_, refl, sym, ap, _∙_}
 use Prim.Native.Nat.{ℕ, _≤_}
 use lib.ListN.{length}
-use Rattle.calculus.specs.Security.{Security}
-use Rattle.calculus.specs.Types.{function, top, raiseT}
+use Rattle.calculus.specs.Types.{function}
 use Rattle.calculus.specs.Terms.{Term, app}
 use Rattle.rules.specs.Answer.{Bytes}
 use Rattle.rules.specs.Groups.{readers}
 use Rattle.rules.specs.Script.{kind, r, number}
-use Rattle.rules.specs.Typing.{right}
-use Rattle.types.specs.Held.{kind-of, left-of}
+use Rattle.types.specs.Held.{kind-of}
 use Rattle.records.specs.Operands.{first-operand, second-operand}
-use Rattle.inference.specs.Stages.{wanting, between, after-two, Two}
-use Rattle.inference.proofs.Front.{left-is, right-is}
+use Rattle.inference.specs.Stages.{between, after-two, Two}
+use Rattle.inference.proofs.Regions.{slot-of}
 use Rattle.inference.proofs.Shapes.{long, of-kind, app-kind, of-fields}
 use Rattle.inference.proofs.Rules.{read-two, meets-of}
 use borrow.Author.Needs.{needs}
@@ -82,7 +80,7 @@ apply-requires : tie.Need-apply-requires
 apply-requires c κs =
     let i = c .before in
     let v = start (i .before) .pre in (
-      record { type = v .first; sized = v .sized; two = sided v (no-pair i) },
+      record { type = v .first; held = v .sized .held; two = sided v (no-pair i) },
       (record { type = v .second; held = v .other .held }, v .room),
     )
 
@@ -95,16 +93,7 @@ returns-2 c =
     λ v b l.
     let x = c .before .before in
     let i = x .before .before in
-    let s = start (i .before) in
-    let p = s .args .place in
-    let S : Security = readers (s .args .groups .now) in
-    let f = v .first in
-    let z = sided v (no-pair i) in
-    meets-of
-    (rule v (is-app v (no-pair i))
-    ∙ ap (λ u. wanting S p (v .second) u (raiseT S (right f) (top f .ir))) (left-is f z)
-    ∙ ap (λ u. wanting S p (v .second) (left-of f) (raiseT S u (top f .ir))) (right-is f z))
-    (x .apply .ensures f (v .second) b (v .sized) z (v .other .held) l)
+    meets-of (rule v (is-app v (no-pair i))) (x .apply .ensures (v .first) (v .second) b (slot-of (v .sized)) (v .other .held) l)
 
 pub ends-spec : {M : Type 1} → statement M
 ends-spec =

@@ -5,20 +5,18 @@ use Prim.Native.Nat.{ℕ, _+_, _*_, _≤_, _<_}
 use native.Mathlib.Omega.{arith}
 use lib.ListN.{length}
 use Rattle.calculus.specs.Security.{Security}
-use Rattle.calculus.specs.Types.{Ty, top}
+use Rattle.calculus.specs.Types.{Ty}
 use Rattle.rules.specs.Answer.{Bytes, ask}
 use Rattle.rules.specs.Groups.{readers}
 use Rattle.rules.specs.Types.{type-at, type-count, type-kind}
 use Rattle.rules.specs.Script.{r, ir, make}
-use Rattle.types.specs.Held.{kind-of}
 use Rattle.records.specs.Operands.{first-operand, second-operand, third-operand}
 use Rattle.inference.specs.Memory.{Ready}
 use Rattle.inference.specs.Stages.{before-first, first-context}
-use Rattle.inference.proofs.Front.{right-is}
 use Rattle.inference.proofs.Regions.{stayed}
 use Rattle.inference.proofs.Shapes.{long, plain, of-fields, depth-positive}
 use Rattle.inference.proofs.Rules.{enters-of, stops-of}
-use Rattle.inference.proofs.Names.{named, named-sided, kind-at, lam-index, mu-index}
+use Rattle.inference.proofs.Names.{named, named-sided, lam-index, mu-index}
 use borrow.Author.Needs.{needs}
 use Rattle.inference.proofs.enter.Statement.{statement}
 use Rattle.inference.proofs.enter.Tie as tie
@@ -76,9 +74,6 @@ mu-named c v =
     let d = read c in
     mu-index (T (start d)) (start d .args .b) (I d) (v .tree) (v .formed) (shape d v 11 (c .if2 .taken))
 
-function-kind : (c : tie.Then2) (v : Node (read c)) → kind-of (named-type (read c)) ≡ 0 → ⊥
-function-kind c v z = let m = mu-named c v in omega (arith, kind-at (v .table) (m .0))
-
 -- question 23, as it was answered
 asked : (c : tie.After-absorbs) (v : Node (read (c .before))) (x : Bool) → c .absorbs .result ≡ x
     → let s = start (read (c .before)) in
@@ -91,7 +86,6 @@ asked c v x q =
     let p = s .args .place in
     let t = named-type d in
     ap (before-first (S s) (type-at (T s)) p) (shape d v 11 (j .if2 .taken))
-    ∙ ap (λ u. ask 23 p (S s .absorbs (top t) (top u))) (right-is t (function-kind j v))
     ∙ ap (ask 23 p) (sym (c .absorbs .ensures t (v .table .entry (I d) (mu-named j v .0) .held)) ∙ q)
 
 node-long : (s : tie.Start) → 6 ≤ length (P s)

@@ -6,6 +6,7 @@ use lib.ListN.{length, drop}
 use Rattle.calculus.specs.Security.{Property}
 use Rattle.calculus.specs.Terms.{Side, Term, inj}
 use Rattle.rules.specs.Answer.{Bytes}
+use Rattle.rules.specs.Limits.{answer-length}
 use Rattle.rules.specs.Groups.{readers}
 use Rattle.rules.specs.Types.{type-at, type-count}
 use Rattle.rules.specs.Script.{kind, r, ir, number, make}
@@ -14,6 +15,7 @@ use Rattle.records.specs.Operands.{first-operand, second-operand, third-operand
 use Rattle.inference.specs.Memory.{Sized, Typed-front, Named-sided}
 use Rattle.inference.specs.Stages.{kept-front, after-one, One}
 use Rattle.inference.proofs.Shapes.{long, mu-kind, front-plain, of-fields}
+use Rattle.inference.proofs.Regions.{slot-of}
 use Rattle.inference.proofs.Rules.{meets-of}
 use Rattle.inference.proofs.Names.{named, named-sided, lam-index, inj-index, mu-index}
 use borrow.Author.Needs.{needs}
@@ -112,6 +114,10 @@ front c v = in-front v (fields (read c)) (c .before .if2 .left) (c .if3 .left)
 typed-front : (c : tie.Else3) → let s = start (read c) in Typed-front (s .args .w .now) (s .args .n)
 typed-front c = let v = start (read c) .pre in record { type = v .type; sized = front c v }
 
+-- what a projection asks
+projects : (c : tie.Else3) → let s = start (read c) in Starts (s .args .w .now) × (answer-length ≤ length (s .args .w .now))
+projects c = let v = start (read c) .pre in (record { type = v .type; held = front c v .held }, v .room)
+
 recursion : (c : tie.Else6) (v : Node (read (plain c))) → read (plain c) .before .before .before .kind .result ≡ 11
 recursion c v =
     let d = plain c in
@@ -204,7 +210,7 @@ returns-3 c =
     (x .inject2 .ensures (type-at (T (start d)) (I d)) (v .type) b (v .table .entry (I d) (injection-index v f e)) (behind v f e) l)
 
 project-requires : tie.Need-project-requires
-project-requires c κs = let d = c .before .before in (typed-front d, start (read d) .pre .room)
+project-requires c κs = projects (c .before .before)
 
 same-length-4 : tie.Need-same-length-4
 same-length-4 c = search needs
@@ -216,10 +222,10 @@ returns-4 c =
     let x = c .before .before in
     let j = x .before .before in
     let d = j .before in
-    meets-of (rule (read d) v (shape v (fields (read d)) 7 (j .if4 .taken))) (x .project .ensures (v .type) b (front d v) l)
+    meets-of (rule (read d) v (shape v (fields (read d)) 7 (j .if4 .taken))) (x .project .ensures (v .type) b (slot-of (front d v)) l)
 
 project-requires-2 : tie.Need-project-requires-2
-project-requires-2 c κs = let d = c .before .before .before in (typed-front d, start (read d) .pre .room)
+project-requires-2 c κs = projects (c .before .before .before)
 
 same-length-5 : tie.Need-same-length-5
 same-length-5 c = search needs
@@ -231,7 +237,7 @@ returns-5 c =
     let x = c .before .before in
     let j = x .before .before in
     let d = j .before .before in
-    meets-of (rule (read d) v (shape v (fields (read d)) 8 (j .if5 .taken))) (x .project2 .ensures (v .type) b (front d v) l)
+    meets-of (rule (read d) v (shape v (fields (read d)) 8 (j .if5 .taken))) (x .project2 .ensures (v .type) b (slot-of (front d v)) l)
 
 protect-requires : tie.Need-protect-requires
 protect-requires c κs = typed-front (c .before .before .before .before)

@@ -1,5 +1,5 @@
 -- `inference::test` meets its contract: a type that passes question 20 has two sides, and they are moved to the next slot.
-use mathlib.Core.Path.{_≡_, refl, sym, ap, _∙_, subst}
+use mathlib.Core.Path.{_≡_, refl, ap, _∙_}
 use Prim.Native.Nat.{_+_, _-_, _*_, _≤_}
 use native.Mathlib.Omega.{arith}
 use lib.ListN.{length, take, drop}
@@ -8,9 +8,8 @@ use Rattle.calculus.specs.Types.{sum, Ty}
 use Rattle.rules.specs.Answer.{Bytes, accepted}
 use Rattle.rules.specs.Groups.{readers}
 use Rattle.types.specs.Held.{Held}
-use Rattle.inference.specs.Memory.{high, Slot}
 use Rattle.inference.specs.Stages.{may-read, aside, fails}
-use Rattle.inference.proofs.Front.{left-is, sides-bytes}
+use Rattle.inference.proofs.Front.{sides-bytes}
 use Rattle.types.proofs.Parts.{type-positive}
 use Rattle.inference.proofs.Regions.{entered, beside-written}
 use Rattle.inference.proofs.Rules.{read-two, said-yes, says-refused}
@@ -96,8 +95,7 @@ returns-2 c =
     let room : 252 * (b + 1) ≤ length w = omega (arith, s .pre .1) in
     let q = beside-written {t = t} {b = b} w w′ nz (h .small)
     (ap (λ j. take (4 * (j - 1)) (drop 4 w)) (h .count) ∙ sides-bytes w t (h .held) nz) room (x .up .ensures) in
-    let left = subst (λ u. Slot (high (b + 1) w′) u) (sym (left-is t nz)) (q .0 .left) in
-    aside ok refl (q .0) (entered left (q .1) (q .2) room l k)
+    aside ok refl (q .0) (entered (q .0 .one) (q .1) (q .2) room l k)
 
 pub test-spec : {M : Type 1} → statement M
 test-spec =

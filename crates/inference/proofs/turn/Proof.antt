@@ -6,9 +6,10 @@ use lib.ListN.{length, take, drop}
 use lib.Seq.{drop-drop}
 use Rattle.calculus.specs.Types.{Ty, sizeT}
 use Rattle.rules.specs.Answer.{Bytes, ask}
-use Rattle.types.specs.Held.{Held, left-of, right-of}
+use Rattle.rules.specs.Limits.{type-width, answer-length}
+use Rattle.rules.specs.Typing.{left, right}
+use Rattle.types.specs.Held.{Held}
 use Rattle.inference.specs.Memory.{high, Slot, Beside, Some-sides}
-use Rattle.inference.proofs.Front.{held-bytes}
 use Rattle.types.proofs.Parts.{to-end}
 use Rattle.inference.proofs.Regions.{slot-written}
 use Rattle.inference.proofs.Rules.{enters-of, stops-of}
@@ -16,34 +17,18 @@ use borrow.Author.Needs.{needs}
 use Rattle.inference.proofs.turn.Statement.{statement}
 use Rattle.inference.proofs.turn.Tie as tie
 
--- the right side's place, as the code finds it
-right-at : {s : Ty} {b : ℕ} {w : Bytes} (l : ℕ) → Beside s b w → l ≡ sizeT (left-of s)
-    → Slot (drop ((length w - 252 * (b + 1)) + 4 * l) w) (right-of s)
-right-at {s} {b} {w} l d e =
-    let q = ap (λ j. drop (4 * j) (high (b + 1) w)) (sym e) ∙ drop-drop (4 * l) (length w - 252 * (b + 1)) w in
-    subst (λ x. Slot x (right-of s)) q (d .right)
-
 abbrev W : tie.Start → Bytes
 W s = s .args .w .now
 
--- the tested type, of which the slot holds the sides
+-- the tested type, of which the slot holds the sides, and where that slot starts
 abbrev tested : (s : tie.Start) → Some-sides (s .args .b) (W s)
 tested s = s .pre .1 .1 .0
 
--- the work buffer from a place on, as the code takes it
-abbrev from : ℕ → tie.Start → Bytes
-from a s = take (length (W s) - a) (drop a (W s))
-
--- where the slot starts
 abbrev slot : tie.Start → ℕ
-slot s = length (W s) - 252 * (s .args .b + 1)
+slot s = length (W s) - answer-length * (s .args .b + 1)
 
-left-held : (s : tie.Start) (t : Ty) → Beside t (s .args .b) (W s) → Held (from (slot s) s) (left-of t)
-left-held s t q = rw to-end (q .left .held)
-
-right-held : (s : tie.Start) (t : Ty) (l : ℕ) → Beside t (s .args .b) (W s) → l ≡ sizeT (left-of t)
-    → Held (from (slot s + 4 * l) s) (right-of t)
-right-held s t l q e = rw to-end (right-at l q e .held)
+left-held : (s : tie.Start) (t : Ty) → Beside t (s .args .b) (W s) → Held (take (length (W s) - slot s) (drop (slot s) (W s))) (left t)
+left-held s t q = rw to-end (q .one .held)
 
 -- question 22 is asked
 abbrev begin : tie.After-wanted → tie.Start
@@ -56,12 +41,24 @@ start c = begin (c .before .before .before .before)
 abbrev L : tie.After-type-records → ℕ
 L c = c .type-records .result
 
--- and the right side's
-abbrev left : tie.After-type-records2 → tie.After-type-records
-left c = c .before .before .before
+counts : (c : tie.After-type-records) (t : Ty) → Beside t (start c .args .b) (W (start c)) → L c ≡ sizeT (left t)
+counts c t q = c .type-records .ensures (left t) (left-held (start c) t q)
 
-abbrev R : tie.After-type-records2 → ℕ
-R c = c .type-records2 .result
+-- the right side, where the code finds it
+right-at : (c : tie.After-type-records) (t : Ty)
+    → let s = start c in Beside t (s .args .b) (W s) → Slot (drop (slot s + type-width * L c) (W s)) (right t)
+right-at c t q =
+    let s = start c in
+    let e = ap (λ j. drop (type-width * j) (high (s .args .b + 1) (W s))) (sym (counts c t q))
+    ∙ drop-drop (type-width * L c) (slot s) (W s) in
+    subst (λ x. Slot x (right t)) e (q .other)
+
+fits : (c : tie.After-type-records)
+    → let s = start c in (type-width * L c ≤ answer-length) × (answer-length * (s .args .b + 2) ≤ length (W s))
+fits c =
+    let s = start c in
+    let q = tested s in
+    (omega (arith, counts c (q .type) (q .sides), q .sides .fits), s .pre .1 .1 .1)
 
 wanted-requires : tie.Need-wanted-requires
 wanted-requires c κs = search needs
@@ -88,57 +85,22 @@ type-records-requires : tie.Need-type-records-requires
 type-records-requires c κs =
     let s = begin (c .before .before .before) in
     let q = tested s in
-    record { type = left-of (q .type); held = left-held s (q .type) (q .sides) }
-
-count-left : (c : tie.After-type-records) (t : Ty) → Beside t (start c .args .b) (W (start c)) → L c ≡ sizeT (left-of t)
-count-left c t q = c .type-records .ensures (left-of t) (left-held (start c) t q)
-
-left-fits : (c : tie.After-type-records) → (4 * L c ≤ 252) × (252 * (start c .args .b + 2) ≤ length (W (start c)))
-left-fits c =
-    let s = start c in
-    let q = tested s in
-    (omega (arith, count-left c (q .type) (q .sides), q .sides .fits), s .pre .1 .1 .1)
+    record { type = left (q .type); held = left-held s (q .type) (q .sides) }
 
 mul-from : tie.Need-mul-from
-mul-from c = omega (arith, left-fits c)
+mul-from c = omega (arith, fits c)
 
 add-from : tie.Need-add-from
-add-from c = omega (arith, left-fits c, start c .good)
+add-from c = omega (arith, fits c, start c .good)
 
-sub-type-records-2 : tie.Need-sub-type-records-2
-sub-type-records-2 c = omega (arith, left-fits c)
-
-part-type-records-start-2 : tie.Need-part-type-records-start-2
-part-type-records-start-2 c = omega (arith, left-fits (c .before))
-
-part-type-records-end-2 : tie.Need-part-type-records-end-2
-part-type-records-end-2 c = search needs
-
-type-records-requires-2 : tie.Need-type-records-requires-2
-type-records-requires-2 c κs =
-    let d = c .before .before in
+move-type-requires : tie.Need-move-type-requires
+move-type-requires c κs =
+    let d = c .before in
     let q = tested (start d) in
-    record { type = right-of (q .type); held = right-held (start d) (q .type) (L d) (q .sides) (count-left d (q .type) (q .sides)) }
+    (record { type = right (q .type); held = right-at d (q .type) (q .sides) .held }, omega arith)
 
-count-right : (c : tie.After-type-records2) (t : Ty)
-    → let s = start (left c) in Beside t (s .args .b) (W s) → R c ≡ sizeT (right-of t)
-count-right c t q =
-    let d = left c in
-    c .type-records2 .ensures (right-of t) (right-held (start d) t (L d) q (count-left d t q))
-
-both-fit : (c : tie.After-type-records2) → 4 * L (left c) + 4 * R c ≤ 252
-both-fit c =
-    let q = tested (start (left c)) in
-    omega (arith, count-left (left c) (q .type) (q .sides), count-right c (q .type) (q .sides), q .sides .fits)
-
-mul-down : tie.Need-mul-down
-mul-down c = omega (arith, both-fit (c .before))
-
-down-requires : tie.Need-down-requires
-down-requires c κs = (omega arith, omega (arith, both-fit (c .before), left-fits (left (c .before))))
-
-add-t14 : tie.Need-add-t14
-add-t14 c = search needs
+add-t13 : tie.Need-add-t13
+add-t13 c = search needs
 
 same-length : tie.Need-same-length
 same-length c = search needs
@@ -147,13 +109,12 @@ returns : tie.Need-returns
 returns c =
     λ Γ v t u q h k m o.
     let x = c .before .before in
-    let e = x .before .before in
-    let d = left e in
+    let d = x .before .before in
     let i = d .before .before .before in
     let s = start d in
-    let ri = right-at (L d) q (count-left d v q) in
+    let z = right-at d v q in
     enters-of (ap (ask 22 (s .args .place)) (sym (i .before .wanted .ensures t u h k) ∙ i .if1 .taken)) refl
-    (slot-written (ri .small) (held-bytes (ri .held) (R e) (count-right e v q)) (omega (arith, s .pre .1 .1 .1)) (x .down .ensures) m o)
+    (slot-written (z .small) refl (omega (arith, s .pre .1 .1 .1)) (x .move-type .ensures (right v) (z .held) .1) m o)
 
 same-length-2 : tie.Need-same-length-2
 same-length-2 c = search needs
@@ -178,13 +139,8 @@ turn-spec =
     type-records-requires
     mul-from
     add-from
-    sub-type-records-2
-    part-type-records-start-2
-    part-type-records-end-2
-    type-records-requires-2
-    mul-down
-    down-requires
-    add-t14
+    move-type-requires
+    add-t13
     same-length
     returns
     same-length-2

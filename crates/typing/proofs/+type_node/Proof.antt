@@ -18,7 +18,6 @@ use Rattle.rules.specs.Script.{number, encode, size}
 use Rattle.rules.specs.Typing.{right, q22, typing}
 use Rattle.records.specs.Place.{At}
 use Rattle.records.specs.Operands.{first-operand, second-operand, third-operand}
-use Rattle.types.specs.Held.{right-of}
 use Rattle.types.proofs.Parts.{to-end}
 use Rattle.inference.specs.Operands.{operand-count}
 use Rattle.inference.specs.Memory.{Sized, Meets, Ready, Enters}
@@ -772,7 +771,7 @@ module _ (t : ℕ) where
       → let d = two (index c) in
       let s = start₄ d in
       Enters (q22 (readers (G s)) (place s) (done₃ d v .other) (type-at (T s) (i (index c))))
-      (right-of (first-type (to-between d) v) ∷ v .ctx) (s .args .b) (w₄ (second d)) (c .turn .result) (w₅ c)
+      (right (first-type (to-between d) v) ∷ v .ctx) (s .args .b) (w₄ (second d)) (c .turn .result) (w₅ c)
   turns c v =
       let y = index c in
       let s = start₄ (two y) in
