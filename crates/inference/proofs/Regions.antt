@@ -106,18 +106,17 @@ push {t} {Γ} {l} {hi} s n d h = record { len = omega (arith, h .len); slot = at
 
 -- the next slot filled
 pub entered : {t : Ty} {Γ : List Ty} {b : ℕ} {w w′ : Bytes} → Slot (high (b + 1) w′) t → high b w′ ≡ high b w → length w′ ≡ length w → 252 * (b + 1) ≤ length w
-    → length Γ ≡ b → Holds Γ (high b w) → Entered (t ∷ Γ) b w (b + 1) w′
+    → length Γ ≡ b → Holds Γ (high b w) → Entered (t ∷ Γ) b w w′
 entered {t} {Γ} {b} {w} {w′} s k n l m h =
+    let q : b + 1 ≡ length (t ∷ Γ) = omega arith in
     record {
-      binders = omega arith;
-      holds = push s (omega (arith, length-high (b + 1) w′ (omega arith), length-high b w (omega arith))) (high-inner b w′ (omega arith) ∙ k) h;
       least = omega arith;
-      most = omega arith;
+      holds = subst (λ j. Holds (t ∷ Γ) (high j w′)) q (push s (omega (arith, length-high (b + 1) w′ (omega arith), length-high b w (omega arith))) (high-inner b w′ (omega arith) ∙ k) h);
       kept = k;
     }
 
-pub stayed : {Γ : List Ty} {b : ℕ} {w : Bytes} → length Γ ≡ b → Holds Γ (high b w) → Entered Γ b w b w
-stayed m h = record { binders = m; holds = h; least = omega arith; most = omega arith; kept = refl }
+pub stayed : {Γ : List Ty} {b : ℕ} {w : Bytes} → length Γ ≡ b → Holds Γ (high b w) → Entered Γ b w w
+stayed {Γ} {b} {w} m h = record { least = omega arith; holds = subst (λ j. Holds Γ (high j w)) (sym m) h; kept = refl }
 
 -- a buffer whose slots are those of another
 pub rebase : {o : Answer Ty} {b : ℕ} {w w′ : Bytes} {x : Found} {v : Bytes} → high b w′ ≡ high b w → Meets o b w′ x v → Meets o b w x v
@@ -145,7 +144,7 @@ wrote-first {t} {b} {n} {w} {x} {w′} c s e l q =
 
 -- a type written to the next slot
 pub slot-written : {t : Ty} {Γ : List Ty} {b : ℕ} {w x w′ : Bytes} → sizeT t ≤ 63 → x ≡ encode-type t → 252 * (b + 1) ≤ length w → w′ ≡ splice (length w - 252 * (b + 1)) x w
-    → length Γ ≡ b → Holds Γ (high b w) → Entered (t ∷ Γ) b w (b + 1) w′
+    → length Γ ≡ b → Holds Γ (high b w) → Entered (t ∷ Γ) b w w′
 slot-written {t} {Γ} {b} {w} {x} {w′} s e l q m h =
     let at : ℕ = length w - 252 * (b + 1) in
     let z : w′ ≡ splice at (encode-type t) w = q ∙ ap (λ y. splice at y w) e in

@@ -17,10 +17,12 @@ use Rattle.rules.specs.Typing.{has-form, left, right, q21, q24}
 use Rattle.types.specs.Held.{kind-of}
 use Rattle.memory.specs.Splice.{splice}
 use Rattle.memory.proofs.Laws.{join-before, join-after}
-use Rattle.calculus.specs.Terms.{Term}
-use Rattle.inference.specs.Memory.{Sized, Wrote, Meets, finds, refuses, Says, agrees, denies, Entered, Enters, enters, stops}
-use Rattle.inference.specs.Operands.{operand-count}
-use Rattle.inference.specs.Stages.{wanting, may-read, function-type, pair-type, Aside, Passes, passes, denies as passes-denies, Set-aside, aside, fails}
+use Rattle.answer.specs.Said.{said}
+use Rattle.answer.specs.declared.Checked.{Checked}
+use Rattle.answer.specs.declared.Checked.the-variants as checked
+use Rattle.answer.proofs.Passed.{No}
+use Rattle.inference.specs.Memory.{Sized, Wrote, Meets, finds, refuses, Entered, Enters, refusal}
+use Rattle.inference.specs.Stages.{wanting, may-read, function-type, pair-type}
 use Rattle.inference.specs.declared.Found.{Found}
 use Rattle.inference.specs.declared.Found.the-variants.{Typed, Refused}
 use Rattle.inference.proofs.Found.{the-type}
@@ -90,14 +92,8 @@ module _ (S : Security) (p : ℕ) (f : Former) (t : Ty) (w : ℕ) where
   pub reads-20 : (kind-of t ≡ former-kind f → ⊥) → may-read S p f t w ≡ refused 20 p
   reads-20 n = ap (λ q. _>>_ (ask 20 p q) (q21 S p t w)) (form-no f t n)
 
-  reads-21 : kind-of t ≡ former-kind f → (b : Bool) → S .permits (top t) w ≡ b → may-read S p f t w ≡ ask 21 p b
+  pub reads-21 : kind-of t ≡ former-kind f → (b : Bool) → S .permits (top t) w ≡ b → may-read S p f t w ≡ ask 21 p b
   reads-21 e b q = ap (λ x. _>>_ (ask 20 p x) (q21 S p t w)) (form-yes f t e) ∙ ap (ask 21 p) q
-
-  pub reads-yes : kind-of t ≡ former-kind f → S .permits (top t) w ≡ true → may-read S p f t w ≡ accepted tt
-  reads-yes e q = reads-21 e true q
-
-  pub reads-no : kind-of t ≡ former-kind f → S .permits (top t) w ≡ false → may-read S p f t w ≡ refused 21 p
-  reads-no e q = reads-21 e false q
 
   form-cases : (a b : Bool) → _>>_ (ask 20 p a) (ask 21 p b) ≡ accepted tt → a ≡ true
   form-cases true b e = refl
@@ -108,17 +104,6 @@ module _ (S : Security) (p : ℕ) (f : Former) (t : Ty) (w : ℕ) where
 
   pub read-two : may-read S p f t w ≡ accepted tt → kind-of t ≡ 0 → ⊥
   read-two e z = former-not-unit f (sym (read-kind e) ∙ z)
-
-pub says : {a : Answer (Unit {0})} {n : ℕ} {x : Found} → a ≡ accepted tt → x ≡ Typed n → Says a n x
-says {a} {n} {x} e q = subst (λ y. Says a n y) (sym q) (subst (λ y. Says y n (Typed n)) (sym e) agrees)
-
-pub says-no : {a : Answer (Unit {0})} {q p n : ℕ} → a ≡ refused q p → Says a n (Refused q p)
-says-no {a} {q} {p} {n} e = subst (λ y. Says y n (Refused q p)) (sym e) denies
-
--- what an answer says
-pub said-yes : {a : Answer (Unit {0})} {n : ℕ} {x : Found} → tagOf the-type x ≡ 0 → Says a n x → a ≡ accepted tt
-said-yes e agrees = refl
-said-yes e denies = absurd (omega arith)
 
 pub meets-of : {o o′ : Answer Ty} {b : ℕ} {w : Bytes} {x : Found} {v : Bytes} → o ≡ o′ → Meets o′ b w x v → Meets o b w x v
 meets-of {b = b} {w = w} {x = x} {v = v} e m = subst (λ y. Meets y b w x v) (sym e) m
@@ -210,14 +195,6 @@ unchanged s = record { sized = s; kept = refl }
 
 -- ---- answers passed on
 
-pub says-passes : {a : Answer (Unit {0})} {n : ℕ} (k : Answer Ty) {b : ℕ} {w v : Bytes} {x : Found} → tagOf the-type x ≡ 1 → Says a n x → Meets (_>>_ a k) b w x v
-says-passes k e agrees = absurd (omega arith)
-says-passes k e denies = refuses
-
-pub says-refused : {a : Answer (Unit {0})} {n : ℕ} {x : Found} → tagOf the-type x ≡ 1 → Says a n x → (q : ℕ) × (p : ℕ) × (a ≡ refused q p) × (x ≡ Refused q p)
-says-refused e agrees = absurd (omega arith)
-says-refused e (denies {q = q} {p = p}) = (q, p, refl, refl)
-
 -- a type is found
 pub record Typed-as (o : Answer Ty) (b : ℕ) (w : Bytes) (n : ℕ) (v : Bytes) : Type 0 where
   pub type : Ty
@@ -246,30 +223,26 @@ pub then-refused : (a : Answer (Unit {0})) (u : Ty) (k : Answer Ty) (q p : ℕ) 
 then-refused (accepted tt) u k q p e = let z : _≡_ {A = ℕ} 0 1 = cc in absurd (omega arith)
 then-refused (refused a b) u k q p e = let x : a ≡ q = cc in let y : b ≡ p = cc in cc
 
-pub enters-of : {A : Answer (Unit {0})} {Γ Γ′ : List Ty} {b : ℕ} {w : Bytes} {c : ℕ} {w′ : Bytes} → A ≡ accepted tt → Γ ≡ Γ′ → Entered Γ′ b w c w′ → Enters A Γ b w (Typed c) w′
-enters-of {A} {Γ} {Γ′} {b} {w} {c} {w′} e f h = subst (λ a. Enters a Γ b w (Typed c) w′) (sym e) (subst (λ g. Enters (accepted tt) g b w (Typed c) w′) (sym f) (enters h))
+-- ---- questions
 
-pub stops-of : {A : Answer (Unit {0})} {Γ : List Ty} {q p b : ℕ} {w w′ : Bytes} → A ≡ refused q p → Enters A Γ b w (Refused q p) w′
-stops-of {A} {Γ} {q} {p} {b} {w} {w′} e = subst (λ a. Enters a Γ b w (Refused q p) w′) (sym e) stops
+-- a refusal, where a type was to be found
+pub refused-says : (x : Checked) {y : Found} (a : Answer (Unit {0})) → No x → said x ≡ a → y ≡ refusal x → (q : ℕ) × (p : ℕ) × (a ≡ refused q p) × (y ≡ Refused q p)
+refused-says checked.Passed a n e f = absurd (omega arith)
+refused-says (checked.Refused q p) a n e f = (q, p, sym e, f)
 
--- ---- between two operands
+pub refused-found : (x : Checked) {y : Found} (a : Answer (Unit {0})) (k : Answer Ty) {b : ℕ} {w v : Bytes} → No x → said x ≡ a → y ≡ refusal x → Meets (_>>_ a k) b w y v
+refused-found x a k n e f = let z = refused-says x a n e f in refused-meets (ap (λ o. _>>_ o k) (z .2)) (z .3)
 
-pub passes-of : {A : Answer (Unit {0})} {e : Term} {s : Ty} {Γ Γ′ : List Ty} {b : ℕ} {w : Bytes} {n c : ℕ} {w′ : Bytes} → A ≡ accepted tt → Γ ≡ Γ′ → Entered Γ′ b w c w′
-    → Aside e s b w′ n → Passes A e s Γ b w n (Typed c) w′
-passes-of {A} {e} {s} {Γ} {Γ′} {b} {w} {n} {c} {w′} p q h k =
-    subst (λ a. Passes a e s Γ b w n (Typed c) w′) (sym p) (subst (λ g. Passes (accepted tt) e s g b w n (Typed c) w′) (sym q) (passes h k))
+-- a refusal is no yes
+pub not-yes : (x : Checked) (a : Answer (Unit {0})) → No x → said x ≡ a → a ≡ accepted tt → ⊥
+not-yes checked.Passed a n e f = omega arith
+not-yes (checked.Refused q p) a n e f = let z : _≡_ {A = ℕ} 0 1 = cc in omega arith
 
-pub denies-of : {A : Answer (Unit {0})} {e : Term} {s : Ty} {Γ : List Ty} {q p b : ℕ} {w : Bytes} {n : ℕ} {x : Found} {w′ : Bytes} → A ≡ refused q p → x ≡ Refused q p → Passes A e s Γ b w n x w′
-denies-of {A} {e} {s} {Γ} {q} {p} {b} {w} {n} {x} {w′} a f =
-    subst (λ y. Passes A e s Γ b w n y w′) (sym f) (subst (λ y. Passes y e s Γ b w n (Refused q p) w′) (sym a) passes-denies)
+module _ {A : Answer (Unit {0})} {Γ Γ′ : List Ty} {b : ℕ} {w : Bytes} {x : Checked} {w′ : Bytes} where
+  -- the next operand's context is there
+  pub enters-as : said x ≡ A → Γ ≡ Γ′ → Entered Γ′ b w w′ → Enters A Γ b w x w′
+  enters-as e f h = record { says = e; entered = λ _. subst (λ g. Entered g b w w′) (sym f) h }
 
-pub front-passes : {a A : Answer (Unit {0})} {e : Term} {s : Ty} {Γ Γ′ : List Ty} {b : ℕ} {w : Bytes} {n : ℕ} {x : Found} → Says a b x → A ≡ a → Γ ≡ Γ′ → Entered Γ′ b w b w
-    → Aside e s b w n → Passes A e s Γ b w n x w
-front-passes agrees p q h k = passes-of p q h k
-front-passes denies p q h k = denies-of p refl
-
-pub slot-passes : {S : Security} {place r : ℕ} {t : Ty} {Γ Γ′ : List Ty} {A : Answer (Unit {0})} {e : Term} {b : ℕ} {w : Bytes} {n : ℕ} {x : Found} {w′ : Bytes}
-    → Set-aside S place r t Γ b w x w′ → A ≡ may-read S place sum t r → Γ′ ≡ left t ∷ Γ → operand-count e ≡ 3 → Passes A e t Γ′ b w n x w′
-slot-passes {t = t} {Γ′ = Γ′} {A = A} {e = e} {b = b} {w = w} {n = n} {x = x} {w′ = w′} (aside ok q h k) p g o =
-    subst (λ y. Passes A e t Γ′ b w n y w′) (sym q) (passes-of (p ∙ ok) g k (record { front = λ z. absurd (omega arith); slot = λ z. h }))
-slot-passes (fails ok q) p g o = denies-of (p ∙ ok) q
+  -- the questions and the context of a node of a shape
+  pub enters-for : {A′ : Answer (Unit {0})} → A ≡ A′ → Γ ≡ Γ′ → Enters A′ Γ′ b w x w′ → Enters A Γ b w x w′
+  enters-for e f h = record { says = h .says ∙ sym e; entered = λ z. subst (λ g. Entered g b w w′) (sym f) (h .entered (sym e ∙ z)) }

@@ -12,6 +12,9 @@ use Rattle.rules.specs.Script.{encode, size, depth}
 use Rattle.rules.specs.Typing.{left, right}
 use Rattle.types.specs.Held.{Held, kind-of}
 use Rattle.inference.specs.Operands.{Formed}
+use Rattle.answer.specs.Said.{said}
+use Rattle.answer.specs.declared.Checked.{Checked}
+use Rattle.answer.specs.declared.Checked.the-variants as checked
 use Rattle.inference.specs.declared.Found.{Found}
 use Rattle.inference.specs.declared.Found.the-variants.{Typed, Refused}
 
@@ -62,23 +65,21 @@ pub record Ready (types s : Bytes) (place b : ℕ) (w : Bytes) : Type 0 where
   pub room : answer-length * (b + depth tree) ≤ length w
   pub placed : place + size tree ≤ script-limit
 
--- the slots with a context over the old one
-pub record Entered (Γ : List Ty) (b : ℕ) (w : Bytes) (c : ℕ) (w′ : Bytes) : Type 0 where
-  pub binders : length Γ ≡ c
-  pub holds : Holds Γ (high c w′)
-  pub least : b ≤ c
-  pub most : c ≤ b + 1
+-- the slots with a context over that of b binders
+pub record Entered (Γ : List Ty) (b : ℕ) (w w′ : Bytes) : Type 0 where
+  pub least : b ≤ length Γ
+  pub holds : Holds Γ (high (length Γ) w′)
   pub kept : high b w′ ≡ high b w
 
--- questions with no type of their own, then the slots with a new context
-pub data Enters : Answer (Unit {0}) → List Ty → ℕ → Bytes → Found → Bytes → Type 0 where
-  enters : {Γ : List Ty} {b : ℕ} {w : Bytes} {c : ℕ} {w′ : Bytes} → Entered Γ b w c w′ → Enters (accepted tt) Γ b w (Typed c) w′
-  stops : {Γ : List Ty} {q p b : ℕ} {w w′ : Bytes} → Enters (refused q p) Γ b w (Refused q p) w′
+-- questions with no type of their own; if they are answered yes, the slots hold the next operand's context
+pub record Enters (asked : Answer (Unit {0})) (Γ : List Ty) (b : ℕ) (w : Bytes) (x : Checked) (w′ : Bytes) : Type 0 where
+  pub says : said x ≡ asked
+  pub entered : asked ≡ accepted tt → Entered Γ b w w′
 
--- questions that write nothing, and the number of binders that a yes goes on with
-pub data Says : Answer (Unit {0}) → ℕ → Found → Type 0 where
-  agrees : {n : ℕ} → Says (accepted tt) n (Typed n)
-  denies : {q p n : ℕ} → Says (refused q p) n (Refused q p)
+-- a refused question, where a type was to be found
+abbrev pub refusal : Checked → Found
+refusal checked.Passed = Refused 0 0
+refusal (checked.Refused question place) = Refused question place
 
 -- a variable's slot
 pub record In-scope (i b : ℕ) (w : Bytes) : Type 0 where

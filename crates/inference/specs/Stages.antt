@@ -14,9 +14,7 @@ use Rattle.rules.specs.Script.{encode}
 use Rattle.rules.specs.Groups.{readers}
 use Rattle.rules.specs.Typing.{left, right, q20, q21, q22, q23, q24}
 use Rattle.inference.specs.Operands.{operand-count, Formed}
-use Rattle.inference.specs.Memory.{high, Sized, Holds, Table, Entered, Beside}
-use Rattle.inference.specs.declared.Found.{Found}
-use Rattle.inference.specs.declared.Found.the-variants.{Typed, Refused}
+use Rattle.inference.specs.Memory.{high, Sized, Holds, Table, Beside}
 
 -- a term without operands
 unfoldable pub leaf-type : List Ty → Term → Answer Ty
@@ -208,11 +206,6 @@ pub record Aside (e : Term) (s : Ty) (b : ℕ) (w : Bytes) (n : ℕ) : Type 0 wh
   pub front : operand-count e ≡ 2 → Sized w n s
   pub slot : operand-count e ≡ 3 → Beside s b w
 
-pub data Passes : Answer (Unit {0}) → Term → Ty → List Ty → ℕ → Bytes → ℕ → Found → Bytes → Type 0 where
-  passes : {e : Term} {s : Ty} {Γ : List Ty} {b : ℕ} {w : Bytes} {n c : ℕ} {w′ : Bytes} → Entered Γ b w c w′ → Aside e s b w′ n
-      → Passes (accepted tt) e s Γ b w n (Typed c) w′
-  denies : {e : Term} {s : Ty} {Γ : List Ty} {q p b : ℕ} {w : Bytes} {n : ℕ} {w′ : Bytes} → Passes (refused q p) e s Γ b w n (Refused q p) w′
-
 -- a node of two operands, when both have their types
 pub record Two (g s : Bytes) (place : ℕ) (w : Bytes) (n m : ℕ) : Type 0 where
   pub tree : Term
@@ -224,9 +217,3 @@ pub record Two (g s : Bytes) (place : ℕ) (w : Bytes) (n m : ℕ) : Type 0 wher
   pub other : Sized (drop answer-length w) m second
   pub asked : between (readers g) place tree first ≡ accepted tt
   pub room : answer-length * 2 ≤ length w
-
--- a case's tested type, put aside
-pub data Set-aside (S : Security) (place r : ℕ) (t : Ty) (Γ : List Ty) (b : ℕ) (w : Bytes) (x : Found) (w′ : Bytes) : Type 0 where
-  aside : may-read S place sum t r ≡ accepted tt → x ≡ Typed (b + 1) → Beside t b w′ → Entered (left t ∷ Γ) b w (b + 1) w′
-      → Set-aside S place r t Γ b w x w′
-  fails : {q p : ℕ} → may-read S place sum t r ≡ refused q p → x ≡ Refused q p → Set-aside S place r t Γ b w x w′

@@ -1,5 +1,7 @@
-// The typing rules in the lent work buffer: what is asked and written before, between and after a node's operands.
+// The typing rules in the lent work buffer, named by where they stand in the traversal: what is asked and written before a node's
+// operands, after one, between two, after two and after each branch of a case. Questions are answered by `Checked`, types by `Found`.
 
+use answer::Checked;
 use lattice::Indirect;
 use lattice::Reader;
 use records::APPLICATION;
@@ -18,10 +20,11 @@ ghost use mathlib.Core.Path.{_≡_};
 ghost use mathlib.Core.List.{List, [], _∷_};
 ghost use Prim.Native.Nat.{ℕ, _+_, _*_, _≤_};
 ghost use lib.ListN.{length, drop, getD};
-ghost use Rattle.calculus.specs.Types.{Former, Ty, top, raiseT, sizeT};
+ghost use Rattle.calculus.specs.Types.{Former, sum, Ty, top, raiseT, sizeT};
 ghost use Rattle.calculus.specs.Subtyping.{subtype, below};
 ghost use Rattle.calculus.specs.Terms.{Term};
 ghost use Rattle.rules.specs.Answer.{accepted};
+ghost use Rattle.answer.specs.Said.{said};
 ghost use Rattle.rules.specs.Limits.{type-width, script-width, answer-length};
 ghost use Rattle.rules.specs.Groups.{readers};
 ghost use Rattle.rules.specs.Types.{former-kind, no-type, type-at, encode-type};
@@ -29,17 +32,27 @@ ghost use Rattle.rules.specs.Script.{kind, number, encode};
 ghost use Rattle.rules.specs.Typing.{left, right, q22};
 ghost use Rattle.memory.specs.Splice.{splice};
 ghost use Rattle.types.specs.Held.{Held, Starts, Sided};
-ghost use Rattle.inference.specs.Memory.{high, Slot, Sized, Holds, Meets, Ready, Enters, Says, Named, Named-sided, Beside};
+ghost use Rattle.inference.specs.Memory.{high, Slot, Sized, Holds, Meets, Ready, Enters, Named, Named-sided, Beside, refusal};
 ghost use Rattle.inference.specs.Memory.{Some-sides, In-scope, Typed-front, Entered};
 ghost use Rattle.inference.specs.Stages.{leaf-type, before-first, first-context, kept-front, function-type, pair-type};
-ghost use Rattle.inference.specs.Stages.{injection-type, may-read, after-one, between, second-context, after-two, Leaf, One};
-ghost use Rattle.inference.specs.Stages.{Some, Passes, Two, Set-aside, side-of, wanting, projection-type};
+ghost use Rattle.inference.specs.Stages.{injection-type, may-read, after-one, between, second-context, after-two, Leaf, One, Aside};
+ghost use Rattle.inference.specs.Stages.{Some, Two, side-of, wanting, projection-type};
 
 // What typing finds: the record count of the type that it has written in front, or the number of the first question answered
 // no, and the place.
 pub enum Found {
     Typed(usize),
     Refused(u8, usize),
+}
+
+// A refused question, where a type was to be found.
+pub fn refused(a: Checked) -> Found
+    ensures { λ x. ⌜ x ≡ refusal a ⌝ }
+{
+    match a {
+        Checked::Passed => Found::Refused(0, 0),
+        Checked::Refused(question, place) => Found::Refused(question, place),
+    }
 }
 
 // A slot holds any type. Question 1 asks for one for each level of a script.
@@ -125,20 +138,17 @@ fn wanted(groups: &[u8], types: &[u8], i: usize, w: &[u8]) -> bool
     subtyping::is_subtype(groups, w, named(types, i))
 }
 
-// Questions 20 and 21 of the type in front; a yes goes on with this number of binders.
-fn asks(groups: &[u8], former: u8, r: Reader, place: usize, binders: usize, w: &[u8]) -> Found
+// Questions 20 and 21: the type in front has this former, and r may read the object.
+fn may_read(groups: &[u8], former: u8, r: Reader, place: usize, w: &[u8]) -> Checked
     requires { ⌜ Starts (now w) ⌝ }
     ensures { λ x. ⌜ ((f : Former) (t : Ty) → former ≡ former-kind f → Held (now (w .entry)) t
-        → Says (may-read (readers (now (groups .entry))) place f t (r .0)) binders x) ⌝ }
+        → said x ≡ may-read (readers (now (groups .entry))) place f t (r .0)) ⌝ }
 {
     if types::kind(w) != former {
-        return Found::Refused(20, place);
+        return Checked::Refused(20, place);
     }
     let own = types::reader(w);
-    if own.at_or_below(groups, r) {
-        return Found::Typed(binders);
-    }
-    Found::Refused(21, place)
+    answer::ask(21, place, own.at_or_below(groups, r))
 }
 
 // What reading the object in front gives: a side of its type, raised by its indirect readers.
@@ -188,7 +198,7 @@ pub fn leaf(s: &[u8], b: usize, w: &mut [u8]) -> Found
 fn bind(types: &[u8], i: usize, b: usize, w: &mut [u8])
     requires { ⌜ Named (now types) i × (answer-length * (b + 1) ≤ length (now w)) ⌝ }
     ensures { λ _. ⌜ ((Γ : List Ty) (t : Ty) → Slot (drop (type-width * i) (now (types .entry))) t → length Γ ≡ b
-        → Holds Γ (high b (now (w .entry))) → Entered (t ∷ Γ) b (now (w .entry)) (b + 1) (now (w .exit))) ⌝ }
+        → Holds Γ (high b (now (w .entry))) → Entered (t ∷ Γ) b (now (w .entry)) (now (w .exit))) ⌝ }
 {
     let at = w.len() - SLOT * (b + 1);
     copy_named(types, i, w, at);
@@ -206,8 +216,15 @@ fn absorbs(groups: &[u8], types: &[u8], i: usize) -> bool
     own.at_or_below(groups, result)
 }
 
-// Before the first operand: the binder of a function or a recursion, and question 23.
-pub fn enter(groups: &[u8], types: &[u8], s: &[u8], place: usize, b: usize, w: &mut [u8]) -> Found
+// Before the operands: the binder of a function or a recursion, and question 23.
+pub fn before_operands(
+    groups: &[u8],
+    types: &[u8],
+    s: &[u8],
+    place: usize,
+    b: usize,
+    w: &mut [u8],
+) -> Checked
     requires { ⌜ Ready (now types) (now s) place b (now w) ⌝ }
     ensures { λ x. ⌜ ((v : Ready (now (types .entry)) (now (s .entry)) place b (now (w .entry)))
         → Enters (before-first (readers (now (groups .entry))) (type-at (now (types .entry))) place (v .tree))
@@ -217,16 +234,14 @@ pub fn enter(groups: &[u8], types: &[u8], s: &[u8], place: usize, b: usize, w: &
     let i = index(s);
     if k == FUNCTION {
         bind(types, i, b, w);
-        return Found::Typed(b + 1);
+        return Checked::Passed;
     }
     if k == RECURSION {
-        if absorbs(groups, types, i) {
-            bind(types, i, b, w);
-            return Found::Typed(b + 1);
-        }
-        return Found::Refused(23, place);
+        let asked = answer::ask(23, place, absorbs(groups, types, i));
+        bind(types, i, b, w);
+        return asked;
     }
-    Found::Typed(b)
+    Checked::Passed
 }
 
 // How much of the front is not lent for the first operand: an injection's record.
@@ -304,9 +319,9 @@ fn project(groups: &[u8], second: bool, r: Reader, place: usize, w: &mut [u8]) -
     ensures { λ x. ⌜ ((t : Ty) (b : ℕ) → Slot (now (w .entry)) t → answer-length * (b + 1) ≤ length (now (w .entry))
         → Meets (projection-type (readers (now (groups .entry))) place (r .0) second t) b (now (w .entry)) x (now (w .exit))) ⌝ }
 {
-    let x = asks(groups, types::PAIR, r, place, 0, w);
-    let Found::Typed(_) = x else {
-        return x;
+    let asked = may_read(groups, types::PAIR, r, place, w);
+    let Checked::Passed = asked else {
+        return refused(asked);
     };
     read_side(groups, w, second)
 }
@@ -335,8 +350,15 @@ fn adopt(groups: &[u8], types: &[u8], i: usize, place: usize, w: &mut [u8]) -> F
     Found::Refused(22, place)
 }
 
-// A node of one operand, which has its type.
-pub fn last(groups: &[u8], types: &[u8], s: &[u8], place: usize, w: &mut [u8], n: usize) -> Found
+// After the one operand: a node's type from its operand's.
+pub fn after_one(
+    groups: &[u8],
+    types: &[u8],
+    s: &[u8],
+    place: usize,
+    w: &mut [u8],
+    n: usize,
+) -> Found
     requires { ⌜ One (now types) (now s) (now w) n ⌝ }
     ensures { λ x. ⌜ ((v : One (now (types .entry)) (now (s .entry)) (now (w .entry)) n) (b : ℕ)
         → answer-length * (b + 1) ≤ length (now (w .entry))
@@ -368,41 +390,45 @@ pub fn last(groups: &[u8], types: &[u8], s: &[u8], place: usize, w: &mut [u8], n
     adopt(groups, types, i, place, w)
 }
 
-// A case's tested type: questions 20 and 21, and the two sides to the next slot.
-fn test(groups: &[u8], r: Reader, place: usize, b: usize, w: &mut [u8], n: usize) -> Found
+// A case's tested type: questions 20 and 21, and the two sides to the next slot, of which the first is the binder's type.
+fn test(groups: &[u8], r: Reader, place: usize, b: usize, w: &mut [u8], n: usize) -> Checked
     requires { ⌜ Typed-front (now w) n × (answer-length * (b + 2) ≤ length (now w)) ⌝ }
     ensures { λ x. ⌜ ((Γ : List Ty) (t : Ty) → Sized (now (w .entry)) n t → length Γ ≡ b → Holds Γ (high b (now (w .entry)))
-        → Set-aside (readers (now (groups .entry))) place (r .0) t Γ b (now (w .entry)) x (now (w .exit))) ⌝ }
+        → Enters (may-read (readers (now (groups .entry))) place sum t (r .0)) (left t ∷ Γ) b (now (w .entry)) x (now (w .exit))
+        × (may-read (readers (now (groups .entry))) place sum t (r .0) ≡ accepted tt → Beside t b (now (w .exit)))) ⌝ }
 {
-    let x = asks(groups, types::SUM, r, place, b + 1, w);
-    let Found::Typed(_) = x else {
-        return x;
+    let asked = may_read(groups, types::SUM, r, place, w);
+    let Checked::Passed = asked else {
+        return asked;
     };
     let at = w.len() - SLOT * (b + 1);
     memory::up(w, TYPE_WIDTH, at, TYPE_WIDTH * (n - 1));
-    Found::Typed(b + 1)
+    Checked::Passed
 }
 
-// Between the first operand and the second: a pair's and an application's first type stays in front.
-pub fn middle(groups: &[u8], s: &[u8], place: usize, b: usize, w: &mut [u8], n: usize) -> Found
+// Between the first operand and the second: what a pair, an application and a case ask of the first type. It stays in front, or
+// its sides are set aside in the slot of a case's binder.
+pub fn between(groups: &[u8], s: &[u8], place: usize, b: usize, w: &mut [u8], n: usize) -> Checked
     requires { ⌜ Some (now s) b (now w) n ⌝ }
     ensures { λ x. ⌜ ((v : Some (now (s .entry)) b (now (w .entry)) n)
-        → Passes (between (readers (now (groups .entry))) place (v .tree) (v .type)) (v .tree) (v .type)
-        (second-context (v .ctx) (v .tree) (v .type)) b (now (w .entry)) n x (now (w .exit))) ⌝ }
+        → Enters (between (readers (now (groups .entry))) place (v .tree) (v .type))
+        (second-context (v .ctx) (v .tree) (v .type)) b (now (w .entry)) x (now (w .exit))
+        × (between (readers (now (groups .entry))) place (v .tree) (v .type) ≡ accepted tt
+        → Aside (v .tree) (v .type) b (now (w .exit)) n)) ⌝ }
 {
     let k = records::kind(s, 0);
     if k == PAIR {
-        return Found::Typed(b);
+        return Checked::Passed;
     }
     let r = records::reader(s, 0);
     if k == APPLICATION {
-        return asks(groups, types::FUNCTION, r, place, b, w);
+        return may_read(groups, types::FUNCTION, r, place, w);
     }
     test(groups, r, place, b, w, n)
 }
 
 // A pair: its first type is in front, the second from the next slot's length on. Question 24.
-fn both(r: Reader, ir: Indirect, place: usize, w: &mut [u8], n: usize, m: usize) -> Found
+fn pair(r: Reader, ir: Indirect, place: usize, w: &mut [u8], n: usize, m: usize) -> Found
     requires { ⌜ Typed-front (now w) n × (Typed-front (drop answer-length (now w)) m × (answer-length * 2 ≤ length (now w))) ⌝ }
     ensures { λ x. ⌜ ((s t : Ty) (b : ℕ) → Sized (now (w .entry)) n s → Sized (drop answer-length (now (w .entry))) m t
         → answer-length * (b + 1) ≤ length (now (w .entry))
@@ -441,8 +467,8 @@ fn apply(groups: &[u8], place: usize, w: &mut [u8]) -> Found
     Found::Refused(22, place)
 }
 
-// A node of two operands, which have their types.
-pub fn ends(groups: &[u8], s: &[u8], place: usize, w: &mut [u8], n: usize, m: usize) -> Found
+// After both operands of a pair or an application: its type from theirs.
+pub fn after_two(groups: &[u8], s: &[u8], place: usize, w: &mut [u8], n: usize, m: usize) -> Found
     requires { ⌜ Two (now groups) (now s) place (now w) n m ⌝ }
     ensures { λ x. ⌜ ((v : Two (now (groups .entry)) (now (s .entry)) place (now (w .entry)) n m) (b : ℕ)
         → answer-length * (b + 1) ≤ length (now (w .entry))
@@ -450,7 +476,7 @@ pub fn ends(groups: &[u8], s: &[u8], place: usize, w: &mut [u8], n: usize, m: us
         (now (w .exit))) ⌝ }
 {
     if records::kind(s, 0) == PAIR {
-        return both(
+        return pair(
             records::reader(s, 0),
             records::indirect(s, 0),
             place,
@@ -462,24 +488,29 @@ pub fn ends(groups: &[u8], s: &[u8], place: usize, w: &mut [u8], n: usize, m: us
     apply(groups, place, w)
 }
 
-// After a case's first branch: question 22, and the right side to the slot's start.
-pub fn turn(groups: &[u8], types: &[u8], i: usize, place: usize, b: usize, w: &mut [u8]) -> Found
+// After a case's first branch: question 22, and the right side to the slot's start, as the type of the second branch's binder.
+pub fn after_first_branch(
+    groups: &[u8],
+    types: &[u8],
+    i: usize,
+    place: usize,
+    b: usize,
+    w: &mut [u8],
+) -> Checked
     requires { ⌜ Named (now types) i × (Starts (now w) × (Some-sides b (now w) × (answer-length * (b + 2) ≤ length (now w)))) ⌝ }
     ensures { λ x. ⌜ ((Γ : List Ty) (s t u : Ty) → Beside s b (now (w .entry)) → Held (now (w .entry)) t
         → Held (drop (type-width * i) (now (types .entry))) u → length Γ ≡ b → Holds Γ (high b (now (w .entry)))
         → Enters (q22 (readers (now (groups .entry))) place t u) (right s ∷ Γ) b (now (w .entry)) x (now (w .exit))) ⌝ }
 {
-    if wanted(groups, types, i, w) {
-        let at = w.len() - SLOT * (b + 1);
-        let from = at + TYPE_WIDTH * types::type_records(&w[at..]);
-        move_type(w, from, at);
-        return Found::Typed(b + 1);
-    }
-    Found::Refused(22, place)
+    let asked = answer::ask(22, place, wanted(groups, types, i, w));
+    let at = w.len() - SLOT * (b + 1);
+    let from = at + TYPE_WIDTH * types::type_records(&w[at..]);
+    move_type(w, from, at);
+    asked
 }
 
 // After a case's second branch: question 22, and the named type, raised by the tested type's indirect readers.
-pub fn done(
+pub fn after_second_branch(
     groups: &[u8],
     types: &[u8],
     i: usize,

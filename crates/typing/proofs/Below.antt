@@ -5,7 +5,7 @@ use Prim.Native.Nat.{ℕ, suc, _+_, _*_, _≤_}
 use native.Mathlib.Omega.{arith}
 use lib.ListN.{length, drop}
 use Rattle.calculus.specs.Types.{Ty}
-use Rattle.calculus.specs.Terms.{Term, var, unit, lam, pair, inj, app, proj, case, protect, mu}
+use Rattle.calculus.specs.Terms.{first, second, Term, var, unit, lam, pair, inj, app, proj, case, protect, mu}
 use Rattle.rules.specs.Answer.{Bytes}
 use Rattle.rules.specs.Script.{kind, encode, size, depth}
 use Rattle.rules.proofs.Prefix.{total, joined}
@@ -13,6 +13,7 @@ use Rattle.rules.proofs.Nodes.{operand-at}
 use Rattle.rules.proofs.PrefixLaws.{encode-length}
 use Rattle.rules.proofs.TermCode.{term-code, term-operands}
 use Rattle.records.specs.Place.{At}
+use Rattle.records.specs.Binders.{binds}
 use Rattle.inference.specs.Operands.{operand-count, Formed}
 use Rattle.records.specs.Operands.{first-operand, second-operand, third-operand}
 use Rattle.inference.specs.Stages.{first-context, second-context, kept-front}
@@ -259,19 +260,6 @@ at-most-three (case w i e a b) = omega arith
 at-most-three (protect m e) = omega arith
 at-most-three (mu i e) = omega arith
 
-pub branch-binders : (Γ : List Ty) (u : Ty) (e : Term) → operand-count e ≡ 3 → length (second-context Γ e u) ≡ 1 + length Γ
-unfolding operand-count second-context
-branch-binders Γ u (var n) o = absurd (omega arith)
-branch-binders Γ u (unit k) o = absurd (omega arith)
-branch-binders Γ u (lam k i e) o = absurd (omega arith)
-branch-binders Γ u (pair k a b) o = absurd (omega arith)
-branch-binders Γ u (inj d k i e) o = absurd (omega arith)
-branch-binders Γ u (app w x y) o = absurd (omega arith)
-branch-binders Γ u (proj d w e) o = absurd (omega arith)
-branch-binders Γ u (case w i e a b) o = omega arith
-branch-binders Γ u (protect m e) o = absurd (omega arith)
-branch-binders Γ u (mu i e) o = absurd (omega arith)
-
 -- a node of three operands is a case
 pub is-case : (e : Term) → operand-count e ≡ 3 → kind (encode e) 0 ≡ 9
 unfolding operand-count encode
@@ -285,3 +273,44 @@ is-case (proj d w e) o = absurd (omega arith)
 is-case (case w i e a b) o = refl
 is-case (protect m e) o = absurd (omega arith)
 is-case (mu i e) o = absurd (omega arith)
+
+-- the binders over an operand: the context grows by as many
+first-bound : (tab : ℕ → Ty) (Γ : List Ty) (e : Term) → length (first-context tab Γ e) ≡ length Γ + binds (kind (encode e) 0) 0
+unfolding first-context encode binds
+first-bound tab Γ (var n) = omega arith
+first-bound tab Γ (unit k) = omega arith
+first-bound tab Γ (lam k i e) = omega arith
+first-bound tab Γ (pair k a b) = omega arith
+first-bound tab Γ (inj first k i e) = omega arith
+first-bound tab Γ (inj second k i e) = omega arith
+first-bound tab Γ (app w x y) = omega arith
+first-bound tab Γ (proj first w e) = omega arith
+first-bound tab Γ (proj second w e) = omega arith
+first-bound tab Γ (case w i e a b) = omega arith
+first-bound tab Γ (protect m e) = omega arith
+first-bound tab Γ (mu i e) = omega arith
+
+second-bound : (Γ : List Ty) (u : Ty) (e : Term) → length (second-context Γ e u) ≡ length Γ + binds (kind (encode e) 0) 1
+unfolding second-context encode binds
+second-bound Γ u (var n) = omega arith
+second-bound Γ u (unit k) = omega arith
+second-bound Γ u (lam k i e) = omega arith
+second-bound Γ u (pair k a b) = omega arith
+second-bound Γ u (inj first k i e) = omega arith
+second-bound Γ u (inj second k i e) = omega arith
+second-bound Γ u (app w x y) = omega arith
+second-bound Γ u (proj first w e) = omega arith
+second-bound Γ u (proj second w e) = omega arith
+second-bound Γ u (case w i e a b) = omega arith
+second-bound Γ u (protect m e) = omega arith
+second-bound Γ u (mu i e) = omega arith
+
+pub first-binders : (s : Bytes) (tab : ℕ → Ty) (Γ : List Ty) (e : Term) → s ≡ encode e → length (first-context tab Γ e) ≡ length Γ + binds (kind s 0) 0
+first-binders s tab Γ e p = first-bound tab Γ e ∙ ap (λ x. length Γ + binds (kind x 0) 0) (sym p)
+
+pub second-binders : (s : Bytes) (Γ : List Ty) (u : Ty) (e : Term) → s ≡ encode e → length (second-context Γ e u) ≡ length Γ + binds (kind s 0) 1
+second-binders s Γ u e p = second-bound Γ u e ∙ ap (λ x. length Γ + binds (kind x 0) 1) (sym p)
+
+pub branch-binders : (Γ : List Ty) (u : Ty) (e : Term) → operand-count e ≡ 3 → length (second-context Γ e u) ≡ length Γ + 1
+unfolding binds
+branch-binders Γ u e o = second-bound Γ u e ∙ ap (λ k. length Γ + binds k 1) (is-case e o)

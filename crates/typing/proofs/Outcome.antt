@@ -24,10 +24,10 @@ use Rattle.answer.specs.Said.{said}
 use Rattle.answer.specs.declared.Checked.{Checked}
 use Rattle.answer.specs.declared.Checked.the-variants as checked
 use Rattle.answer.proofs.Passed.{No}
-use Rattle.inference.specs.Memory.{Meets, finds, refuses}
+use Rattle.inference.specs.Memory.{Meets, finds, refuses, refusal}
 use Rattle.inference.specs.declared.Found.{Found}
 use Rattle.inference.specs.declared.Found.the-variants.{Refused}
-use Rattle.typing.specs.Answered.{answered, refusal}
+use Rattle.typing.specs.Answered.{answered}
 use Rattle.typing.specs.Judged.{Judged}
 
 abbrev pub Outcome : Answer Ty → Found → Bytes → Bytes → Bytes → Bytes → Type 0

@@ -16,50 +16,27 @@ use Rattle.rules.specs.Typing.{left, right, q22, typing}
 use Rattle.types.specs.Held.{Held, Starts}
 use Rattle.inference.specs.Operands.{operand-count, Formed}
 use Rattle.records.specs.Operands.{first-operand, second-operand, third-operand}
-use Rattle.inference.specs.Memory.{high, Sized, Holds, Meets, finds, refuses, Ready, Entered, Enters, enters, stops, Named, Beside, Some-sides}
-use Rattle.inference.specs.Stages.{before-first, first-context, kept-front, after-one, between, second-context, after-two, wanting, One, Some, Aside, Passes, passes, denies, Two}
+use Rattle.inference.specs.Memory.{high, Sized, Holds, Meets, finds, refuses, Ready, Enters, Named, Beside, Some-sides, refusal}
+use Rattle.inference.specs.Stages.{before-first, first-context, kept-front, after-one, between, second-context, after-two, wanting, One, Some, Aside, Two}
+use Rattle.records.specs.Binders.{binds}
+use Rattle.answer.specs.declared.Checked.{Checked}
+use Rattle.answer.proofs.Passed.{Yes, No, accepts}
 use Rattle.typing.specs.Parts.{kept-between}
 use Rattle.inference.specs.declared.Found.{Found}
-use Rattle.inference.specs.declared.Found.the-variants.{Typed, Refused}
+use Rattle.inference.specs.declared.Found.the-variants.{Typed}
 use Rattle.inference.proofs.Found.{the-type}
 use Rattle.inference.proofs.Regions.{high-drop, lent-rest, drop-lent, length-lent, high-lent, high-within, sized-lent, rebase}
 use Rattle.inference.proofs.Shapes.{of-fields, depth-positive}
-use Rattle.inference.proofs.Rules.{meets-of, Typed-as, typed-as, refused-as, refused-meets}
+use Rattle.inference.proofs.Rules.{meets-of, Typed-as, typed-as, refused-as, refused-meets, refused-says}
 use Rattle.inference.proofs.Names.{named, case-index}
 use Rattle.typing.proofs.Apart.{after-second, stops-before, stops-first, one-typed, first-typed, second-typed, branch-typed}
-use Rattle.typing.proofs.Below.{first-smaller, second-smaller, third-smaller, first-formed, second-formed, third-formed, first-room, second-room, several-front, branch-binders, is-case}
+use Rattle.typing.proofs.Below.{first-smaller, second-smaller, third-smaller, first-formed, second-formed, third-formed, first-room, second-room, first-binders, second-binders, several-front, branch-binders, is-case}
 
 -- ---- answers taken apart
-
-pub went : {A : Answer (Unit {0})} {Γ : List Ty} {b : ℕ} {w : Bytes} {x : Found} {c : ℕ} {w₁ : Bytes} → x ≡ Typed c → Enters A Γ b w x w₁ → (A ≡ accepted tt) × Entered Γ b w c w₁
-went {Γ = Γ} {b = b} {w = w} {c = c} {w₁ = w₁} e (enters {c = d} h) = let q : d ≡ c = cc in (refl, subst (λ j. Entered Γ b w j w₁) q h)
-went e (stops {q = q} {p = p}) = let z : _≡_ {A = ℕ} 0 1 = cc in absurd (omega arith)
-
-pub stopped : {A : Answer (Unit {0})} {Γ : List Ty} {b : ℕ} {w : Bytes} {x : Found} {w₁ : Bytes} → tagOf the-type x ≡ 1 → Enters A Γ b w x w₁ → (q : ℕ) × (p : ℕ) × (A ≡ refused q p) × (x ≡ Refused q p)
-stopped e (enters h) = absurd (omega arith)
-stopped e (stops {q = q} {p = p}) = (q, p, refl, refl)
-
-entered-some : {A : Answer (Unit {0})} {Γ : List Ty} {b : ℕ} {w : Bytes} {x : Found} {w₁ : Bytes} → tagOf the-type x ≡ 0 → Enters A Γ b w x w₁ → (A ≡ accepted tt) × (c : ℕ) × Entered Γ b w c w₁
-entered-some e (enters {c = c} h) = (refl, c, h)
-entered-some e stops = absurd (omega arith)
 
 found-some : {o : Answer Ty} {b : ℕ} {w : Bytes} {x : Found} {v : Bytes} → tagOf the-type x ≡ 0 → Meets o b w x v → (n : ℕ) × Typed-as o b w n v
 found-some e (finds {t = t} {n = m} h) = (m, record { type = t; is = refl; wrote = h })
 found-some e refuses = absurd (omega arith)
-
-record Passed (A : Answer (Unit {0})) (e : Term) (s : Ty) (Γ : List Ty) (b : ℕ) (w : Bytes) (n c : ℕ) (w₁ : Bytes) : Type 0 where
-  asked : A ≡ accepted tt
-  entered : Entered Γ b w c w₁
-  aside : Aside e s b w₁ n
-
-passed : {A : Answer (Unit {0})} {e : Term} {s : Ty} {Γ : List Ty} {b : ℕ} {w : Bytes} {n : ℕ} {x : Found} {c : ℕ} {w₁ : Bytes} → x ≡ Typed c → Passes A e s Γ b w n x w₁ → Passed A e s Γ b w n c w₁
-passed {Γ = Γ} {b = b} {w = w} {c = c} {w₁ = w₁} f (passes {c = d} h k) = let q : d ≡ c = cc in record { asked = refl; entered = subst (λ j. Entered Γ b w j w₁) q h; aside = k }
-passed f (denies {q = q} {p = p}) = let z : _≡_ {A = ℕ} 0 1 = cc in absurd (omega arith)
-
-denied : {A : Answer (Unit {0})} {e : Term} {s : Ty} {Γ : List Ty} {b : ℕ} {w : Bytes} {n : ℕ} {x : Found} {w₁ : Bytes} → tagOf the-type x ≡ 1 → Passes A e s Γ b w n x w₁
-    → (q : ℕ) × (p : ℕ) × (A ≡ refused q p) × (x ≡ Refused q p)
-denied f (passes h k) = absurd (omega arith)
-denied f (denies {q = q} {p = p}) = (q, p, refl, refl)
 
 -- ---- a part that was lent
 
@@ -88,7 +65,10 @@ back b c low w₁ u z w₂ m l eu n k e =
 
 pub record Went (g : Bytes) {types s : Bytes} {place b : ℕ} {w : Bytes} (v : Ready types s place b w) (c : ℕ) (w₁ : Bytes) : Type 0 where
   pub asked : before-first (readers g) (type-at types) place (v .tree) ≡ accepted tt
-  pub entered : Entered (first-context (type-at types) (v .ctx) (v .tree)) b w c w₁
+  pub binders : length (first-context (type-at types) (v .ctx) (v .tree)) ≡ c
+  pub holds : Holds (first-context (type-at types) (v .ctx) (v .tree)) (high c w₁)
+  pub least : b ≤ c
+  pub kept : high b w₁ ≡ high b w
   pub same : length w₁ ≡ length w
 
 pub record Done1 (g : Bytes) {types s : Bytes} {place b : ℕ} {w : Bytes} (v : Ready types s place b w) (n : ℕ) (w₂ : Bytes) : Type 0 where
@@ -99,30 +79,72 @@ pub record Done1 (g : Bytes) {types s : Bytes} {place b : ℕ} {w : Bytes} (v : 
   pub kept : high b w₂ ≡ high b w
   pub same : length w₂ ≡ length w
 
+pub record Done2 (g : Bytes) {types s : Bytes} {place b : ℕ} {w : Bytes} (v : Ready types s place b w) (t : Ty) (n c : ℕ) (w₃ : Bytes) : Type 0 where
+  pub asked : between (readers g) place (v .tree) t ≡ accepted tt
+  pub is : typing (readers g) (type-at types) (v .ctx) place (v .tree)
+      ≡ bind (typing (readers g) (type-at types) (second-context (v .ctx) (v .tree) t) (1 + place + size (first-operand (v .tree))) (second-operand (v .tree)))
+      (after-second (readers g) (type-at types) (v .ctx) place (v .tree) t)
+  pub binders : length (second-context (v .ctx) (v .tree) t) ≡ c
+  pub holds : Holds (second-context (v .ctx) (v .tree) t) (high c w₃)
+  pub least : b ≤ c
+  pub kept : high b w₃ ≡ high b w
+  pub aside : Aside (v .tree) t b w₃ n
+  pub same : length w₃ ≡ length w
+
+pub record Done3 (g : Bytes) {types s : Bytes} {place b : ℕ} {w : Bytes} (v : Ready types s place b w) (t : Ty) (n m : ℕ) (w₄ : Bytes) : Type 0 where
+  pub asked : between (readers g) place (v .tree) t ≡ accepted tt
+  pub other : Ty
+  pub is : typing (readers g) (type-at types) (v .ctx) place (v .tree) ≡ after-second (readers g) (type-at types) (v .ctx) place (v .tree) t other
+  pub sized : Sized (drop (kept-between (operand-count (v .tree))) w₄) m other
+  pub kept : high b w₄ ≡ high b w
+  pub front : operand-count (v .tree) ≡ 2 → Sized w₄ n t
+  pub slot : operand-count (v .tree) ≡ 3 → Beside t b w₄
+  pub same : length w₄ ≡ length w
+
 module _ (g : Bytes) {types s : Bytes} {place b : ℕ} {w : Bytes} (v : Ready types s place b w) where
+  -- what is left when the first of several operands has its type
+  abbrev after-first : Ty → Answer Ty
+  after-first t =
+      bind (typing (readers g) (type-at types) (second-context (v .ctx) (v .tree) t) (1 + place + size (first-operand (v .tree))) (second-operand (v .tree)))
+      (after-second (readers g) (type-at types) (v .ctx) place (v .tree) t)
+
   pub level : 252 * (b + 1) ≤ length w
   level = omega (arith, v .room, depth-positive (v .tree))
 
-  pub enter-refuses : {x : Found} {w₁ : Bytes} {Γ : List Ty} → tagOf the-type x ≡ 1 → Enters (before-first (readers g) (type-at types) place (v .tree)) Γ b w x w₁
-      → Meets (typing (readers g) (type-at types) (v .ctx) place (v .tree)) b w x w₁
-  enter-refuses t h = let z = stopped t h in refused-meets (stops-before (readers g) (type-at types) (v .ctx) place (v .tree) (z .0) (z .1) (z .2)) (z .3)
+  module _ {x : Checked} {w₁ : Bytes} (h : Enters (before-first (readers g) (type-at types) place (v .tree)) (first-context (type-at types) (v .ctx) (v .tree)) b w x w₁) where
+    pub before-refuses : {y : Found} {w₂ : Bytes} → No x → y ≡ refusal x → Meets (typing (readers g) (type-at types) (v .ctx) place (v .tree)) b w y w₂
+    before-refuses t f = let z = refused-says x _ t (h .says) f in refused-meets (stops-before (readers g) (type-at types) (v .ctx) place (v .tree) (z .0) (z .1) (z .2)) (z .3)
+
+    pub went : {c : ℕ} → Yes x → c ≡ b + binds (kind s 0) 0 → length w₁ ≡ length w → Went g v c w₁
+    went {c} t ec l =
+        let a = accepts x _ t (h .says) in
+        let e = h .entered a in
+        let q : length (first-context (type-at types) (v .ctx) (v .tree)) ≡ c = omega (arith, first-binders s (type-at types) (v .ctx) (v .tree) (v .is), v .binders) in
+        record {
+          asked = a;
+          binders = q;
+          holds = subst (λ j. Holds (first-context (type-at types) (v .ctx) (v .tree)) (high j w₁)) q (e .holds);
+          least = omega (arith, e .least);
+          kept = e .kept;
+          same = l;
+        }
 
   module _ (o : 1 ≤ operand-count (v .tree)) {c : ℕ} {w₁ : Bytes} (h : Went g v c w₁) {low : ℕ} (el : low ≡ kept-front (v .tree)) where
     pub low-fits : low + 252 * c ≤ 252 * (b + 1)
-    low-fits = omega (arith, first-room (type-at types) (v .ctx) (v .tree), h .entered .binders, v .binders)
+    low-fits = omega (arith, first-room (type-at types) (v .ctx) (v .tree), h .binders, v .binders)
 
     pub low-within : low ≤ length w₁
     low-within = omega (arith, low-fits, level, h .same)
 
     pub first-holds : {u : Bytes} → u ≡ drop low w₁ → Holds (first-context (type-at types) (v .ctx) (v .tree)) (high c u)
-    first-holds eu = rw (eu, high-drop low c w₁ (omega (arith, low-fits, level, h .same))) (h .entered .holds)
+    first-holds eu = rw (eu, high-drop low c w₁ (omega (arith, low-fits, level, h .same))) (h .holds)
 
     pub first-room-left : {u : Bytes} → u ≡ drop low w₁ → 252 * (c + depth (first-operand (v .tree))) ≤ length u
     first-room-left eu = rw eu (simp length-drop (omega (arith, low-fits, v .room, h .same, first-smaller (v .tree) o .deeper)))
 
     pub first-formed-at : Formed types c (first-operand (v .tree))
     first-formed-at =
-        subst (λ j. Formed types j (first-operand (v .tree))) (h .entered .binders)
+        subst (λ j. Formed types j (first-operand (v .tree))) (h .binders)
         (first-formed types (type-at types) (v .ctx) (v .tree) o (subst (λ j. Formed types j (v .tree)) (sym (v .binders)) (v .formed)))
 
     pub first-placed : place + 1 + size (first-operand (v .tree)) ≤ 8192
@@ -133,7 +155,7 @@ module _ (g : Bytes) {types s : Bytes} {place b : ℕ} {w : Bytes} (v : Ready ty
         record {
           table = v .table;
           ctx = first-context (type-at types) (v .ctx) (v .tree);
-          binders = h .entered .binders;
+          binders = h .binders;
           holds = first-holds eu;
           tree = first-operand (v .tree);
           is = es;
@@ -157,13 +179,13 @@ module _ (g : Bytes) {types s : Bytes} {place b : ℕ} {w : Bytes} (v : Ready ty
       pub done1 : {n : ℕ} {w₂ : Bytes} → u ≡ drop low w₁ → length z ≡ length u → x ≡ Typed n → w₂ ≡ putMid low (length w₁ - low) w₁ z → Done1 g v n w₂
       done1 {n} {w₂} eu lz f e₂ =
           let a = typed-as f m in
-          let k = back b c low w₁ u z w₂ (h .entered .least) (omega (arith, low-fits, level, h .same)) eu lz (a .wrote .kept) e₂ in
+          let k = back b c low w₁ u z w₂ (h .least) (omega (arith, low-fits, level, h .same)) eu lz (a .wrote .kept) e₂ in
           record {
             asked = h .asked;
             type = a .type;
             is = placed1 ∙ a .is;
             sized = subst (λ j. Sized (drop j w₂) n (a .type)) el (rw (k .behind) (a .wrote .sized));
-            kept = k .kept ∙ h .entered .kept;
+            kept = k .kept ∙ h .kept;
             same = k .same ∙ h .same;
           }
 
@@ -220,64 +242,33 @@ module _ (g : Bytes) {types s : Bytes} {place b : ℕ} {w : Bytes} (v : Ready ty
             room = two-levels;
           }
 
-      under-first : typing (readers g) (type-at types) (v .ctx) place (v .tree)
-          ≡ then (between (readers g) place (v .tree) (d .type))
-          (bind (typing (readers g) (type-at types) (second-context (v .ctx) (v .tree) (d .type)) (1 + place + size (first-operand (v .tree))) (second-operand (v .tree)))
-          (after-second (readers g) (type-at types) (v .ctx) place (v .tree) (d .type)))
+      under-first : typing (readers g) (type-at types) (v .ctx) place (v .tree) ≡ then (between (readers g) place (v .tree) (d .type)) (after-first (d .type))
       under-first = first-typed (readers g) (type-at types) (v .ctx) place (v .tree) (d .type) o (d .is)
 
-      pub middle-refuses : {x : Found} {w₃ w₄ : Bytes} → tagOf the-type x ≡ 1
-          → Passes (between (readers g) place (v .tree) (d .type)) (v .tree) (d .type) (second-context (v .ctx) (v .tree) (d .type)) b w₂ n x w₃
-          → Meets (typing (readers g) (type-at types) (v .ctx) place (v .tree)) b w x w₄
-      middle-refuses t h =
-          let y = denied t h in
-          refused-meets
-          (under-first
-          ∙ ap (λ a. then a (bind (typing (readers g) (type-at types) (second-context (v .ctx) (v .tree) (d .type)) (1 + place + size (first-operand (v .tree))) (second-operand (v .tree)))
-          (after-second (readers g) (type-at types) (v .ctx) place (v .tree) (d .type)))) (y .2)) (y .3)
+      module _ {x : Checked} {w₃ : Bytes} (h : Enters (between (readers g) place (v .tree) (d .type)) (second-context (v .ctx) (v .tree) (d .type)) b w₂ x w₃) where
+        pub between-refuses : {y : Found} {w₄ : Bytes} → No x → y ≡ refusal x → Meets (typing (readers g) (type-at types) (v .ctx) place (v .tree)) b w y w₄
+        between-refuses t f = let z = refused-says x _ t (h .says) f in refused-meets (under-first ∙ ap (λ a. then a (after-first (d .type))) (z .2)) (z .3)
+
+        pub done2 : {c : ℕ} → Yes x → c ≡ b + binds (kind s 0) 1 → length w₃ ≡ length w₂ → (between (readers g) place (v .tree) (d .type) ≡ accepted tt → Aside (v .tree) (d .type) b w₃ n)
+            → Done2 g v (d .type) n c w₃
+        done2 {c} t ec l k =
+            let a = accepts x _ t (h .says) in
+            let e = h .entered a in
+            let q : length (second-context (v .ctx) (v .tree) (d .type)) ≡ c = omega (arith, second-binders s (v .ctx) (d .type) (v .tree) (v .is), v .binders) in
+            record {
+              asked = a;
+              is = under-first ∙ ap (λ y. then y (after-first (d .type))) a;
+              binders = q;
+              holds = subst (λ j. Holds (second-context (v .ctx) (v .tree) (d .type)) (high j w₃)) q (e .holds);
+              least = omega (arith, e .least);
+              kept = e .kept ∙ d .kept;
+              aside = k a;
+              same = l ∙ d .same;
+            }
 
 -- ---- the second operand
 
-pub record Done2 (g : Bytes) {types s : Bytes} {place b : ℕ} {w : Bytes} (v : Ready types s place b w) (t : Ty) (n c : ℕ) (w₃ : Bytes) : Type 0 where
-  pub asked : between (readers g) place (v .tree) t ≡ accepted tt
-  pub is : typing (readers g) (type-at types) (v .ctx) place (v .tree)
-      ≡ bind (typing (readers g) (type-at types) (second-context (v .ctx) (v .tree) t) (1 + place + size (first-operand (v .tree))) (second-operand (v .tree)))
-      (after-second (readers g) (type-at types) (v .ctx) place (v .tree) t)
-  pub binders : length (second-context (v .ctx) (v .tree) t) ≡ c
-  pub holds : Holds (second-context (v .ctx) (v .tree) t) (high c w₃)
-  pub least : b ≤ c
-  pub kept : high b w₃ ≡ high b w
-  pub aside : Aside (v .tree) t b w₃ n
-  pub same : length w₃ ≡ length w
-
-pub record Done3 (g : Bytes) {types s : Bytes} {place b : ℕ} {w : Bytes} (v : Ready types s place b w) (t : Ty) (n m : ℕ) (w₄ : Bytes) : Type 0 where
-  pub asked : between (readers g) place (v .tree) t ≡ accepted tt
-  pub other : Ty
-  pub is : typing (readers g) (type-at types) (v .ctx) place (v .tree) ≡ after-second (readers g) (type-at types) (v .ctx) place (v .tree) t other
-  pub sized : Sized (drop (kept-between (operand-count (v .tree))) w₄) m other
-  pub kept : high b w₄ ≡ high b w
-  pub front : operand-count (v .tree) ≡ 2 → Sized w₄ n t
-  pub slot : operand-count (v .tree) ≡ 3 → Beside t b w₄
-  pub same : length w₄ ≡ length w
-
 module _ (g : Bytes) {types s : Bytes} {place b : ℕ} {w : Bytes} (v : Ready types s place b w) (o : 2 ≤ operand-count (v .tree)) where
-  pub done2 : {n : ℕ} {w₂ : Bytes} (d : Done1 g v n w₂) {x : Found} {c : ℕ} {w₃ : Bytes} → x ≡ Typed c → length w₃ ≡ length w₂
-      → Passes (between (readers g) place (v .tree) (d .type)) (v .tree) (d .type) (second-context (v .ctx) (v .tree) (d .type)) b w₂ n x w₃ → Done2 g v (d .type) n c w₃
-  done2 d f l h =
-      let p = passed f h in
-      record {
-        asked = p .asked;
-        is = under-first g v d o
-            ∙ ap (λ a. then a (bind (typing (readers g) (type-at types) (second-context (v .ctx) (v .tree) (d .type)) (1 + place + size (first-operand (v .tree))) (second-operand (v .tree)))
-            (after-second (readers g) (type-at types) (v .ctx) place (v .tree) (d .type)))) (p .asked);
-        binders = p .entered .binders;
-        holds = p .entered .holds;
-        least = p .entered .least;
-        kept = p .entered .kept ∙ d .kept;
-        aside = p .aside;
-        same = l ∙ d .same;
-      }
-
   module _ {t : Ty} {n c : ℕ} {w₃ : Bytes} (d : Done2 g v t n c w₃) {mid : ℕ} (em : mid ≡ kept-between (operand-count (v .tree))) {j : ℕ} (ej : j ≡ 1 + size (first-operand (v .tree))) where
     pub mid-fits : mid + 252 * c ≤ 252 * (b + 1)
     mid-fits = omega (arith, second-room (v .ctx) t (v .tree) o, d .binders, v .binders)
@@ -408,34 +399,27 @@ module _ (g : Bytes) {types s : Bytes} {place b : ℕ} {w : Bytes} (v : Ready ty
     pub holds4 : Holds (v .ctx) (high b w₄)
     holds4 = rw (d .kept) (v .holds)
 
-    under-branch : typing (readers g) (type-at types) (v .ctx) place (v .tree)
-        ≡ then (q22 (readers g) place (d .other) (type-at types i))
-        (bind (typing (readers g) (type-at types) (right t ∷ v .ctx) (1 + place + size (first-operand (v .tree)) + size (second-operand (v .tree))) (third-operand (v .tree)))
-        (λ u. wanting (readers g) place u (type-at types i) (raiseT (readers g) (type-at types i) (top t .ir))))
+    -- what is left when the first branch has its type
+    abbrev after-branch : Answer Ty
+    after-branch =
+        bind (typing (readers g) (type-at types) (right t ∷ v .ctx) (1 + place + size (first-operand (v .tree)) + size (second-operand (v .tree))) (third-operand (v .tree)))
+        (λ u. wanting (readers g) place u (type-at types i) (raiseT (readers g) (type-at types i) (top t .ir)))
+
+    under-branch : typing (readers g) (type-at types) (v .ctx) place (v .tree) ≡ then (q22 (readers g) place (d .other) (type-at types i)) after-branch
     under-branch = d .is ∙ branch-typed (readers g) (type-at types) (v .ctx) place t (d .other) case-is
 
-    module _ {x : Found} {w₅ : Bytes} (h : Enters (q22 (readers g) place (d .other) (type-at types i)) (right t ∷ v .ctx) b w₄ x w₅) where
-      pub turn-refuses : tagOf the-type x ≡ 1 → Meets (typing (readers g) (type-at types) (v .ctx) place (v .tree)) b w x w₅
-      turn-refuses f =
-          let y = stopped f h in
-          refused-meets
-          (under-branch
-          ∙ ap (λ a. then a
-          (bind (typing (readers g) (type-at types) (right t ∷ v .ctx) (1 + place + size (first-operand (v .tree)) + size (second-operand (v .tree))) (third-operand (v .tree)))
-          (λ u. wanting (readers g) place u (type-at types i) (raiseT (readers g) (type-at types i) (top t .ir))))) (y .2)) (y .3)
+    module _ {x : Checked} {w₅ : Bytes} (h : Enters (q22 (readers g) place (d .other) (type-at types i)) (right t ∷ v .ctx) b w₄ x w₅) where
+      pub branch-refuses : {y : Found} {w₆ : Bytes} → No x → y ≡ refusal x → Meets (typing (readers g) (type-at types) (v .ctx) place (v .tree)) b w y w₆
+      branch-refuses n f = let z = refused-says x _ n (h .says) f in refused-meets (under-branch ∙ ap (λ a. then a after-branch) (z .2)) (z .3)
 
-      pub done5 : {c : ℕ} → tagOf the-type x ≡ 0 → length w₅ ≡ length w₄ → c ≡ b + 1 → Done5 g v i t c w₅
-      done5 {c} f l ec =
-          let p = entered-some f h in
-          let k = p .1 in
-          let e = p .2 in
-          let q : k ≡ c = omega (arith, e .binders, v .binders) in
+      pub done5 : {c : ℕ} → Yes x → length w₅ ≡ length w₄ → c ≡ b + 1 → Done5 g v i t c w₅
+      done5 {c} y l ec =
+          let a = accepts x _ y (h .says) in
+          let e = h .entered a in
+          let q : length (right t ∷ v .ctx) ≡ c = omega (arith, v .binders) in
           record {
-            is = under-branch
-                ∙ ap (λ a. then a
-                (bind (typing (readers g) (type-at types) (right t ∷ v .ctx) (1 + place + size (first-operand (v .tree)) + size (second-operand (v .tree))) (third-operand (v .tree)))
-                (λ u. wanting (readers g) place u (type-at types i) (raiseT (readers g) (type-at types i) (top t .ir))))) (p .0);
-            binders = omega (arith, v .binders);
+            is = under-branch ∙ ap (λ p. then p after-branch) a;
+            binders = q;
             holds = subst (λ j. Holds (right t ∷ v .ctx) (high j w₅)) q (e .holds);
             kept = e .kept ∙ d .kept;
             same = l ∙ d .same;

@@ -2,8 +2,6 @@
 use Prim.Native.Nat.{ℕ}
 use Rattle.calculus.specs.Types.{Ty}
 use Rattle.rules.specs.Answer.{Bytes, Answer, accepted, refused}
-use Rattle.answer.specs.declared.Checked.{Checked}
-use Rattle.answer.specs.declared.Checked.the-variants as checked
 use Rattle.inference.specs.Memory.{Meets}
 use Rattle.inference.specs.declared.Found.{Found}
 use Rattle.inference.specs.declared.Found.the-variants.{Typed, Refused}
@@ -11,11 +9,6 @@ use Rattle.inference.specs.declared.Found.the-variants.{Typed, Refused}
 abbrev pub answered : Found → Answer ℕ
 answered (Typed n) = accepted n
 answered (Refused question place) = refused question place
-
--- a refusal, passed on
-abbrev pub refusal : Checked → Found
-refusal checked.Passed = Refused 0 0
-refusal (checked.Refused question place) = Refused question place
 
 -- what an answer hands over
 pub record Answers (x : Found) (w : Bytes) : Type 0 where

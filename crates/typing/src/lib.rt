@@ -12,27 +12,19 @@ ghost use Prim.Native.Nat.{_+_, _≤_, _<_};
 ghost use lib.ListN.{length};
 ghost use Rattle.calculus.specs.Terms.{Term};
 ghost use Rattle.rules.specs.Answer.{accepted};
-ghost use Rattle.rules.specs.Limits.{script-width, answer-length, work-length};
+ghost use Rattle.rules.specs.Limits.{answer-length, work-length};
 ghost use Rattle.rules.specs.Groups.{readers};
 ghost use Rattle.rules.specs.Types.{type-at};
-ghost use Rattle.rules.specs.Script.{kind, arity, encode, size, term};
+ghost use Rattle.rules.specs.Script.{encode, size, term};
 ghost use Rattle.rules.specs.Typing.{typing};
 ghost use Rattle.rules.specs.Calls.{script-check, checking, type-records, answer-after, work-after};
 ghost use Rattle.records.specs.Place.{At};
 ghost use Rattle.inference.specs.Memory.{Meets, Ready};
 ghost use Rattle.typing.specs.Parts.{Operand-at, Part-of, kept-between};
-ghost use Rattle.typing.specs.Answered.{answered, refusal, Answers};
+ghost use Rattle.typing.specs.Answered.{answered, Answers};
 ghost use Rattle.typing.specs.Judged.{Judged};
 
 pub const WORK_LENGTH: usize = DEPTH_LIMIT * SLOT;
-
-// The number of operands of the first record.
-fn operands(s: &[u8]) -> usize
-    requires { ⌜ script-width ≤ length (now s) ⌝ }
-    ensures { λ a. ⌜ a ≡ arity (kind (now (s .entry)) 0) ⌝ }
-{
-    records::arity(records::kind(s, 0))
-}
 
 // The record after operand j of a node of o, counted from 1, where it starts at record i. The last one ends where the node's part
 // does, so that no record is scanned again for each one-operand record over it.
@@ -68,22 +60,25 @@ fn kept_between(o: usize) -> usize
     0
 }
 
-// The type of the node whose part of the script is s, whose record is record `place` of the script, under b binders. The work
-// buffer's rest, from its middle, is lent on for the operands' types.
+// The type of the node whose part of the script is s, whose record is record `place` of the script, under b binders: operands
+// first, left to right, with `inference`'s questions where the document has them. The work buffer's rest, from its middle, is
+// lent on for the operands' types.
 fn type_node(groups: &[u8], types: &[u8], s: &[u8], place: usize, b: usize, w: &mut [u8]) -> Found
     requires { ⌜ Ready (now types) (now s) place b (now w) ⌝ }
     ensures { λ x. ⌜ ((v : Ready (now (types .entry)) (now (s .entry)) place b (now (w .entry)))
         → Meets (typing (readers (now (groups .entry))) (type-at (now (types .entry))) (v .ctx) place (v .tree)) b
         (now (w .entry)) x (now (w .exit))) ⌝ }
 {
-    let o = operands(s);
+    let k = records::kind(s, 0);
+    let o = records::arity(k);
     if o == 0 {
         return inference::leaf(s, b, w);
     }
-    let e = inference::enter(groups, types, s, place, b, w);
-    let Found::Typed(c) = e else {
-        return e;
+    let asked = inference::before_operands(groups, types, s, place, b, w);
+    let Checked::Passed = asked else {
+        return inference::refused(asked);
     };
+    let c = b + records::binders(k, 0);
     let i2 = operand_end(s, o, 1, 1);
     let low = inference::kept_front(s);
     let first = operand(s, 1, i2);
@@ -92,13 +87,14 @@ fn type_node(groups: &[u8], types: &[u8], s: &[u8], place: usize, b: usize, w: &
         return x1;
     };
     if o == 1 {
-        return inference::last(groups, types, s, place, w, n);
+        return inference::after_one(groups, types, s, place, w, n);
     }
     let by = types::indirect(w);
-    let t = inference::middle(groups, s, place, b, w, n);
-    let Found::Typed(c2) = t else {
-        return t;
+    let read = inference::between(groups, s, place, b, w, n);
+    let Checked::Passed = read else {
+        return inference::refused(read);
     };
+    let c2 = b + records::binders(k, 1);
     let i3 = operand_end(s, o, 2, i2);
     let mid = kept_between(o);
     let second = operand(s, i2, i3);
@@ -107,12 +103,12 @@ fn type_node(groups: &[u8], types: &[u8], s: &[u8], place: usize, b: usize, w: &
         return x2;
     };
     if o == 2 {
-        return inference::ends(groups, s, place, w, n, m);
+        return inference::after_two(groups, s, place, w, n, m);
     }
     let i = inference::index(s);
-    let u = inference::turn(groups, types, i, place, b, w);
-    let Found::Typed(_) = u else {
-        return u;
+    let fits = inference::after_first_branch(groups, types, i, place, b, w);
+    let Checked::Passed = fits else {
+        return inference::refused(fits);
     };
     let end = operand_end(s, o, 3, i3);
     let third = operand(s, i3, end);
@@ -120,7 +116,7 @@ fn type_node(groups: &[u8], types: &[u8], s: &[u8], place: usize, b: usize, w: &
     let Found::Typed(_) = x3 else {
         return x3;
     };
-    inference::done(groups, types, i, place, by, w)
+    inference::after_second_branch(groups, types, i, place, by, w)
 }
 
 // Questions 20 to 24 of a script that has passed 2 to 19: the type is left in front of the work buffer.
@@ -143,16 +139,6 @@ fn hand_over(x: Found, work: &[u8], answer: &mut [u8])
         return;
     };
     memory::copy(work, TYPE_WIDTH * n, answer, 0);
-}
-
-// A refusal, as an answer of the checker.
-fn refused(a: Checked) -> Found
-    ensures { λ x. ⌜ x ≡ refusal a ⌝ }
-{
-    match a {
-        Checked::Passed => Found::Refused(0, 0),
-        Checked::Refused(question, place) => Found::Refused(question, place),
-    }
 }
 
 // Checking: questions 1 to 24. The type is written to the answer buffer's front, and the work buffer is left all zeros once
@@ -182,7 +168,7 @@ pub fn checking(
     }
     let asked = syntax::script_check(groups, types, script);
     let Checked::Passed = asked else {
-        return refused(asked);
+        return inference::refused(asked);
     };
     let x = type_script(groups, types, script, work);
     hand_over(x, work, answer);

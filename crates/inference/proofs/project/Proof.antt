@@ -1,12 +1,13 @@
 -- `inference::project` meets its contract: a type that passes question 20 has two sides, and the named one is read.
 use mathlib.Core.Path.{_≡_, refl, ap}
+use Rattle.answer.proofs.Passed.{accepts}
 use Rattle.calculus.specs.Security.{Security}
 use Rattle.calculus.specs.Types.{product, Ty, top, raiseT}
 use Rattle.rules.specs.Answer.{Bytes, accepted, _>>_ as then}
 use Rattle.rules.specs.Groups.{readers}
 use Rattle.types.specs.Held.{Held}
-use Rattle.inference.specs.Stages.{may-read, reads, side-of}
-use Rattle.inference.proofs.Rules.{read-two, said-yes, meets-of, says-passes}
+use Rattle.inference.specs.Stages.{may-read, side-of}
+use Rattle.inference.proofs.Rules.{read-two, meets-of, refused-found}
 use borrow.Author.Needs.{needs}
 use Rattle.inference.proofs.project.Statement.{statement}
 use Rattle.inference.proofs.project.Tie as tie
@@ -19,19 +20,19 @@ abbrev W : tie.Start → Bytes
 W s = s .args .w .now
 
 -- questions 20 and 21 are asked
-abbrev start : tie.After-asks → tie.Start
+abbrev start : tie.After-may-read → tie.Start
 start c = c .before .before .before .before
 
 -- and answered yes
-abbrev asked : tie.After-enum-told → tie.After-asks
+abbrev asked : tie.After-enum-told → tie.After-may-read
 asked c = c .before .before
 
 may : (c : tie.After-enum-told) (t : Ty) → Held (W (start (asked c))) t
     → let s = start (asked c) in may-read (S s) (s .args .place) product t (s .args .r .0) ≡ accepted tt
-may c t h = said-yes (c .before .match .keys1) (asked c .asks .ensures product t refl h)
+may c t h = accepts (asked c .may-read .result) _ (c .before .match .keys1) (asked c .may-read .ensures product t refl h)
 
-asks-requires : tie.Need-asks-requires
-asks-requires c κs = search needs
+may-read-requires : tie.Need-may-read-requires
+may-read-requires c κs = search needs
 
 enum-told : tie.Need-enum-told
 enum-told c = search needs
@@ -39,16 +40,18 @@ enum-told c = search needs
 enum-told-2 : tie.Need-enum-told-2
 enum-told-2 c = search needs
 
+refused-requires : tie.Need-refused-requires
+refused-requires c κs = search needs
+
 same-length : tie.Need-same-length
 same-length c = search needs
 
 returns : tie.Need-returns
 returns c =
     λ t b h l.
-    let a = c .before .before in
-    let s = start a in
-    says-passes (accepted (reads (S s) t (s .args .r .0) (side-of (s .args .second) t))) (c .before .match .keys2)
-    (a .asks .ensures product t refl (h .held))
+    let m = c .before .before in
+    let a = m .before in
+    refused-found (a .may-read .result) _ _ (m .match .keys2) (a .may-read .ensures product t refl (h .held)) (c .refused .ensures)
 
 read-side-requires : tie.Need-read-side-requires
 read-side-requires c κs =
@@ -74,9 +77,10 @@ pub project-spec : {M : Type 1} → statement M
 project-spec =
     tie.close
     (tie.spec
-    asks-requires
+    may-read-requires
     enum-told
     enum-told-2
+    refused-requires
     same-length
     returns
     read-side-requires

@@ -1,18 +1,19 @@
 -- `inference::test` meets its contract: a type that passes question 20 has two sides, and they are moved to the next slot.
-use mathlib.Core.Path.{_≡_, refl, ap, _∙_}
+use mathlib.Core.Path.{_≡_, refl, sym, ap, _∙_}
 use Prim.Native.Nat.{_+_, _-_, _*_, _≤_}
 use native.Mathlib.Omega.{arith}
 use lib.ListN.{length, take, drop}
+use Rattle.answer.proofs.Passed.{accepts}
 use Rattle.calculus.specs.Security.{Security}
 use Rattle.calculus.specs.Types.{sum, Ty}
 use Rattle.rules.specs.Answer.{Bytes, accepted}
 use Rattle.rules.specs.Groups.{readers}
 use Rattle.types.specs.Held.{Held}
-use Rattle.inference.specs.Stages.{may-read, aside, fails}
+use Rattle.inference.specs.Stages.{may-read}
 use Rattle.inference.proofs.Front.{sides-bytes}
 use Rattle.types.proofs.Parts.{type-positive}
 use Rattle.inference.proofs.Regions.{entered, beside-written}
-use Rattle.inference.proofs.Rules.{read-two, said-yes, says-refused}
+use Rattle.inference.proofs.Rules.{read-two, not-yes}
 use borrow.Author.Needs.{needs}
 use Rattle.inference.proofs.test.Statement.{statement}
 use Rattle.inference.proofs.test.Tie as tie
@@ -24,7 +25,7 @@ abbrev W : tie.Start → Bytes
 W s = s .args .w .now
 
 -- questions 20 and 21 are asked
-abbrev begin : tie.After-asks → tie.Start
+abbrev begin : tie.After-may-read → tie.Start
 begin c = c .before .before .before .before
 
 -- and answered yes
@@ -33,13 +34,12 @@ start c = begin (c .before .before)
 
 may : (c : tie.After-enum-told) (t : Ty) → Held (W (start c)) t
     → let s = start c in may-read (S s) (s .args .place) sum t (s .args .r .0) ≡ accepted tt
-may c t h = let m = c .before in said-yes (m .match .keys1) (m .before .asks .ensures sum t refl h)
+may c t h =
+    let a = c .before .before in
+    accepts (a .may-read .result) _ (c .before .match .keys1) (a .may-read .ensures sum t refl h)
 
-add-asks : tie.Need-add-asks
-add-asks c = search needs
-
-asks-requires : tie.Need-asks-requires
-asks-requires c κs = search needs
+may-read-requires : tie.Need-may-read-requires
+may-read-requires c κs = search needs
 
 enum-told : tie.Need-enum-told
 enum-told c = search needs
@@ -54,8 +54,10 @@ returns : tie.Need-returns
 returns c =
     λ Γ t h l k.
     let m = c .before in
-    let z = says-refused (m .match .keys2) (m .before .asks .ensures sum t refl (h .held)) in
-    fails (z .2) (z .3)
+    let x = m .before .may-read .result in
+    let e = m .before .may-read .ensures sum t refl (h .held) in
+    let no = not-yes x _ (m .match .keys2) e in
+    (record { says = e; entered = λ z. absurd (no z) }, λ z. absurd (no z))
 
 add-at : tie.Need-add-at
 add-at c = search needs
@@ -75,9 +77,6 @@ mul-up c = search needs
 up-requires : tie.Need-up-requires
 up-requires c κs = search needs
 
-add-t12 : tie.Need-add-t12
-add-t12 c = search needs
-
 same-length-2 : tie.Need-same-length-2
 same-length-2 c = search needs
 
@@ -95,14 +94,13 @@ returns-2 c =
     let room : 252 * (b + 1) ≤ length w = omega (arith, s .pre .1) in
     let q = beside-written {t = t} {b = b} w w′ nz (h .small)
     (ap (λ j. take (4 * (j - 1)) (drop 4 w)) (h .count) ∙ sides-bytes w t (h .held) nz) room (x .up .ensures) in
-    aside ok refl (q .0) (entered (q .0 .one) (q .1) (q .2) room l k)
+    (record { says = sym ok; entered = λ z. entered (q .0 .one) (q .1) (q .2) room l k }, λ z. q .0)
 
 pub test-spec : {M : Type 1} → statement M
 test-spec =
     tie.close
     (tie.spec
-    add-asks
-    asks-requires
+    may-read-requires
     enum-told
     enum-told-2
     same-length
@@ -113,6 +111,5 @@ test-spec =
     sub-up
     mul-up
     up-requires
-    add-t12
     same-length-2
     returns-2)

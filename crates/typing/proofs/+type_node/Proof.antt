@@ -14,9 +14,10 @@ use Rattle.calculus.specs.Terms.{Term}
 use Rattle.rules.specs.Answer.{Bytes, Answer}
 use Rattle.rules.specs.Groups.{readers}
 use Rattle.rules.specs.Types.{type-at}
-use Rattle.rules.specs.Script.{number, encode, size}
+use Rattle.rules.specs.Script.{kind, number, arity, encode, size}
 use Rattle.rules.specs.Typing.{right, q22, typing}
 use Rattle.records.specs.Place.{At}
+use Rattle.records.specs.Binders.{binds}
 use Rattle.records.specs.Operands.{first-operand, second-operand, third-operand}
 use Rattle.types.proofs.Parts.{to-end}
 use Rattle.inference.specs.Operands.{operand-count}
@@ -41,19 +42,22 @@ use Rattle.typing.proofs.type_node.Reads as node
 use Rattle.typing.proofs.type_node.Kinds as node-kinds
 use Rattle.typing.proofs.+type_node.Lts-type_node as lts
 use Rattle.types.proofs.indirect.Reads as indirect-reads
-use Rattle.inference.proofs.done.Reads as done-reads
-use Rattle.inference.proofs.ends.Reads as ends-reads
-use Rattle.inference.proofs.enter.Reads as enter-reads
+use Rattle.records.proofs.arity.Reads as arity-reads
+use Rattle.records.proofs.binders.Reads as binders-reads
+use Rattle.records.proofs.kind.Reads as kind-reads
+use Rattle.inference.proofs.after_second_branch.Reads as after-second-branch-reads
+use Rattle.inference.proofs.after_two.Reads as after-two-reads
+use Rattle.inference.proofs.before_operands.Reads as before-operands-reads
+use Rattle.inference.proofs.refused.Reads as refused-reads
 use Rattle.inference.proofs.index.Reads as index-reads
 use Rattle.inference.proofs.kept_front.Reads as kept-front-reads
-use Rattle.inference.proofs.last.Reads as last-reads
+use Rattle.inference.proofs.after_one.Reads as after-one-reads
 use Rattle.inference.proofs.leaf.Reads as leaf-reads
-use Rattle.inference.proofs.middle.Reads as middle-reads
-use Rattle.inference.proofs.turn.Reads as turn-reads
+use Rattle.inference.proofs.between.Reads as between-reads
+use Rattle.inference.proofs.after_first_branch.Reads as after-first-branch-reads
 use Rattle.typing.proofs.kept_between.Reads as kept-between-reads
 use Rattle.typing.proofs.operand.Reads as operand-reads
 use Rattle.typing.proofs.operand_end.Reads as operand-end-reads
-use Rattle.typing.proofs.operands.Reads as operands-reads
 use Rattle.typing.proofs.+type_node.{statement}
 use Rattle.typing.proofs.+type_node.Tie.{close}
 
@@ -69,12 +73,18 @@ node-below t = and 4 node-kinds.ps (falls 4 node-kinds.ps _<_ μ-node t) node.Pr
 -- what `type_node` is given of the functions that it calls
 abbrev claims : ℕ → lts.Claims
 claims t = (
-  operands-reads.Asked,
-  operands-reads.Learnt,
+  kind-reads.Asked,
+  kind-reads.Learnt,
+  arity-reads.Asked,
+  arity-reads.Learnt,
   leaf-reads.Asked,
   leaf-reads.Learnt,
-  enter-reads.Asked,
-  enter-reads.Learnt,
+  before-operands-reads.Asked,
+  before-operands-reads.Learnt,
+  refused-reads.Asked,
+  refused-reads.Learnt,
+  binders-reads.Asked,
+  binders-reads.Learnt,
   operand-end-reads.Asked,
   operand-end-reads.Learnt,
   kept-front-reads.Asked,
@@ -83,22 +93,22 @@ claims t = (
   operand-reads.Learnt,
   node-below t,
   node.Post,
-  last-reads.Asked,
-  last-reads.Learnt,
+  after-one-reads.Asked,
+  after-one-reads.Learnt,
   indirect-reads.Asked,
   indirect-reads.Learnt,
-  middle-reads.Asked,
-  middle-reads.Learnt,
+  between-reads.Asked,
+  between-reads.Learnt,
   kept-between-reads.Asked,
   kept-between-reads.Learnt,
-  ends-reads.Asked,
-  ends-reads.Learnt,
+  after-two-reads.Asked,
+  after-two-reads.Learnt,
   index-reads.Asked,
   index-reads.Learnt,
-  turn-reads.Asked,
-  turn-reads.Learnt,
-  done-reads.Asked,
-  done-reads.Learnt,
+  after-first-branch-reads.Asked,
+  after-first-branch-reads.Learnt,
+  after-second-branch-reads.Asked,
+  after-second-branch-reads.Learnt,
 )
 
 abbrev leaf-of : {types s : Bytes} {place b : ℕ} {w : Bytes} (v : Ready types s place b w)
@@ -127,16 +137,16 @@ module _ (t : ℕ) where
   abbrev Start : Type 0
   Start = lts.Start (claims t) (node-at t) node.Post
 
-  -- after operands(s)
+  -- after records::arity(k)
   abbrev Counted : Type 0
-  Counted = lts.After-operands (claims t) (node-at t) node.Post
+  Counted = lts.After-arity (claims t) (node-at t) node.Post
 
   -- o == 0
   abbrev Zero : Type 0
   Zero = lts.Then1 (claims t) (node-at t) node.Post
 
   abbrev start : Counted → Start
-  start c = c .before .before .before .before .before
+  start c = c .before .before .before .before .before .before
 
   abbrev G : Start → Bytes
   G s = s .args .groups .now
@@ -164,14 +174,21 @@ module _ (t : ℕ) where
   abbrev given : (s : Start) → Given s
   given s = s .pre .1
 
-  count : (c : Counted) (v : Given (start c)) → c .operands .result ≡ operand-count (v .tree)
-  count c v = c .operands .ensures ∙ counted-of (v .tree) (v .is)
+  count : (c : Counted) (v : Given (start c)) → c .arity .result ≡ operand-count (v .tree)
+  count c v = c .arity .ensures .0 ∙ ap arity (c .before .kind .ensures) ∙ counted-of (v .tree) (v .is)
+
+  -- the binders over an operand, as the code counts them
+  under : (c : Counted) (j : ℕ) {n : ℕ} → n ≡ binds (c .before .kind .result) j → start c .args .b + n ≡ start c .args .b + binds (kind (S (start c)) 0) j
+  under c j e = ap (λ n. start c .args .b + n) (e ∙ ap (λ k. binds k j) (c .before .kind .ensures))
 
   is-zero : (c : Zero) (v : Given (start (c .before))) → operand-count (v .tree) ≡ 0
   is-zero c v = sym (count (c .before) v) ∙ c .if1 .taken
 
-  operands-requires : lts.Need-operands-requires (claims t) (node-at t) node.Post
-  operands-requires c κs = let v = given (c .before .before .before .before) in long (v .tree) (v .is)
+  kind-requires : lts.Need-kind-requires (claims t) (node-at t) node.Post
+  kind-requires c κs = let v = given (c .before .before .before .before) in long (v .tree) (v .is)
+
+  arity-requires : lts.Need-arity-requires (claims t) (node-at t) node.Post
+  arity-requires c κs = search needs
 
   leaf-requires : lts.Need-leaf-requires (claims t) (node-at t) node.Post
   leaf-requires c κs = let v = given (start (c .before .before)) in leaf-of v (is-zero (c .before) v)
@@ -189,13 +206,13 @@ module _ (t : ℕ) where
 
   -- ---- entering: the questions before the first operand, and its context
 
-  -- after inference::enter(..)
+  -- after inference::before_operands(..)
   abbrev Enter : Type 0
-  Enter = lts.After-enter (claims t) (node-at t) node.Post
+  Enter = lts.After-before-operands (claims t) (node-at t) node.Post
 
-  -- c is known
+  -- after records::binders(k, 0)
   abbrev Entered : Type 0
-  Entered = lts.After-known-told (claims t) (node-at t) node.Post
+  Entered = lts.After-binders (claims t) (node-at t) node.Post
 
   abbrev counted : Enter → Counted
   counted c = c .before .before .before
@@ -207,16 +224,16 @@ module _ (t : ℕ) where
   start₁ c = start (counted (enter c))
 
   abbrev w₁ : Enter → Bytes
-  w₁ c = c .enter .last .1 .1 .1 .1 .1 .0
+  w₁ c = c .before-operands .last .1 .1 .1 .1 .1 .0
 
   abbrev c₁ : Entered → ℕ
-  c₁ c = c .before .e .given .0 .0
+  c₁ c = start₁ c .args .b + c .binders .result
 
   w₁-length : (c : Enter) → length (w₁ c) ≡ length (W (start (counted c)))
-  w₁-length c = c .enter .kept .1 .1 .1 .1 .1 .0
+  w₁-length c = c .before-operands .kept .1 .1 .1 .1 .1 .0
 
   module _ (c : Entered) (v : Given (start₁ c)) where
-    o-is : counted (enter c) .operands .result ≡ operand-count (v .tree)
+    o-is : counted (enter c) .arity .result ≡ operand-count (v .tree)
     o-is = count (counted (enter c)) v
 
     has-one : 1 ≤ operand-count (v .tree)
@@ -224,28 +241,37 @@ module _ (t : ℕ) where
 
     went : steps.Went (G (start₁ c)) v (c₁ c) (w₁ (enter c))
     went =
-        let p = steps.went (c .before .e .given .1) (enter c .enter .ensures v) in
-        record { asked = p .0; entered = p .1; same = w₁-length (enter c) }
+        steps.went (G (start₁ c)) v (enter c .before-operands .ensures v) (c .before .before .match .keys1)
+        (under (counted (enter c)) 0 (c .binders .ensures .0)) (w₁-length (enter c))
 
     first-stands : At (S (start₁ c)) 1 (first-operand (v .tree))
     first-stands = first-at (S (start₁ c)) (v .tree) (v .is) has-one
 
-  enter-requires : lts.Need-enter-requires (claims t) (node-at t) node.Post
-  enter-requires c κs = given (start (c .before .before))
-
-  enum-known-e : lts.Need-enum-known-e (claims t) (node-at t) node.Post
-  enum-known-e c = c .match .keys1
+  before-operands-requires : lts.Need-before-operands-requires (claims t) (node-at t) node.Post
+  before-operands-requires c κs = given (start (c .before .before))
 
   enum-told : lts.Need-enum-told (claims t) (node-at t) node.Post
-  enum-told c = c .match .keys2
+  enum-told c = c .match .keys1
+
+  enum-told-2 : lts.Need-enum-told-2 (claims t) (node-at t) node.Post
+  enum-told-2 c = c .match .keys2
+
+  refused-requires : lts.Need-refused-requires (claims t) (node-at t) node.Post
+  refused-requires c κs = search needs
 
   same-length-2 : lts.Need-same-length-2 (claims t) (node-at t) node.Post
-  same-length-2 c = w₁-length (c .before .before .before .before)
+  same-length-2 c = w₁-length (c .before .before .before .before .before)
 
   returns-2 : lts.Need-returns-2 (claims t) (node-at t) node.Post
   returns-2 c v =
-      let x = c .before .before .before .before in
-      steps.enter-refuses (G (start (counted x))) v (c .before .match .keys2) (x .enter .ensures v)
+      let x = c .before .before .before .before .before in
+      steps.before-refuses (G (start (counted x))) v (x .before-operands .ensures v) (c .before .before .match .keys2) (c .refused .ensures)
+
+  binders-requires : lts.Need-binders-requires (claims t) (node-at t) node.Post
+  binders-requires c κs = search needs
+
+  add-c : lts.Need-add-c (claims t) (node-at t) node.Post
+  add-c c = let s = start₁ c in omega (arith, c .binders .ensures .1, steps.level [] (given s), s .good)
 
   -- ---- the first operand
 
@@ -263,7 +289,7 @@ module _ (t : ℕ) where
 
   -- n is known
   abbrev First-typed : Type 0
-  First-typed = lts.After-known-told2 (claims t) (node-at t) node.Post
+  First-typed = lts.After-known-told (claims t) (node-at t) node.Post
 
   abbrev entered : Front → Entered
   entered c = c .before .before
@@ -368,8 +394,8 @@ module _ (t : ℕ) where
   enum-known-x1 : lts.Need-enum-known-x1 (claims t) (node-at t) node.Post
   enum-known-x1 c = c .match2 .keys1
 
-  enum-told-2 : lts.Need-enum-told-2 (claims t) (node-at t) node.Post
-  enum-told-2 c = c .match2 .keys2
+  enum-told-3 : lts.Need-enum-told-3 (claims t) (node-at t) node.Post
+  enum-told-3 c = c .match2 .keys2
 
   same-length-3 : lts.Need-same-length-3 (claims t) (node-at t) node.Post
   same-length-3 c = let x = c .before .before .before .before in w₂-length x ∙ w₁-length (enter (entered (front x)))
@@ -407,8 +433,8 @@ module _ (t : ℕ) where
   is-one : (c : One) (v : Given (start₂ (c .before))) → operand-count (v .tree) ≡ 1
   is-one c v = sym (o-is (to-entered (c .before)) v) ∙ c .if2 .taken
 
-  last-requires : lts.Need-last-requires (claims t) (node-at t) node.Post
-  last-requires c κs =
+  after-one-requires : lts.Need-after-one-requires (claims t) (node-at t) node.Post
+  after-one-requires c κs =
       let d = c .before .before in
       let v = given (start₂ d) in
       steps.one-of (G (start₂ d)) v (done₁ d v) (is-one (c .before) v)
@@ -417,7 +443,7 @@ module _ (t : ℕ) where
   same-length-4 c =
       let x = c .before .before in
       let d = x .before .before .before in
-      x .last .kept .1 .1 .1 .1 .0 ∙ done₁ d (given (start₂ d)) .same
+      x .after-one .kept .1 .1 .1 .1 .0 ∙ done₁ d (given (start₂ d)) .same
 
   returns-4 : lts.Need-returns-4 (claims t) (node-at t) node.Post
   returns-4 c v =
@@ -426,7 +452,7 @@ module _ (t : ℕ) where
       let s = start₂ (z .before) in
       let o = is-one z v in
       let k = done₁ (z .before) v in
-      steps.last-meets (G s) v k o (x .last .ensures (steps.one-of (G s) v k o) (s .args .b) (steps.room2 (G s) v k))
+      steps.last-meets (G s) v k o (x .after-one .ensures (steps.one-of (G s) v k o) (s .args .b) (steps.room2 (G s) v k))
 
   -- ---- between the first operand and the second
 
@@ -434,13 +460,13 @@ module _ (t : ℕ) where
   abbrev Several : Type 0
   Several = lts.Else2 (claims t) (node-at t) node.Post
 
-  -- after inference::middle(..)
+  -- after inference::between(..)
   abbrev Middle : Type 0
-  Middle = lts.After-middle (claims t) (node-at t) node.Post
+  Middle = lts.After-between (claims t) (node-at t) node.Post
 
-  -- c2 is known
+  -- after records::binders(k, 1)
   abbrev Between : Type 0
-  Between = lts.After-known-told3 (claims t) (node-at t) node.Post
+  Between = lts.After-binders2 (claims t) (node-at t) node.Post
 
   abbrev several : Middle → Several
   several c = c .before .before .before .before
@@ -458,10 +484,10 @@ module _ (t : ℕ) where
   start₃ c = start₂ (to-first c)
 
   abbrev w₃ : Middle → Bytes
-  w₃ c = c .middle .last .1 .1 .1 .1 .0
+  w₃ c = c .between .last .1 .1 .1 .1 .0
 
   abbrev c₂ : Between → ℕ
-  c₂ c = c .before .t .given .0 .0
+  c₂ c = start₃ c .args .b + c .binders2 .result
 
   module _ (c : Several) (v : Given (start₂ (c .before))) where
     has-two : 2 ≤ operand-count (v .tree)
@@ -483,7 +509,7 @@ module _ (t : ℕ) where
   by-is c v = c .before .before .indirect .ensures (done₁ (several c .before) v .type) (first-held (several c) v .held)
 
   w₃-length : (c : Middle) → length (w₃ c) ≡ length (W (start₂ (several c .before)))
-  w₃-length c = let d = several c .before in c .middle .kept .1 .1 .1 .1 .0 ∙ done₁ d (given (start₂ d)) .same
+  w₃-length c = let d = several c .before in c .between .kept .1 .1 .1 .1 .0 ∙ done₁ d (given (start₂ d)) .same
 
   indirect-requires : lts.Need-indirect-requires (claims t) (node-at t) node.Post
   indirect-requires c κs =
@@ -491,24 +517,34 @@ module _ (t : ℕ) where
       let v = given (start₂ d) in
       record { type = done₁ d v .type; held = first-held (c .before) v .held }
 
-  middle-requires : lts.Need-middle-requires (claims t) (node-at t) node.Post
-  middle-requires c κs = let z = c .before .before .before in some z (given (start₂ (z .before)))
+  between-requires : lts.Need-between-requires (claims t) (node-at t) node.Post
+  between-requires c κs = let z = c .before .before .before in some z (given (start₂ (z .before)))
 
-  enum-known-t : lts.Need-enum-known-t (claims t) (node-at t) node.Post
-  enum-known-t c = c .match3 .keys1
+  enum-told-4 : lts.Need-enum-told-4 (claims t) (node-at t) node.Post
+  enum-told-4 c = c .match3 .keys1
 
-  enum-told-3 : lts.Need-enum-told-3 (claims t) (node-at t) node.Post
-  enum-told-3 c = c .match3 .keys2
+  enum-told-5 : lts.Need-enum-told-5 (claims t) (node-at t) node.Post
+  enum-told-5 c = c .match3 .keys2
+
+  refused-requires-2 : lts.Need-refused-requires-2 (claims t) (node-at t) node.Post
+  refused-requires-2 c κs = search needs
 
   same-length-5 : lts.Need-same-length-5 (claims t) (node-at t) node.Post
-  same-length-5 c = w₃-length (c .before .before .before .before)
+  same-length-5 c = w₃-length (c .before .before .before .before .before)
 
   returns-5 : lts.Need-returns-5 (claims t) (node-at t) node.Post
   returns-5 c v =
-      let x = c .before .before .before .before in
+      let x = c .before .before .before .before .before in
       let z = several x in
       let d = z .before in
-      steps.middle-refuses (G (start₂ d)) v (done₁ d v) (has-two z v) (c .before .match3 .keys2) (x .middle .ensures (some z v))
+      steps.between-refuses (G (start₂ d)) v (done₁ d v) (has-two z v) (x .between .ensures (some z v) .0) (c .before .before .match3 .keys2)
+      (c .refused2 .ensures)
+
+  binders-requires-2 : lts.Need-binders-requires-2 (claims t) (node-at t) node.Post
+  binders-requires-2 c κs = search needs
+
+  add-c2 : lts.Need-add-c2 (claims t) (node-at t) node.Post
+  add-c2 c = let s = start₃ c in omega (arith, c .binders2 .ensures .1, steps.level [] (given s), s .good)
 
   -- the second operand's context is there
   abbrev first-type : (c : Between) → Given (start₃ c) → Ty
@@ -519,8 +555,9 @@ module _ (t : ℕ) where
   done₂ c v =
       let x = middle c in
       let z = several x in
-      steps.done2 (G (start₃ c)) v (has-two z v) (done₁ (z .before) v) (c .before .t .given .1) (x .middle .kept .1 .1 .1 .1 .0)
-      (x .middle .ensures (some z v))
+      let h = x .between .ensures (some z v) in
+      steps.done2 (G (start₃ c)) v (done₁ (z .before) v) (has-two z v) (h .0) (c .before .before .match3 .keys1)
+      (under (counted (enter (to-entered (to-first c)))) 1 (c .binders2 .ensures .0)) (x .between .kept .1 .1 .1 .1 .0) (h .1)
 
   -- ---- the second operand
 
@@ -538,7 +575,7 @@ module _ (t : ℕ) where
 
   -- m is known
   abbrev Second-typed : Type 0
-  Second-typed = lts.After-known-told4 (claims t) (node-at t) node.Post
+  Second-typed = lts.After-known-told2 (claims t) (node-at t) node.Post
 
   abbrev between : Gap → Between
   between c = c .before .before
@@ -661,8 +698,8 @@ module _ (t : ℕ) where
   enum-known-x2 : lts.Need-enum-known-x2 (claims t) (node-at t) node.Post
   enum-known-x2 c = c .match4 .keys1
 
-  enum-told-4 : lts.Need-enum-told-4 (claims t) (node-at t) node.Post
-  enum-told-4 c = c .match4 .keys2
+  enum-told-6 : lts.Need-enum-told-6 (claims t) (node-at t) node.Post
+  enum-told-6 c = c .match4 .keys2
 
   same-length-6 : lts.Need-same-length-6 (claims t) (node-at t) node.Post
   same-length-6 c = let x = c .before .before .before .before in w₄-length x ∙ w₃-length (middle (between (gap x)))
@@ -702,8 +739,8 @@ module _ (t : ℕ) where
   is-two : (c : Two) (v : Given (start₄ (c .before))) → operand-count (v .tree) ≡ 2
   is-two c v = sym (o-is (to-entered (to-first (to-between (c .before)))) v) ∙ c .if3 .taken
 
-  ends-requires : lts.Need-ends-requires (claims t) (node-at t) node.Post
-  ends-requires c κs =
+  after-two-requires : lts.Need-after-two-requires (claims t) (node-at t) node.Post
+  after-two-requires c κs =
       let d = c .before .before in
       let v = given (start₄ d) in
       steps.two-of (G (start₄ d)) v (is-two (c .before) v) (done₃ d v)
@@ -712,7 +749,7 @@ module _ (t : ℕ) where
   same-length-7 c =
       let x = c .before .before in
       let d = x .before .before .before in
-      x .ends .kept .1 .1 .1 .0 ∙ done₃ d (given (start₄ d)) .same
+      x .after-two .kept .1 .1 .1 .0 ∙ done₃ d (given (start₄ d)) .same
 
   returns-7 : lts.Need-returns-7 (claims t) (node-at t) node.Post
   returns-7 c v =
@@ -722,7 +759,7 @@ module _ (t : ℕ) where
       let o = is-two z v in
       let k = done₃ (z .before) v in
       steps.ends-meets (G s) v o k
-      (x .ends .ensures (steps.two-of (G s) v o k) (s .args .b) (omega (arith, steps.level (G s) v, k .same)))
+      (x .after-two .ensures (steps.two-of (G s) v o k) (s .args .b) (omega (arith, steps.level (G s) v, k .same)))
 
   -- ---- a case, between its two branches
 
@@ -730,13 +767,13 @@ module _ (t : ℕ) where
   abbrev Index : Type 0
   Index = lts.After-index (claims t) (node-at t) node.Post
 
-  -- after inference::turn(..)
+  -- after inference::after_first_branch(..)
   abbrev Turn : Type 0
-  Turn = lts.After-turn (claims t) (node-at t) node.Post
+  Turn = lts.After-after-first-branch (claims t) (node-at t) node.Post
 
-  -- u is typed
+  -- question 22 is answered yes
   abbrev Turned : Type 0
-  Turned = lts.After-enum-told5 (claims t) (node-at t) node.Post
+  Turned = lts.After-enum-told7 (claims t) (node-at t) node.Post
 
   abbrev two : Index → Second-typed
   two c = c .before .before
@@ -751,7 +788,7 @@ module _ (t : ℕ) where
   i c = c .index .result
 
   abbrev w₅ : Turn → Bytes
-  w₅ c = c .turn .last .1 .1 .1 .1 .1 .0
+  w₅ c = c .after-first-branch .last .1 .1 .1 .1 .1 .0
 
   has-three : (c : Index) (v : Given (start₄ (two c))) → operand-count (v .tree) ≡ 3
   has-three c v =
@@ -764,52 +801,55 @@ module _ (t : ℕ) where
   i-is c = c .index .ensures
 
   w₅-length : (c : Turn) → length (w₅ c) ≡ length (w₄ (second (two (index c))))
-  w₅-length c = c .turn .kept .1 .1 .1 .1 .1 .0
+  w₅-length c = c .after-first-branch .kept .1 .1 .1 .1 .1 .0
 
   -- what turning from the first branch to the second answers
   turns : (c : Turn) (v : Given (start₄ (two (index c))))
       → let d = two (index c) in
       let s = start₄ d in
       Enters (q22 (readers (G s)) (place s) (done₃ d v .other) (type-at (T s) (i (index c))))
-      (right (first-type (to-between d) v) ∷ v .ctx) (s .args .b) (w₄ (second d)) (c .turn .result) (w₅ c)
+      (right (first-type (to-between d) v) ∷ v .ctx) (s .args .b) (w₄ (second d)) (c .after-first-branch .result) (w₅ c)
   turns c v =
       let y = index c in
       let s = start₄ (two y) in
       let o = has-three y v in
       let j = i-is y in
       let k = done₃ (two y) v in
-      c .turn .ensures (v .ctx) (first-type (to-between (two y)) v) (k .other) (type-at (T s) (i y)) (k .slot o)
+      c .after-first-branch .ensures (v .ctx) (first-type (to-between (two y)) v) (k .other) (type-at (T s) (i y)) (k .slot o)
       (steps.branch-held (G s) v o j k) (v .table .entry (i y) (steps.case-named (G s) v o j) .held) (v .binders)
       (steps.holds4 (G s) v o j k)
 
   index-requires : lts.Need-index-requires (claims t) (node-at t) node.Post
   index-requires c κs = let v = given (start₄ (c .before)) in long (v .tree) (v .is)
 
-  turn-requires : lts.Need-turn-requires (claims t) (node-at t) node.Post
-  turn-requires c κs =
+  after-first-branch-requires : lts.Need-after-first-branch-requires (claims t) (node-at t) node.Post
+  after-first-branch-requires c κs =
       let y = c .before in
       let d = two y in
       let v = given (start₄ d) in
       steps.turn-asks (G (start₄ d)) v (has-three y v) (i-is y) (done₃ d v)
 
-  enum-told-5 : lts.Need-enum-told-5 (claims t) (node-at t) node.Post
-  enum-told-5 c = c .match5 .keys1
+  enum-told-7 : lts.Need-enum-told-7 (claims t) (node-at t) node.Post
+  enum-told-7 c = c .match5 .keys1
 
-  enum-told-6 : lts.Need-enum-told-6 (claims t) (node-at t) node.Post
-  enum-told-6 c = c .match5 .keys2
+  enum-told-8 : lts.Need-enum-told-8 (claims t) (node-at t) node.Post
+  enum-told-8 c = c .match5 .keys2
+
+  refused-requires-3 : lts.Need-refused-requires-3 (claims t) (node-at t) node.Post
+  refused-requires-3 c κs = search needs
 
   same-length-8 : lts.Need-same-length-8 (claims t) (node-at t) node.Post
   same-length-8 c =
-      let x = c .before .before .before .before in
+      let x = c .before .before .before .before .before in
       let d = two (index x) in
       w₅-length x ∙ done₃ d (given (start₄ d)) .same
 
   returns-8 : lts.Need-returns-8 (claims t) (node-at t) node.Post
   returns-8 c v =
-      let x = c .before .before .before .before in
+      let x = c .before .before .before .before .before in
       let y = index x in
       let d = two y in
-      steps.turn-refuses (G (start₄ d)) v (has-three y v) (i-is y) (done₃ d v) (turns x v) (c .before .match5 .keys2)
+      steps.branch-refuses (G (start₄ d)) v (has-three y v) (i-is y) (done₃ d v) (turns x v) (c .before .before .match5 .keys2) (c .refused3 .ensures)
 
   -- the second branch's context is there
   abbrev to-index : Turned → Index
@@ -848,7 +888,7 @@ module _ (t : ℕ) where
 
   -- x3 is typed
   abbrev Third-typed : Type 0
-  Third-typed = lts.After-enum-told7 (claims t) (node-at t) node.Post
+  Third-typed = lts.After-enum-told9 (claims t) (node-at t) node.Post
 
   abbrev turned : Third → Turned
   turned c = c .before .before .before .before
@@ -927,11 +967,11 @@ module _ (t : ℕ) where
       let v = given (start₅ d) in
       (omega (arith, p .operand3 .ensures .1 (omega (arith, from₃-is d v)), start₅ d .pre .0), ready₃ p v)
 
-  enum-told-7 : lts.Need-enum-told-7 (claims t) (node-at t) node.Post
-  enum-told-7 c = c .match6 .keys1
+  enum-told-9 : lts.Need-enum-told-9 (claims t) (node-at t) node.Post
+  enum-told-9 c = c .match6 .keys1
 
-  enum-told-8 : lts.Need-enum-told-8 (claims t) (node-at t) node.Post
-  enum-told-8 c = c .match6 .keys2
+  enum-told-10 : lts.Need-enum-told-10 (claims t) (node-at t) node.Post
+  enum-told-10 c = c .match6 .keys2
 
   same-length-9 : lts.Need-same-length-9 (claims t) (node-at t) node.Post
   same-length-9 c =
@@ -966,8 +1006,8 @@ module _ (t : ℕ) where
 
   -- ---- after three operands
 
-  done-requires : lts.Need-done-requires (claims t) (node-at t) node.Post
-  done-requires c κs =
+  after-second-branch-requires : lts.Need-after-second-branch-requires (claims t) (node-at t) node.Post
+  after-second-branch-requires c κs =
       let d = c .before in
       let y = to-index (to-turned d) in
       let v = given (start₆ d) in
@@ -977,7 +1017,7 @@ module _ (t : ℕ) where
   same-length-10 c =
       let x = c .before .before in
       let d = x .before .before in
-      x .done .kept .1 .1 .1 .1 .1 .0 ∙ done₆ d (given (start₆ d)) .same
+      x .after-second-branch .kept .1 .1 .1 .1 .1 .0 ∙ done₆ d (given (start₆ d)) .same
 
   returns-10 : lts.Need-returns-10 (claims t) (node-at t) node.Post
   returns-10 c v =
@@ -989,22 +1029,26 @@ module _ (t : ℕ) where
       let j = i-is y in
       let k = done₆ d v in
       steps.done-meets (G s) v o j k (by-is (middle (to-between (two y))) v)
-      (x .done .ensures (k .type) (type-at (T s) (i y)) (s .args .b) (k .held)
+      (x .after-second-branch .ensures (k .type) (type-at (T s) (i y)) (s .args .b) (k .held)
       (v .table .entry (i y) (steps.case-named (G s) v o j)) (steps.done-room (G s) v o j k))
 
 pub +type-node-spec : {M : Type 1} → statement M
 +type-node-spec =
     close μ-node λ t.
     lts.spec (claims t) (node-at t) node.Post
-    (operands-requires t)
+    (kind-requires t)
+    (arity-requires t)
     (leaf-requires t)
     (same-length t)
     (returns t)
-    (enter-requires t)
-    (enum-known-e t)
+    (before-operands-requires t)
     (enum-told t)
+    (enum-told-2 t)
+    (refused-requires t)
     (same-length-2 t)
     (returns-2 t)
+    (binders-requires t)
+    (add-c t)
     (operand-end-requires t)
     (kept-front-requires t)
     (operand-requires t)
@@ -1014,18 +1058,21 @@ pub +type-node-spec : {M : Type 1} → statement M
     (part-type-node-end t)
     (type-node-requires t)
     (enum-known-x1 t)
-    (enum-told-2 t)
+    (enum-told-3 t)
     (same-length-3 t)
     (returns-3 t)
-    (last-requires t)
+    (after-one-requires t)
     (same-length-4 t)
     (returns-4 t)
     (indirect-requires t)
-    (middle-requires t)
-    (enum-known-t t)
-    (enum-told-3 t)
+    (between-requires t)
+    (enum-told-4 t)
+    (enum-told-5 t)
+    (refused-requires-2 t)
     (same-length-5 t)
     (returns-5 t)
+    (binders-requires-2 t)
+    (add-c2 t)
     (operand-end-requires-2 t)
     (kept-between-requires t)
     (operand-requires-2 t)
@@ -1035,26 +1082,27 @@ pub +type-node-spec : {M : Type 1} → statement M
     (part-type-node-end-2 t)
     (type-node-requires-2 t)
     (enum-known-x2 t)
-    (enum-told-4 t)
+    (enum-told-6 t)
     (same-length-6 t)
     (returns-6 t)
-    (ends-requires t)
+    (after-two-requires t)
     (same-length-7 t)
     (returns-7 t)
     (index-requires t)
-    (turn-requires t)
-    (enum-told-5 t)
-    (enum-told-6 t)
+    (after-first-branch-requires t)
+    (enum-told-7 t)
+    (enum-told-8 t)
+    (refused-requires-3 t)
     (same-length-8 t)
     (returns-8 t)
     (operand-end-requires-3 t)
     (operand-requires-3 t)
     (add-type-node-3 t)
     (type-node-requires-3 t)
-    (enum-told-7 t)
-    (enum-told-8 t)
+    (enum-told-9 t)
+    (enum-told-10 t)
     (same-length-9 t)
     (returns-9 t)
-    (done-requires t)
+    (after-second-branch-requires t)
     (same-length-10 t)
     (returns-10 t)

@@ -1,4 +1,4 @@
--- `inference::last` meets its contract: the node's shape from its fields, then the callee's answer for that shape.
+-- `inference::after_one` meets its contract: the node's shape from its fields, then the callee's answer for that shape.
 use mathlib.Core.Path.{_≡_, sym, ap, _∙_, subst}
 use Prim.Native.Nat.{ℕ, _≤_, _<_}
 use native.Mathlib.Omega.{arith}
@@ -19,8 +19,8 @@ use Rattle.inference.proofs.Regions.{slot-of}
 use Rattle.inference.proofs.Rules.{meets-of}
 use Rattle.inference.proofs.Names.{named, named-sided, lam-index, inj-index, mu-index}
 use borrow.Author.Needs.{needs}
-use Rattle.inference.proofs.last.Statement.{statement}
-use Rattle.inference.proofs.last.Tie as tie
+use Rattle.inference.proofs.after_one.Statement.{statement}
+use Rattle.inference.proofs.after_one.Tie as tie
 
 -- the node's fields, as they were read
 record Fields (s : Bytes) (k a b i : ℕ) : Type 0 where
@@ -278,8 +278,8 @@ returns-7 c =
     meets-of (rule h v (shape v f 11 q))
     (x .adopt .ensures (v .type) (type-at (T (start h)) (I h)) b (front d v .held) (v .table .entry (I h) (recursion-index v f q)) l)
 
-pub last-spec : {M : Type 1} → statement M
-last-spec =
+pub after-one-spec : {M : Type 1} → statement M
+after-one-spec =
     tie.close
     (tie.spec
     kind-requires

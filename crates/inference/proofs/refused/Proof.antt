@@ -1,9 +1,9 @@
--- `typing::refused` meets its contract.
+-- `inference::refused` meets its contract.
 use mathlib.Core.Path.{sym, ap}
-use Rattle.typing.specs.Answered.{refusal}
+use Rattle.inference.specs.Memory.{refusal}
 use borrow.Author.Needs.{needs}
-use Rattle.typing.proofs.refused.Statement.{statement}
-use Rattle.typing.proofs.refused.Tie as tie
+use Rattle.inference.proofs.refused.Statement.{statement}
+use Rattle.inference.proofs.refused.Tie as tie
 
 enum-told : tie.Need-enum-told
 enum-told c = search needs

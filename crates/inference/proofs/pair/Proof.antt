@@ -1,4 +1,4 @@
--- `inference::both` meets its contract: the first type is moved up by a record, the second down to it, the record put in front.
+-- `inference::pair` meets its contract: the first type is moved up by a record, the second down to it, the record put in front.
 use mathlib.Core.Path.{_≡_, ap, _∙_}
 use Prim.Native.Nat.{_+_, _*_, _≤_}
 use native.Mathlib.Omega.{arith}
@@ -9,8 +9,8 @@ use Rattle.inference.specs.Memory.{refuses}
 use Rattle.inference.proofs.Front.{held-bytes}
 use Rattle.inference.proofs.Rules.{meets-of, fits-no, pair-meets}
 use borrow.Author.Needs.{needs}
-use Rattle.inference.proofs.both.Statement.{statement}
-use Rattle.inference.proofs.both.Tie as tie
+use Rattle.inference.proofs.pair.Statement.{statement}
+use Rattle.inference.proofs.pair.Tie as tie
 
 -- back from the record that is put in front: the second type was moved down, the first up, question 24 passed
 abbrev lowered : tie.After-put → tie.After-down
@@ -88,8 +88,8 @@ returns-2 c =
     (ap (take (4 * o .m)) (kept u s t (p .count) f (omega arith)) ∙ held-bytes (q .held) (o .m) (q .count)) l
     (u .up .ensures) (y .down .ensures) (x .put .ensures)
 
-pub both-spec : {M : Type 1} → statement M
-both-spec =
+pub pair-spec : {M : Type 1} → statement M
+pair-spec =
     tie.close
     (tie.spec
     add-if1

@@ -1,4 +1,4 @@
--- `inference::turn` meets its contract: the slot's two sides stand one after the other, and the right one is moved to its start.
+-- `inference::after_first_branch` meets its contract: the slot's two sides stand one after the other, and the right one is moved to its start.
 use mathlib.Core.Path.{_≡_, refl, sym, ap, _∙_, subst}
 use Prim.Native.Nat.{ℕ, _+_, _-_, _*_, _≤_}
 use native.Mathlib.Omega.{arith}
@@ -12,10 +12,10 @@ use Rattle.types.specs.Held.{Held}
 use Rattle.inference.specs.Memory.{high, Slot, Beside, Some-sides}
 use Rattle.types.proofs.Parts.{to-end}
 use Rattle.inference.proofs.Regions.{slot-written}
-use Rattle.inference.proofs.Rules.{enters-of, stops-of}
+use Rattle.inference.proofs.Rules.{enters-as}
 use borrow.Author.Needs.{needs}
-use Rattle.inference.proofs.turn.Statement.{statement}
-use Rattle.inference.proofs.turn.Tie as tie
+use Rattle.inference.proofs.after_first_branch.Statement.{statement}
+use Rattle.inference.proofs.after_first_branch.Tie as tie
 
 abbrev W : tie.Start → Bytes
 W s = s .args .w .now
@@ -63,6 +63,9 @@ fits c =
 wanted-requires : tie.Need-wanted-requires
 wanted-requires c κs = search needs
 
+ask-requires : tie.Need-ask-requires
+ask-requires c κs = search needs
+
 add-at : tie.Need-add-at
 add-at c = search needs
 
@@ -99,9 +102,6 @@ move-type-requires c κs =
     let q = tested (start d) in
     (record { type = right (q .type); held = right-at d (q .type) (q .sides) .held }, omega arith)
 
-add-t13 : tie.Need-add-t13
-add-t13 c = search needs
-
 same-length : tie.Need-same-length
 same-length c = search needs
 
@@ -110,26 +110,18 @@ returns c =
     λ Γ v t u q h k m o.
     let x = c .before .before in
     let d = x .before .before in
-    let i = d .before .before .before in
+    let a = d .before .before .before in
     let s = start d in
     let z = right-at d v q in
-    enters-of (ap (ask 22 (s .args .place)) (sym (i .before .wanted .ensures t u h k) ∙ i .if1 .taken)) refl
+    enters-as (a .ask .ensures ∙ ap (ask 22 (s .args .place)) (a .before .wanted .ensures t u h k)) refl
     (slot-written (z .small) refl (omega (arith, s .pre .1 .1 .1)) (x .move-type .ensures (right v) (z .held) .1) m o)
 
-same-length-2 : tie.Need-same-length-2
-same-length-2 c = search needs
-
-returns-2 : tie.Need-returns-2
-returns-2 c =
-    λ Γ v t u q h k m o.
-    let a = c .before in
-    stops-of (ap (ask 22 (begin a .args .place)) (sym (a .wanted .ensures t u h k) ∙ c .if1 .left))
-
-pub turn-spec : {M : Type 1} → statement M
-turn-spec =
+pub after-first-branch-spec : {M : Type 1} → statement M
+after-first-branch-spec =
     tie.close
     (tie.spec
     wanted-requires
+    ask-requires
     add-at
     mul-at
     sub-at
@@ -140,8 +132,5 @@ turn-spec =
     mul-from
     add-from
     move-type-requires
-    add-t13
     same-length
-    returns
-    same-length-2
-    returns-2)
+    returns)

@@ -1,4 +1,4 @@
--- `inference::middle` meets its contract: the node's shape from its fields, then the callee's answer for that shape.
+-- `inference::between` meets its contract: the node's shape from its fields, then the callee's answer for that shape.
 use mathlib.Core.Path.{_≡_, refl, sym, ap, _∙_}
 use Prim.Native.Nat.{ℕ, _≤_}
 use native.Mathlib.Omega.{arith}
@@ -11,14 +11,14 @@ use Rattle.rules.specs.Groups.{readers}
 use Rattle.rules.specs.Script.{kind, ir, number, make}
 use Rattle.records.specs.Operands.{first-operand, second-operand, third-operand}
 use Rattle.inference.specs.Operands.{operand-count}
-use Rattle.inference.specs.Memory.{Sized}
+use Rattle.inference.specs.Memory.{Sized, Beside}
 use Rattle.inference.specs.Stages.{between, second-context, Some, Aside}
 use Rattle.inference.proofs.Regions.{stayed}
 use Rattle.inference.proofs.Shapes.{long, of-kind, case-kind, of-fields}
-use Rattle.inference.proofs.Rules.{passes-of, front-passes, slot-passes}
+use Rattle.inference.proofs.Rules.{enters-as, enters-for}
 use borrow.Author.Needs.{needs}
-use Rattle.inference.proofs.middle.Statement.{statement}
-use Rattle.inference.proofs.middle.Tie as tie
+use Rattle.inference.proofs.between.Statement.{statement}
+use Rattle.inference.proofs.between.Tie as tie
 
 -- the call's groups, script and node
 abbrev S : tie.Start → Security
@@ -61,6 +61,10 @@ context s v q = ap (λ e. second-context (v .ctx) e (v .type)) q
 front-aside : {e : Term} {s : Ty} {b : ℕ} {w : Bytes} {n : ℕ} → operand-count e ≡ 2 → Sized w n s → Aside e s b w n
 front-aside o h = record { front = λ z. h; slot = λ z. absurd (omega arith) }
 
+-- its sides are in the slot
+slot-aside : {e : Term} {s : Ty} {b : ℕ} {w : Bytes} {n : ℕ} → operand-count e ≡ 3 → Beside s b w → Aside e s b w n
+slot-aside o h = record { front = λ z. absurd (omega arith); slot = λ z. h }
+
 node-long : (s : tie.Start) → 6 ≤ length (P s)
 node-long s = long (s .pre .tree) (s .pre .is)
 
@@ -74,13 +78,13 @@ returns c =
     let k = c .before in
     let s = begin (k .before) in
     let e = of-kind (P s) (v .tree) 3 (v .is) (sym (k .kind .ensures) ∙ c .if1 .taken) in
-    passes-of (asked s v e) (context s v e) (stayed (v .binders) (v .holds)) (front-aside (ap operand-count e) (v .sized))
+    (enters-as (sym (asked s v e)) (context s v e) (stayed (v .binders) (v .holds)), λ z. front-aside (ap operand-count e) (v .sized))
 
 reader-requires : tie.Need-reader-requires
 reader-requires c κs = node-long (begin (c .before .before))
 
-asks-requires : tie.Need-asks-requires
-asks-requires c κs = search needs
+may-read-requires : tie.Need-may-read-requires
+may-read-requires c κs = search needs
 
 same-length : tie.Need-same-length
 same-length c = search needs
@@ -92,9 +96,10 @@ returns-2 c =
     let i = c .before .before in
     let d = i .before in
     let s = start d in
-    let e = shape d v 6 (sym (kinded d .kind .ensures) ∙ i .if2 .taken) in
-    front-passes (c .asks .ensures function (v .type) refl (v .sized .held)) (asked s v e) (context s v e)
-    (stayed (v .binders) (v .holds)) (front-aside (ap operand-count e) (v .sized))
+    let e = shape d v 6 (sym (kinded d .kind .ensures) ∙ i .if2 .taken) in (
+      enters-as (c .may-read .ensures function (v .type) refl (v .sized .held) ∙ sym (asked s v e)) (context s v e) (stayed (v .binders) (v .holds)),
+      λ z. front-aside (ap operand-count e) (v .sized),
+    )
 
 test-requires : tie.Need-test-requires
 test-requires c κs = search needs
@@ -113,16 +118,17 @@ returns-3 c =
     let k = kinded d .kind .ensures in
     let q = case-kind (v .tree) (v .is) (v .some) (λ z. d .before .if1 .left (k ∙ z)) (λ z. i .if2 .left (k ∙ z)) in
     let e = shape d v 9 q in
-    slot-passes (x .test .ensures (v .ctx) (v .type) (v .sized) (v .binders) (v .holds)) (asked s v e) (context s v e) (ap operand-count e)
+    let h = x .test .ensures (v .ctx) (v .type) (v .sized) (v .binders) (v .holds) in
+    (enters-for (asked s v e) (context s v e) (h .0), λ z. slot-aside (ap operand-count e) (h .1 (sym (asked s v e) ∙ z)))
 
-pub middle-spec : {M : Type 1} → statement M
-middle-spec =
+pub between-spec : {M : Type 1} → statement M
+between-spec =
     tie.close
     (tie.spec
     kind-requires
     returns
     reader-requires
-    asks-requires
+    may-read-requires
     same-length
     returns-2
     test-requires

@@ -1,4 +1,4 @@
--- `inference::ends` meets its contract: a node of two operands that is no pair is an application.
+-- `inference::after_two` meets its contract: a node of two operands that is no pair is an application.
 use mathlib.Core.Path.{_≡_, refl, sym, ap, _∙_}
 use Prim.Native.Nat.{ℕ, _≤_}
 use lib.ListN.{length}
@@ -14,8 +14,8 @@ use Rattle.inference.proofs.Regions.{slot-of}
 use Rattle.inference.proofs.Shapes.{long, of-kind, app-kind, of-fields}
 use Rattle.inference.proofs.Rules.{read-two, meets-of}
 use borrow.Author.Needs.{needs}
-use Rattle.inference.proofs.ends.Statement.{statement}
-use Rattle.inference.proofs.ends.Tie as tie
+use Rattle.inference.proofs.after_two.Statement.{statement}
+use Rattle.inference.proofs.after_two.Tie as tie
 
 module _ {g s : Bytes} {place : ℕ} {w : Bytes} {n m : ℕ} (v : Two g s place w n m) where
   -- the rule for a node of a shape
@@ -57,8 +57,8 @@ reader-requires c κs = node-long (start (c .before))
 indirect-requires : tie.Need-indirect-requires
 indirect-requires c κs = node-long (start (c .before .before))
 
-both-requires : tie.Need-both-requires
-both-requires c κs = search needs
+pair-requires : tie.Need-pair-requires
+pair-requires c κs = search needs
 
 same-length : tie.Need-same-length
 same-length c = search needs
@@ -74,7 +74,7 @@ returns c =
     let s = P (start (i .before)) in
     let e = of-fields s (v .tree) 3 {n = number s 0} (v .is) (sym (i .before .kind .ensures) ∙ i .if1 .taken) (a .reader .ensures)
     (d .indirect .ensures) refl in
-    meets-of (rule v e) (x .both .ensures (v .first) (v .second) b (v .sized) (v .other) l)
+    meets-of (rule v e) (x .pair .ensures (v .first) (v .second) b (v .sized) (v .other) l)
 
 apply-requires : tie.Need-apply-requires
 apply-requires c κs =
@@ -95,14 +95,14 @@ returns-2 c =
     let i = x .before .before in
     meets-of (rule v (is-app v (no-pair i))) (x .apply .ensures (v .first) (v .second) b (slot-of (v .sized)) (v .other .held) l)
 
-pub ends-spec : {M : Type 1} → statement M
-ends-spec =
+pub after-two-spec : {M : Type 1} → statement M
+after-two-spec =
     tie.close
     (tie.spec
     kind-requires
     reader-requires
     indirect-requires
-    both-requires
+    pair-requires
     same-length
     returns
     apply-requires

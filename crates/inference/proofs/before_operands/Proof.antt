@@ -1,6 +1,5 @@
--- `inference::enter` meets its contract: a function and a recursion bind the named type, and question 23 is a recursion's.
+-- `inference::before_operands` meets its contract: a function and a recursion bind the named type, and question 23 is a recursion's.
 use mathlib.Core.Path.{_≡_, refl, sym, ap, _∙_}
-use mathlib.Core.Bool.{Bool}
 use Prim.Native.Nat.{ℕ, _+_, _*_, _≤_, _<_}
 use native.Mathlib.Omega.{arith}
 use lib.ListN.{length}
@@ -15,11 +14,11 @@ use Rattle.inference.specs.Memory.{Ready}
 use Rattle.inference.specs.Stages.{before-first, first-context}
 use Rattle.inference.proofs.Regions.{stayed}
 use Rattle.inference.proofs.Shapes.{long, plain, of-fields, depth-positive}
-use Rattle.inference.proofs.Rules.{enters-of, stops-of}
+use Rattle.inference.proofs.Rules.{enters-as}
 use Rattle.inference.proofs.Names.{named, named-sided, lam-index, mu-index}
 use borrow.Author.Needs.{needs}
-use Rattle.inference.proofs.enter.Statement.{statement}
-use Rattle.inference.proofs.enter.Tie as tie
+use Rattle.inference.proofs.before_operands.Statement.{statement}
+use Rattle.inference.proofs.before_operands.Tie as tie
 
 -- the call's groups, types and script
 abbrev S : tie.Start → Security
@@ -74,19 +73,18 @@ mu-named c v =
     let d = read c in
     mu-index (T (start d)) (start d .args .b) (I d) (v .tree) (v .formed) (shape d v 11 (c .if2 .taken))
 
--- question 23, as it was answered
-asked : (c : tie.After-absorbs) (v : Node (read (c .before))) (x : Bool) → c .absorbs .result ≡ x
+-- question 23
+asked : (c : tie.After-absorbs) (v : Node (read (c .before)))
     → let s = start (read (c .before)) in
-    before-first (S s) (type-at (T s)) (s .args .place) (v .tree) ≡ ask 23 (s .args .place) x
+    before-first (S s) (type-at (T s)) (s .args .place) (v .tree) ≡ ask 23 (s .args .place) (c .absorbs .result)
 unfolding before-first
-asked c v x q =
+asked c v =
     let j = c .before in
     let d = read j in
     let s = start d in
     let p = s .args .place in
-    let t = named-type d in
     ap (before-first (S s) (type-at (T s)) p) (shape d v 11 (j .if2 .taken))
-    ∙ ap (ask 23 p) (sym (c .absorbs .ensures t (v .table .entry (I d) (mu-named j v .0) .held)) ∙ q)
+    ∙ ap (ask 23 p) (sym (c .absorbs .ensures (named-type d) (v .table .entry (I d) (mu-named j v .0) .held)))
 
 node-long : (s : tie.Start) → 6 ≤ length (P s)
 node-long s = long (s .pre .tree) (s .pre .is)
@@ -103,9 +101,6 @@ bind-requires c κs =
     let v = start (j .before) .pre in
     (named (v .table) (lam-named j v), level v)
 
-add-t13 : tie.Need-add-t13
-add-t13 c = search needs
-
 same-length : tie.Need-same-length
 same-length c = search needs
 
@@ -118,7 +113,7 @@ returns c =
     let d = j .before in
     let s = start d in
     let e = shape d v 2 (j .if1 .taken) in
-    enters-of (ap (before-first (S s) (type-at (T s)) (s .args .place)) e) (ap (first-context (type-at (T s)) (v .ctx)) e)
+    enters-as (sym (ap (before-first (S s) (type-at (T s)) (s .args .place)) e)) (ap (first-context (type-at (T s)) (v .ctx)) e)
     (x .bind .ensures (v .ctx) (named-type d) (v .table .entry (I d) (lam-named j v)) (v .binders) (v .holds))
 
 absorbs-requires : tie.Need-absorbs-requires
@@ -127,14 +122,14 @@ absorbs-requires c κs =
     let m = mu-named c v in
     named-sided (v .table) (m .0) (m .1)
 
+ask-requires : tie.Need-ask-requires
+ask-requires c κs = search needs
+
 bind-requires-2 : tie.Need-bind-requires-2
 bind-requires-2 c κs =
     let j = c .before .before .before in
     let v = start (read j) .pre in
     (named (v .table) (mu-named j v .0), level v)
-
-add-t18 : tie.Need-add-t18
-add-t18 c = search needs
 
 same-length-2 : tie.Need-same-length-2
 same-length-2 c = search needs
@@ -148,37 +143,31 @@ returns-2 c =
     let a = y .before in
     let j = a .before in
     let d = read j in
-    enters-of (asked a v _ (y .if3 .taken))
-    (ap (first-context (type-at (T (start d))) (v .ctx)) (shape d v 11 (j .if2 .taken)))
+    enters-as (y .ask .ensures ∙ sym (asked a v)) (ap (first-context (type-at (T (start d))) (v .ctx)) (shape d v 11 (j .if2 .taken)))
     (x .bind2 .ensures (v .ctx) (named-type d) (v .table .entry (I d) (mu-named j v .0)) (v .binders) (v .holds))
 
 returns-3 : tie.Need-returns-3
-returns-3 c = λ v. stops-of (asked (c .before) v _ (c .if3 .left))
-
-returns-4 : tie.Need-returns-4
-returns-4 c =
+returns-3 c =
     λ v.
     let d = c .before .before in
     let s = start d in
     let k = d .before .kind .ensures in
     let pl = plain (S s) (type-at (T s)) (v .ctx) (s .args .place) (v .tree) (v .is)
     (λ z. c .before .if1 .left (k ∙ z)) (λ z. c .if2 .left (k ∙ z)) in
-    enters-of (pl .asked) (pl .context) (stayed (v .binders) (v .holds))
+    enters-as (sym (pl .asked)) (pl .context) (stayed (v .binders) (v .holds))
 
-pub enter-spec : {M : Type 1} → statement M
-enter-spec =
+pub before-operands-spec : {M : Type 1} → statement M
+before-operands-spec =
     tie.close
     (tie.spec
     kind-requires
     index-requires
     bind-requires
-    add-t13
     same-length
     returns
     absorbs-requires
+    ask-requires
     bind-requires-2
-    add-t18
     same-length-2
     returns-2
-    returns-3
-    returns-4)
+    returns-3)

@@ -1,4 +1,4 @@
--- `inference::done` meets its contract: what `adopt` finds is raised in place.
+-- `inference::after_second_branch` meets its contract: what `adopt` finds is raised in place.
 use mathlib.Core.Path.{ap, _∙_}
 use native.Mathlib.Omega.{arith}
 use Rattle.calculus.specs.Security.{Security}
@@ -9,8 +9,8 @@ use Rattle.rules.specs.Typing.{q22}
 use Rattle.inference.specs.Memory.{finds}
 use Rattle.inference.proofs.Rules.{meets-of, raise-wrote, typed-as, refused-as, refused-meets, then-found, then-refused}
 use borrow.Author.Needs.{needs}
-use Rattle.inference.proofs.done.Statement.{statement}
-use Rattle.inference.proofs.done.Tie as tie
+use Rattle.inference.proofs.after_second_branch.Statement.{statement}
+use Rattle.inference.proofs.after_second_branch.Tie as tie
 
 abbrev S : tie.Start → Security
 S s = readers (s .args .groups .now)
@@ -76,8 +76,8 @@ returns-2 c =
     (raise-wrote (S s) by (y .wrote) (x .raise .ensures .0 (y .type) (y .wrote .sized .held)) (x .raise .ensures .1)
     (omega (arith, a .adopt .kept .1 .1 .1 .1 .0))))
 
-pub done-spec : {M : Type 1} → statement M
-done-spec =
+pub after-second-branch-spec : {M : Type 1} → statement M
+after-second-branch-spec =
     tie.close
     (tie.spec
     adopt-requires
