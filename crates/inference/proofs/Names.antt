@@ -4,9 +4,11 @@ use Prim.Native.Nat.{ℕ, suc, _+_, _*_, _<_}
 use native.Mathlib.Omega.{arith}
 use lib.Seq.{getD-drop}
 use Rattle.calculus.specs.Security.{Property}
+use Rattle.calculus.specs.Types.{sum, function}
 use Rattle.calculus.specs.Terms.{Side, Term, lam, inj, case, mu}
+use Rattle.rules.specs.Limits.{type-width}
 use Rattle.rules.specs.Answer.{Bytes, byte}
-use Rattle.rules.specs.Types.{type-count, type-kind, type-at}
+use Rattle.rules.specs.Types.{former-kind, type-count, type-kind, type-at}
 use Rattle.types.specs.Held.{kind-of}
 use Rattle.inference.specs.Operands.{Formed}
 use Rattle.inference.specs.Memory.{Table, Named, Named-sided}
@@ -17,8 +19,8 @@ named {types} {i} t l = record { type = type-at types i; slot = t .entry i l; wi
 
 pub kind-at : {types : Bytes} {i : ℕ} → Table types → i < type-count types → type-kind types i ≡ kind-of (type-at types i)
 kind-at {types} {i} t l =
-    let z : 4 * i ≡ 4 * i + 0 = omega arith in
-    ap (byte types) z ∙ sym (getD-drop (4 * i) types 0 0) ∙ kind-is (type-at types i) (t .entry i l .held)
+    let z : type-width * i ≡ type-width * i + 0 = omega arith in
+    ap (byte types) z ∙ sym (getD-drop (type-width * i) types 0 0) ∙ kind-is (type-at types i) (t .entry i l .held)
 
 pub named-sided : {types : Bytes} {i k : ℕ} → Table types → i < type-count types → type-kind types i ≡ suc k → Named-sided types i
 named-sided {types} {i} t l q =
@@ -31,11 +33,11 @@ module _ (t : Bytes) (b i : ℕ) (e : Term) (f : Formed t b e) where
   unfolding Formed
   lam-index p = subst (λ d. Formed t b d) p f .0
 
-  pub inj-index : {d : Side} {k : Property} {a : Term} → e ≡ inj d k i a → (i < type-count t) × (type-kind t i ≡ 1)
+  pub inj-index : {d : Side} {k : Property} {a : Term} → e ≡ inj d k i a → (i < type-count t) × (type-kind t i ≡ former-kind sum)
   unfolding Formed
   inj-index p = subst (λ d. Formed t b d) p f .0
 
-  pub mu-index : {a : Term} → e ≡ mu i a → (i < type-count t) × (type-kind t i ≡ 3)
+  pub mu-index : {a : Term} → e ≡ mu i a → (i < type-count t) × (type-kind t i ≡ former-kind function)
   unfolding Formed
   mu-index p = subst (λ d. Formed t b d) p f .0
 

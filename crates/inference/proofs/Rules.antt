@@ -9,8 +9,9 @@ use denote.Enum.Declared.{tagOf}
 use lib.ListN.{length, drop, length-append}
 use lib.Seq.{drop-at}
 use Rattle.calculus.specs.Security.{Property, Security}
-use Rattle.calculus.specs.Types.{Former, sum, product, function, Ty, one, node, sizeT, same, top, raiseT}
+use Rattle.calculus.specs.Types.{Former, sum, product, function, Ty, one, node, sizeT, same, top, raiseT, type-limit}
 use Rattle.calculus.specs.Subtyping.{subtype, below}
+use Rattle.rules.specs.Limits.{answer-length, type-width}
 use Rattle.rules.specs.Answer.{Bytes, Answer, accepted, refused, _>>_, ask}
 use Rattle.rules.specs.Types.{former-kind, encode-type}
 use Rattle.rules.specs.Typing.{has-form, left, right, q21, q24}
@@ -113,60 +114,60 @@ pub node-size : (f : Former) (k : Property) (s t : Ty) → sizeT (node f k s t) 
 unfolding sizeT
 node-size f k s t = refl
 
-pub fits-yes : (p : ℕ) (f : Former) (k : Property) (s t : Ty) → sizeT s + sizeT t ≤ 62
+pub fits-yes : (p : ℕ) (f : Former) (k : Property) (s t : Ty) → sizeT s + sizeT t < type-limit
     → _>>_ (q24 p (node f k s t)) (accepted (node f k s t)) ≡ accepted (node f k s t)
-fits-yes p f k s t l = ap (λ q. _>>_ (ask 24 p q) (accepted (node f k s t))) (le-leb (sizeT (node f k s t)) 63 (omega (arith, node-size f k s t)))
+fits-yes p f k s t l = ap (λ q. _>>_ (ask 24 p q) (accepted (node f k s t))) (le-leb (sizeT (node f k s t)) type-limit (omega (arith, node-size f k s t)))
 
-pub fits-no : (p : ℕ) (f : Former) (k : Property) (s t : Ty) → 62 < sizeT s + sizeT t → _>>_ (q24 p (node f k s t)) (accepted (node f k s t)) ≡ refused 24 p
-fits-no p f k s t l = ap (λ q. _>>_ (ask 24 p q) (accepted (node f k s t))) (lt-leb (sizeT (node f k s t)) 63 (omega (arith, node-size f k s t)))
+pub fits-no : (p : ℕ) (f : Former) (k : Property) (s t : Ty) → type-limit ≤ sizeT s + sizeT t → _>>_ (q24 p (node f k s t)) (accepted (node f k s t)) ≡ refused 24 p
+fits-no p f k s t l = ap (λ q. _>>_ (ask 24 p q) (accepted (node f k s t))) (lt-leb (sizeT (node f k s t)) type-limit (omega (arith, node-size f k s t)))
 
 -- a record before two types
-node-front : (f : Former) (k r ir : ℕ) (s t : Ty) (w w₂ w₃ : Bytes) → k ≡ former-kind f → 4 + (4 * sizeT s + 4 * sizeT t) ≤ length w
-    → w₂ ≡ splice 4 (encode-type s ++ encode-type t) w → w₃ ≡ splice 0 (k ∷ r ∷ ir ∷ 0 ∷ []) w₂
+node-front : (f : Former) (k r ir : ℕ) (s t : Ty) (w w₂ w₃ : Bytes) → k ≡ former-kind f → type-width + (type-width * sizeT s + type-width * sizeT t) ≤ length w
+    → w₂ ≡ splice type-width (encode-type s ++ encode-type t) w → w₃ ≡ splice 0 (k ∷ r ∷ ir ∷ 0 ∷ []) w₂
     → w₃ ≡ splice 0 (encode-type (node f (record { r = r; ir = ir }) s t)) w
 unfolding encode-type
 node-front f k r ir s t w w₂ w₃ ek l e₂ e₃ =
-    let m : length (encode-type s ++ encode-type t) ≡ 4 * sizeT s + 4 * sizeT t = length-append (encode-type s) (encode-type t) ∙ omega (arith, type-length s, type-length t) in
+    let m : length (encode-type s ++ encode-type t) ≡ type-width * sizeT s + type-width * sizeT t = length-append (encode-type s) (encode-type t) ∙ omega (arith, type-length s, type-length t) in
     e₃ ∙ ap (splice 0 (k ∷ r ∷ ir ∷ 0 ∷ [])) e₂ ∙ join-before 0 (k ∷ r ∷ ir ∷ 0 ∷ []) (encode-type s ++ encode-type t) w (omega (arith, m))
     ∙ ap (λ j. splice 0 (j ∷ r ∷ ir ∷ 0 ∷ (encode-type s ++ encode-type t)) w) ek
 
-module _ (p r ir m n : ℕ) (s t : Ty) {b : ℕ} {w y x : Bytes} (f : sizeT s + sizeT t ≤ 62) (em : m ≡ sizeT s) (en : n ≡ sizeT t)
-    (ex : x ≡ encode-type s) (ey : y ≡ encode-type t) (l : 252 * (b + 1) ≤ length w) where
-  placed : {w₂ w₃ : Bytes} (c : Former) → w₂ ≡ splice 4 (encode-type s ++ encode-type t) w → w₃ ≡ splice 0 (former-kind c ∷ r ∷ ir ∷ 0 ∷ []) w₂
+module _ (p r ir m n : ℕ) (s t : Ty) {b : ℕ} {w y x : Bytes} (f : sizeT s + sizeT t < type-limit) (em : m ≡ sizeT s) (en : n ≡ sizeT t)
+    (ex : x ≡ encode-type s) (ey : y ≡ encode-type t) (l : answer-length * (b + 1) ≤ length w) where
+  placed : {w₂ w₃ : Bytes} (c : Former) → w₂ ≡ splice type-width (encode-type s ++ encode-type t) w → w₃ ≡ splice 0 (former-kind c ∷ r ∷ ir ∷ 0 ∷ []) w₂
       → Wrote (node c (record { r = r; ir = ir }) s t) b w (m + n + 1) w₃
   placed {w₂} {w₃} c z₂ e₃ =
       let ns = node-size c (record { r = r; ir = ir }) s t in
       wrote-first (omega (arith, ns)) (omega (arith, ns)) refl l (node-front c (former-kind c) r ir s t w w₂ w₃ refl (omega arith) z₂ e₃)
 
   -- the second type is moved first
-  pub function-meets : {w₁ w₂ w₃ : Bytes} → w₁ ≡ splice (4 + 4 * m) y w → w₂ ≡ splice 4 x w₁ → w₃ ≡ splice 0 (3 ∷ r ∷ ir ∷ 0 ∷ []) w₂
+  pub function-meets : {w₁ w₂ w₃ : Bytes} → w₁ ≡ splice (type-width + type-width * m) y w → w₂ ≡ splice type-width x w₁ → w₃ ≡ splice 0 (former-kind function ∷ r ∷ ir ∷ 0 ∷ []) w₂
       → Meets (function-type p (record { r = r; ir = ir }) s t) b w (Typed (m + n + 1)) w₃
   function-meets {w₁} {w₂} {w₃} e₁ e₂ e₃ =
-      let ls : length (encode-type s) ≡ 4 * sizeT s = type-length s in
-      let lt : length (encode-type t) ≡ 4 * sizeT t = type-length t in
-      let a : 4 + 4 * m ≡ 4 + length (encode-type s) = omega arith in
-      let z₂ : w₂ ≡ splice 4 (encode-type s ++ encode-type t) w =
-      e₂ ∙ ap (λ u. splice 4 u w₁) ex
-      ∙ ap (splice 4 (encode-type s)) (e₁ ∙ ap (λ u. splice (4 + 4 * m) u w) ey ∙ ap (λ j. splice j (encode-type t) w) a)
-      ∙ join-before 4 (encode-type s) (encode-type t) w (omega arith) in
+      let ls : length (encode-type s) ≡ type-width * sizeT s = type-length s in
+      let lt : length (encode-type t) ≡ type-width * sizeT t = type-length t in
+      let a : type-width + type-width * m ≡ type-width + length (encode-type s) = omega arith in
+      let z₂ : w₂ ≡ splice type-width (encode-type s ++ encode-type t) w =
+      e₂ ∙ ap (λ u. splice type-width u w₁) ex
+      ∙ ap (splice type-width (encode-type s)) (e₁ ∙ ap (λ u. splice (type-width + type-width * m) u w) ey ∙ ap (λ j. splice j (encode-type t) w) a)
+      ∙ join-before type-width (encode-type s) (encode-type t) w (omega arith) in
       meets-of (fits-yes p function (record { r = r; ir = ir }) s t f) (finds (placed function z₂ e₃))
 
   -- the first one is
-  pub pair-meets : {w₁ w₂ w₃ : Bytes} → w₁ ≡ splice 4 x w → w₂ ≡ splice (4 + 4 * m) y w₁ → w₃ ≡ splice 0 (2 ∷ r ∷ ir ∷ 0 ∷ []) w₂
+  pub pair-meets : {w₁ w₂ w₃ : Bytes} → w₁ ≡ splice type-width x w → w₂ ≡ splice (type-width + type-width * m) y w₁ → w₃ ≡ splice 0 (former-kind product ∷ r ∷ ir ∷ 0 ∷ []) w₂
       → Meets (pair-type p (record { r = r; ir = ir }) s t) b w (Typed (m + n + 1)) w₃
   pair-meets {w₁} {w₂} {w₃} e₁ e₂ e₃ =
-      let ls : length (encode-type s) ≡ 4 * sizeT s = type-length s in
-      let lt : length (encode-type t) ≡ 4 * sizeT t = type-length t in
-      let a : 4 + 4 * m ≡ 4 + length (encode-type s) = omega arith in
-      let z₂ : w₂ ≡ splice 4 (encode-type s ++ encode-type t) w =
-      e₂ ∙ ap (λ u. splice (4 + 4 * m) u w₁) ey ∙ ap (λ j. splice j (encode-type t) w₁) a
-      ∙ ap (splice (4 + length (encode-type s)) (encode-type t)) (e₁ ∙ ap (λ u. splice 4 u w) ex)
-      ∙ join-after 4 (4 + length (encode-type s)) (encode-type s) (encode-type t) w refl (omega arith) in
+      let ls : length (encode-type s) ≡ type-width * sizeT s = type-length s in
+      let lt : length (encode-type t) ≡ type-width * sizeT t = type-length t in
+      let a : type-width + type-width * m ≡ type-width + length (encode-type s) = omega arith in
+      let z₂ : w₂ ≡ splice type-width (encode-type s ++ encode-type t) w =
+      e₂ ∙ ap (λ u. splice (type-width + type-width * m) u w₁) ey ∙ ap (λ j. splice j (encode-type t) w₁) a
+      ∙ ap (splice (type-width + length (encode-type s)) (encode-type t)) (e₁ ∙ ap (λ u. splice type-width u w) ex)
+      ∙ join-after type-width (type-width + length (encode-type s)) (encode-type s) (encode-type t) w refl (omega arith) in
       meets-of (fits-yes p product (record { r = r; ir = ir }) s t f) (finds (placed product z₂ e₃))
 
 -- another record before the sides of a type
 pub other-record : (u : Ty) (r ir : ℕ) (w : Bytes) → (kind-of u ≡ 0 → ⊥)
-    → splice 0 (1 ∷ r ∷ ir ∷ 0 ∷ []) (splice 0 (encode-type u) w) ≡ splice 0 (encode-type (node sum (record { r = r; ir = ir }) (left u) (right u))) w
+    → splice 0 (former-kind sum ∷ r ∷ ir ∷ 0 ∷ []) (splice 0 (encode-type u) w) ≡ splice 0 (encode-type (node sum (record { r = r; ir = ir }) (left u) (right u))) w
 unfolding encode-type
 other-record (one k) r ir w n = absurd (n refl)
 other-record (node f k a b) r ir w n = refl
@@ -178,16 +179,16 @@ other-size (node f j a b) k n = refl
 
 -- the front, raised in place
 pub raise-wrote : (S : Security) (g : ℕ) {t : Ty} {b n : ℕ} {w w₁ w₂ : Bytes} (h : Wrote t b w n w₁) → w₂ ≡ encode-type (raiseT S t g) ++ h .sized .held .rest
-    → length w₂ ≡ length w₁ → 252 * (b + 1) ≤ length w₁ → Wrote (raiseT S t g) b w n w₂
+    → length w₂ ≡ length w₁ → answer-length * (b + 1) ≤ length w₁ → Wrote (raiseT S t g) b w n w₂
 raise-wrote S g {t} {b} {n} {w} {w₁} {w₂} h e m l =
     let rest = h .sized .held .rest in
     let z = size-raised S t g in
-    let d : drop (4 * sizeT t) w₂ ≡ drop (4 * sizeT t) w₁ =
-    ap (drop (4 * sizeT t)) e ∙ drop-at (encode-type (raiseT S t g)) rest (4 * sizeT t) (omega (arith, type-length (raiseT S t g)))
-    ∙ sym (ap (drop (4 * sizeT t)) (h .sized .held .is) ∙ drop-at (encode-type t) rest (4 * sizeT t) (type-length t)) in
+    let d : drop (type-width * sizeT t) w₂ ≡ drop (type-width * sizeT t) w₁ =
+    ap (drop (type-width * sizeT t)) e ∙ drop-at (encode-type (raiseT S t g)) rest (type-width * sizeT t) (omega (arith, type-length (raiseT S t g)))
+    ∙ sym (ap (drop (type-width * sizeT t)) (h .sized .held .is) ∙ drop-at (encode-type t) rest (type-width * sizeT t) (type-length t)) in
     record {
       sized = record { held = record { rest = rest; is = e }; small = omega (arith, h .sized .small); count = h .sized .count ∙ sym z };
-      kept = high-past (4 * sizeT t) b w₁ w₂ d m (omega (arith, h .sized .small)) ∙ h .kept;
+      kept = high-past (type-width * sizeT t) b w₁ w₂ d m (omega (arith, h .sized .small)) ∙ h .kept;
     }
 
 abbrev pub unchanged : {t : Ty} {b n : ℕ} {w : Bytes} → Sized w n t → Wrote t b w n w

@@ -7,6 +7,7 @@ use lib.ListN.{length}
 use Rattle.calculus.specs.Security.{Security}
 use Rattle.calculus.specs.Types.{Ty}
 use Rattle.calculus.specs.Terms.{first, second, Term, var, unit, lam, pair, inj, app, proj, case, protect, mu}
+use Rattle.rules.specs.Limits.{script-width}
 use Rattle.rules.specs.Answer.{Bytes, accepted}
 use Rattle.rules.specs.Script.{kind, r, ir, number, arity, encode, depth, make}
 use Rattle.rules.proofs.PrefixLaws.{encode-length, size-positive}
@@ -15,7 +16,44 @@ use Rattle.inference.specs.Operands.{operand-count}
 use Rattle.records.specs.Operands.{first-operand, second-operand, third-operand}
 use Rattle.inference.specs.Stages.{before-first, first-context, kept-front}
 
-pub long : {s : Bytes} (e : Term) → s ≡ encode e → 6 ≤ length s
+-- the kinds of the table, by name
+abbrev pub kind-variable : ℕ
+kind-variable = 0
+
+abbrev pub kind-unit : ℕ
+kind-unit = 1
+
+abbrev pub kind-function : ℕ
+kind-function = 2
+
+abbrev pub kind-pair : ℕ
+kind-pair = 3
+
+abbrev pub kind-first-injection : ℕ
+kind-first-injection = 4
+
+abbrev pub kind-second-injection : ℕ
+kind-second-injection = 5
+
+abbrev pub kind-application : ℕ
+kind-application = 6
+
+abbrev pub kind-first-projection : ℕ
+kind-first-projection = 7
+
+abbrev pub kind-second-projection : ℕ
+kind-second-projection = 8
+
+abbrev pub kind-case : ℕ
+kind-case = 9
+
+abbrev pub kind-protect : ℕ
+kind-protect = 10
+
+abbrev pub kind-recursion : ℕ
+kind-recursion = 11
+
+pub long : {s : Bytes} (e : Term) → s ≡ encode e → script-width ≤ length s
 long {s} e p = omega (arith, ap length p, encode-length term-code e, size-positive term-code e)
 
 -- a term from its record and its operands
@@ -60,7 +98,7 @@ pub counted-of : {s : Bytes} (e : Term) → s ≡ encode e → arity (kind s 0) 
 counted-of {s} e p = ap (λ b. arity (kind b 0)) p ∙ counted e
 
 -- which kind is left when the others are ruled out
-unit-left : (e : Term) → operand-count e ≡ 0 → (kind (encode e) 0 ≡ 0 → ⊥) → kind (encode e) 0 ≡ 1
+unit-left : (e : Term) → operand-count e ≡ 0 → (kind (encode e) 0 ≡ kind-variable → ⊥) → kind (encode e) 0 ≡ kind-unit
 unfolding encode operand-count
 unit-left (var n) o z = absurd (z refl)
 unit-left (unit k) o z = refl
@@ -73,11 +111,11 @@ unit-left (case w i e a b) o z = absurd (omega arith)
 unit-left (protect m e) o z = absurd (omega arith)
 unit-left (mu i e) o z = absurd (omega arith)
 
-pub unit-kind : {s : Bytes} (e : Term) → s ≡ encode e → operand-count e ≡ 0 → (kind s 0 ≡ 0 → ⊥) → kind s 0 ≡ 1
+pub unit-kind : {s : Bytes} (e : Term) → s ≡ encode e → operand-count e ≡ 0 → (kind s 0 ≡ kind-variable → ⊥) → kind s 0 ≡ kind-unit
 unit-kind {s} e p o z = ap (λ b. kind b 0) p ∙ unit-left e o (λ q. z (ap (λ b. kind b 0) p ∙ q))
 
-mu-left : (e : Term) → operand-count e ≡ 1 → (kind (encode e) 0 ≡ 2 → ⊥) → (kind (encode e) 0 ≡ 4 → ⊥) → (kind (encode e) 0 ≡ 5 → ⊥) → (kind (encode e) 0 ≡ 7 → ⊥)
-    → (kind (encode e) 0 ≡ 8 → ⊥) → (kind (encode e) 0 ≡ 10 → ⊥) → kind (encode e) 0 ≡ 11
+mu-left : (e : Term) → operand-count e ≡ 1 → (kind (encode e) 0 ≡ kind-function → ⊥) → (kind (encode e) 0 ≡ kind-first-injection → ⊥) → (kind (encode e) 0 ≡ kind-second-injection → ⊥) → (kind (encode e) 0 ≡ kind-first-projection → ⊥)
+    → (kind (encode e) 0 ≡ kind-second-projection → ⊥) → (kind (encode e) 0 ≡ kind-protect → ⊥) → kind (encode e) 0 ≡ kind-recursion
 unfolding encode operand-count
 mu-left (var n) o a b c d f g = absurd (omega arith)
 mu-left (unit k) o a b c d f g = absurd (omega arith)
@@ -92,13 +130,13 @@ mu-left (case w i e x y) o a b c d f g = absurd (omega arith)
 mu-left (protect m e) o a b c d f g = absurd (g refl)
 mu-left (mu i e) o a b c d f g = refl
 
-pub mu-kind : {s : Bytes} (e : Term) → s ≡ encode e → operand-count e ≡ 1 → (kind s 0 ≡ 2 → ⊥) → (kind s 0 ≡ 4 → ⊥) → (kind s 0 ≡ 5 → ⊥) → (kind s 0 ≡ 7 → ⊥)
-    → (kind s 0 ≡ 8 → ⊥) → (kind s 0 ≡ 10 → ⊥) → kind s 0 ≡ 11
+pub mu-kind : {s : Bytes} (e : Term) → s ≡ encode e → operand-count e ≡ 1 → (kind s 0 ≡ kind-function → ⊥) → (kind s 0 ≡ kind-first-injection → ⊥) → (kind s 0 ≡ kind-second-injection → ⊥) → (kind s 0 ≡ kind-first-projection → ⊥)
+    → (kind s 0 ≡ kind-second-projection → ⊥) → (kind s 0 ≡ kind-protect → ⊥) → kind s 0 ≡ kind-recursion
 mu-kind {s} e p o a b c d f g =
     let q = ap (λ x. kind x 0) p in
     q ∙ mu-left e o (λ z. a (q ∙ z)) (λ z. b (q ∙ z)) (λ z. c (q ∙ z)) (λ z. d (q ∙ z)) (λ z. f (q ∙ z)) (λ z. g (q ∙ z))
 
-case-left : (e : Term) → 2 ≤ operand-count e → (kind (encode e) 0 ≡ 3 → ⊥) → (kind (encode e) 0 ≡ 6 → ⊥) → kind (encode e) 0 ≡ 9
+case-left : (e : Term) → 2 ≤ operand-count e → (kind (encode e) 0 ≡ kind-pair → ⊥) → (kind (encode e) 0 ≡ kind-application → ⊥) → kind (encode e) 0 ≡ kind-case
 unfolding encode operand-count
 case-left (var n) o a b = absurd (omega arith)
 case-left (unit k) o a b = absurd (omega arith)
@@ -111,10 +149,10 @@ case-left (case w i e x y) o a b = refl
 case-left (protect m e) o a b = absurd (omega arith)
 case-left (mu i e) o a b = absurd (omega arith)
 
-pub case-kind : {s : Bytes} (e : Term) → s ≡ encode e → 2 ≤ operand-count e → (kind s 0 ≡ 3 → ⊥) → (kind s 0 ≡ 6 → ⊥) → kind s 0 ≡ 9
+pub case-kind : {s : Bytes} (e : Term) → s ≡ encode e → 2 ≤ operand-count e → (kind s 0 ≡ kind-pair → ⊥) → (kind s 0 ≡ kind-application → ⊥) → kind s 0 ≡ kind-case
 case-kind {s} e p o a b = let q = ap (λ x. kind x 0) p in q ∙ case-left e o (λ z. a (q ∙ z)) (λ z. b (q ∙ z))
 
-app-left : (e : Term) → operand-count e ≡ 2 → (kind (encode e) 0 ≡ 3 → ⊥) → kind (encode e) 0 ≡ 6
+app-left : (e : Term) → operand-count e ≡ 2 → (kind (encode e) 0 ≡ kind-pair → ⊥) → kind (encode e) 0 ≡ kind-application
 unfolding encode operand-count
 app-left (var n) o a = absurd (omega arith)
 app-left (unit k) o a = absurd (omega arith)
@@ -127,7 +165,7 @@ app-left (case w i e x y) o a = absurd (omega arith)
 app-left (protect m e) o a = absurd (omega arith)
 app-left (mu i e) o a = absurd (omega arith)
 
-pub app-kind : {s : Bytes} (e : Term) → s ≡ encode e → operand-count e ≡ 2 → (kind s 0 ≡ 3 → ⊥) → kind s 0 ≡ 6
+pub app-kind : {s : Bytes} (e : Term) → s ≡ encode e → operand-count e ≡ 2 → (kind s 0 ≡ kind-pair → ⊥) → kind s 0 ≡ kind-application
 app-kind {s} e p o a = let q = ap (λ x. kind x 0) p in q ∙ app-left e o (λ z. a (q ∙ z))
 
 -- no binder over the first operand
@@ -135,7 +173,7 @@ pub record Plain (S : Security) (tab : ℕ → Ty) (Γ : List Ty) (place : ℕ) 
   pub asked : before-first S tab place e ≡ accepted tt
   pub context : first-context tab Γ e ≡ Γ
 
-plain-left : (S : Security) (tab : ℕ → Ty) (Γ : List Ty) (place : ℕ) (e : Term) → (kind (encode e) 0 ≡ 2 → ⊥) → (kind (encode e) 0 ≡ 11 → ⊥) → Plain S tab Γ place e
+plain-left : (S : Security) (tab : ℕ → Ty) (Γ : List Ty) (place : ℕ) (e : Term) → (kind (encode e) 0 ≡ kind-function → ⊥) → (kind (encode e) 0 ≡ kind-recursion → ⊥) → Plain S tab Γ place e
 unfolding encode before-first first-context
 plain-left S tab Γ p (var n) a b = record { asked = refl; context = refl }
 plain-left S tab Γ p (unit k) a b = record { asked = refl; context = refl }
@@ -148,10 +186,10 @@ plain-left S tab Γ p (case w i e x y) a b = record { asked = refl; context = re
 plain-left S tab Γ p (protect m e) a b = record { asked = refl; context = refl }
 plain-left S tab Γ p (mu i e) a b = absurd (b refl)
 
-pub plain : (S : Security) (tab : ℕ → Ty) (Γ : List Ty) (place : ℕ) {s : Bytes} (e : Term) → s ≡ encode e → (kind s 0 ≡ 2 → ⊥) → (kind s 0 ≡ 11 → ⊥) → Plain S tab Γ place e
+pub plain : (S : Security) (tab : ℕ → Ty) (Γ : List Ty) (place : ℕ) {s : Bytes} (e : Term) → s ≡ encode e → (kind s 0 ≡ kind-function → ⊥) → (kind s 0 ≡ kind-recursion → ⊥) → Plain S tab Γ place e
 plain S tab Γ place e p a b = let q = ap (λ x. kind x 0) p in plain-left S tab Γ place e (λ z. a (q ∙ z)) (λ z. b (q ∙ z))
 
-front-left : (e : Term) → (kind (encode e) 0 ≡ 4 → ⊥) → (kind (encode e) 0 ≡ 5 → ⊥) → 0 ≡ kept-front e
+front-left : (e : Term) → (kind (encode e) 0 ≡ kind-first-injection → ⊥) → (kind (encode e) 0 ≡ kind-second-injection → ⊥) → 0 ≡ kept-front e
 unfolding encode kept-front
 front-left (var n) a b = refl
 front-left (unit k) a b = refl
@@ -165,7 +203,7 @@ front-left (case w i e x y) a b = refl
 front-left (protect m e) a b = refl
 front-left (mu i e) a b = refl
 
-pub front-plain : (s : Bytes) (e : Term) → s ≡ encode e → (kind s 0 ≡ 4 → ⊥) → (kind s 0 ≡ 5 → ⊥) → 0 ≡ kept-front e
+pub front-plain : (s : Bytes) (e : Term) → s ≡ encode e → (kind s 0 ≡ kind-first-injection → ⊥) → (kind s 0 ≡ kind-second-injection → ⊥) → 0 ≡ kept-front e
 front-plain s e p a b = let q = ap (λ x. kind x 0) p in front-left e (λ z. a (q ∙ z)) (λ z. b (q ∙ z))
 
 -- with the fields as they were read

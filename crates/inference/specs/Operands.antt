@@ -1,9 +1,10 @@
 -- The operands of a term, in order, and what it names.
 use mathlib.Core.Path.{_≡_}
 use Prim.Native.Nat.{ℕ, suc, _<_}
+use Rattle.calculus.specs.Types.{sum, function}
 use Rattle.calculus.specs.Terms.{Term, var, unit, lam, pair, inj, app, proj, case, protect, mu}
 use Rattle.rules.specs.Answer.{Bytes}
-use Rattle.rules.specs.Types.{type-count, type-kind}
+use Rattle.rules.specs.Types.{former-kind, type-count, type-kind}
 
 unfoldable pub operand-count : Term → ℕ
 operand-count (var n) = 0
@@ -24,9 +25,9 @@ Formed t b (var n) = n < b
 Formed t b (unit k) = Unit {0}
 Formed t b (lam k i e) = (i < type-count t) × Formed t (suc b) e
 Formed t b (pair k x y) = Formed t b x × Formed t b y
-Formed t b (inj d k i e) = ((i < type-count t) × (type-kind t i ≡ 1)) × Formed t b e
+Formed t b (inj d k i e) = ((i < type-count t) × (type-kind t i ≡ former-kind sum)) × Formed t b e
 Formed t b (app w f a) = Formed t b f × Formed t b a
 Formed t b (proj d w e) = Formed t b e
 Formed t b (case w i e x y) = (i < type-count t) × (Formed t b e × (Formed t (suc b) x × Formed t (suc b) y))
 Formed t b (protect m e) = Formed t b e
-Formed t b (mu i e) = ((i < type-count t) × (type-kind t i ≡ 3)) × Formed t (suc b) e
+Formed t b (mu i e) = ((i < type-count t) × (type-kind t i ≡ former-kind function)) × Formed t (suc b) e

@@ -5,6 +5,7 @@ use Prim.Native.Nat.{ℕ, suc, _≤_}
 use native.Mathlib.Omega.{arith}
 use lib.ListN.{length, length-drop}
 use Rattle.calculus.specs.Terms.{Term, var, unit, lam, pair, inj, app, proj, case, protect, mu}
+use Rattle.rules.specs.Limits.{work-length}
 use Rattle.rules.specs.Answer.{Bytes, Octets, accepted}
 use Rattle.rules.specs.Script.{term}
 use Rattle.rules.specs.Calls.{types-check, script-check}
@@ -34,7 +35,7 @@ formed-of g t (mu i e) b F = ((F .0, F .1), formed-of g t e (suc b) (F .2))
 pub no-binders : (w : Bytes) → Holds [] (high 0 w)
 no-binders w = record { len = simp length-drop (omega arith); slot = λ n l. absurd (omega arith) }
 
-module _ (g t s w : Bytes) (o : Octets s) (h : script-check [] g t s ≡ accepted tt) (room : 64512 ≤ length w) where
+module _ (g t s w : Bytes) (o : Octets s) (h : script-check [] g t s ≡ accepted tt) (room : work-length ≤ length w) where
   pub pass : Passed [] g t s
   pass = script-passed [] g t s o h
 

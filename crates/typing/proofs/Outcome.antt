@@ -20,30 +20,30 @@ use Rattle.rules.specs.Reach.{verdict}
 use Rattle.demands.proofs.Answers.{accepted-inj, accepted≢refused}
 use Rattle.demands.proofs.FirstDemand.{first-demand, script-below}
 use Rattle.demands.proofs.SecondDemand.{longer-same, second-demand}
-use Rattle.answer.specs.Said.{said}
+use Rattle.answer.specs.Said.{said as said-checked}
 use Rattle.answer.specs.declared.Checked.{Checked}
 use Rattle.answer.specs.declared.Checked.the-variants as checked
 use Rattle.answer.proofs.Passed.{No}
 use Rattle.inference.specs.Memory.{Meets, finds, refuses, refusal}
 use Rattle.inference.specs.declared.Found.{Found}
 use Rattle.inference.specs.declared.Found.the-variants.{Refused}
-use Rattle.typing.specs.Answered.{answered}
+use Rattle.typing.specs.Said.{said}
 use Rattle.typing.specs.Judged.{Judged}
 
 abbrev pub Outcome : Answer Ty → Found → Bytes → Bytes → Bytes → Bytes → Type 0
-Outcome o x work work′ answer answer′ = (answered x ≡ type-records o) × (work′ ≡ work-after o work) × (answer′ ≡ answer-after o answer)
+Outcome o x work work′ answer answer′ = (said x ≡ type-records o) × (work′ ≡ work-after o work) × (answer′ ≡ answer-after o answer)
 
 -- a question below 20 leaves both buffers as they were
 early : (o : Answer Ty) (x : Found) (q p : ℕ) (work answer : Bytes) → o ≡ refused q p → x ≡ Refused q p → q < 20 → Outcome o x work work answer answer
 unfolding type-records
 early o x q p work answer e f l = (
-  ap answered f ∙ sym (ap type-records e),
+  ap said f ∙ sym (ap type-records e),
   sym (ap (λ y. work-after y work) e ∙ ap (λ b. cond b (zeros (length work)) work) (lt-leb 20 q l)),
   sym (ap (λ y. answer-after y answer) e),
 )
 
 -- the answer's first part
-counted : {o : Answer Ty} {b : ℕ} {w : Bytes} {x : Found} {v : Bytes} → Meets o b w x v → answered x ≡ type-records o
+counted : {o : Answer Ty} {b : ℕ} {w : Bytes} {x : Found} {v : Bytes} → Meets o b w x v → said x ≡ type-records o
 unfolding type-records
 counted (finds m) = ap accepted (m .sized .count)
 counted refuses = refl
@@ -63,24 +63,24 @@ module _ (g t s work answer : Bytes) where
   abbrev from-2 : Answer Ty
   from-2 = then (script-check [] g t s) typed
 
-  small : (b : Bool) → (leb 64512 (length work) && leb 252 (length answer)) ≡ b → asked ≡ then (ask 1 0 b) from-2
+  small : (b : Bool) → (leb work-length (length work) && leb answer-length (length answer)) ≡ b → asked ≡ then (ask 1 0 b) from-2
   unfolding checking
   small b e = ap (λ y. then (ask 1 0 y) from-2) e
 
-  pub work-short : length work < 64512 → Outcome asked (Refused 1 0) work work answer answer
-  work-short l = early asked (Refused 1 0) 1 0 work answer (small false (ap (λ b. b && leb 252 (length answer)) (lt-leb 64512 (length work) l))) refl (omega arith)
+  pub work-short : length work < work-length → Outcome asked (Refused 1 0) work work answer answer
+  work-short l = early asked (Refused 1 0) 1 0 work answer (small false (ap (λ b. b && leb answer-length (length answer)) (lt-leb work-length (length work) l))) refl (omega arith)
 
-  module _ (r : 64512 ≤ length work) where
-    pub answer-short : length answer < 252 → Outcome asked (Refused 1 0) work work answer answer
+  module _ (r : work-length ≤ length work) where
+    pub answer-short : length answer < answer-length → Outcome asked (Refused 1 0) work work answer answer
     answer-short l =
         early asked (Refused 1 0) 1 0 work answer
-        (small false (ap (λ b. b && leb 252 (length answer)) (le-leb 64512 (length work) r) ∙ lt-leb 252 (length answer) l)) refl (omega arith)
+        (small false (ap (λ b. b && leb answer-length (length answer)) (le-leb work-length (length work) r) ∙ lt-leb answer-length (length answer) l)) refl (omega arith)
 
-    module _ (ra : 252 ≤ length answer) where
+    module _ (ra : answer-length ≤ length answer) where
       roomy : asked ≡ from-2
-      roomy = small true (ap (λ b. b && leb 252 (length answer)) (le-leb 64512 (length work) r) ∙ le-leb 252 (length answer) ra)
+      roomy = small true (ap (λ b. b && leb answer-length (length answer)) (le-leb work-length (length work) r) ∙ le-leb answer-length (length answer) ra)
 
-      pub script-refused : (a : Checked) (x : Found) → No a → said a ≡ script-check [] g t s → x ≡ refusal a → Outcome asked x work work answer answer
+      pub script-refused : (a : Checked) (x : Found) → No a → said-checked a ≡ script-check [] g t s → x ≡ refusal a → Outcome asked x work work answer answer
       script-refused checked.Passed x k e f = absurd (omega arith)
       script-refused (checked.Refused q p) x k e f =
           early asked x q p work answer (roomy ∙ ap (λ y. then y typed) (sym e)) f (script-below [] g t s q p (sym e))
@@ -101,7 +101,7 @@ counts-when (accepted type) n = (λ e. (type, refl, sym (accepted-inj e)), λ h.
 counts-when (refused q p) n = (λ e. accepted≢refused (sym e), λ h. accepted≢refused (sym (h .1)))
 
 pub judged : (g t s work answer : Bytes) → Octets g → Octets s → (x : Found) (work′ answer′ : Bytes) → Outcome (asked g t s work answer) x work work′ answer answer′
-    → work-length ≤ length work → answer-length ≤ length answer → Judged g t s answer (answered x) answer′
+    → work-length ≤ length work → answer-length ≤ length answer → Judged g t s answer (said x) answer′
 judged g t s work answer G O x work′ answer′ h l m =
     let same = longer-same g t s (length work) (length answer) l m in
     record {

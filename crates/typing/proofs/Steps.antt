@@ -8,6 +8,7 @@ use denote.Enum.Declared.{tagOf}
 use lib.ListN.{length, take, drop, length-drop}
 use Rattle.calculus.specs.Types.{Ty, top, raiseT}
 use Rattle.calculus.specs.Terms.{Term, case}
+use Rattle.rules.specs.Limits.{answer-length, script-limit}
 use Rattle.rules.specs.Answer.{Bytes, Answer, accepted, refused, _>>=_ as bind, _>>_ as then}
 use Rattle.rules.specs.Groups.{readers}
 use Rattle.rules.specs.Types.{type-at, type-count}
@@ -26,11 +27,11 @@ use Rattle.inference.specs.declared.Found.{Found}
 use Rattle.inference.specs.declared.Found.the-variants.{Typed}
 use Rattle.inference.proofs.Found.{the-type}
 use Rattle.inference.proofs.Regions.{high-drop, lent-rest, drop-lent, length-lent, high-lent, high-within, sized-lent, rebase}
-use Rattle.inference.proofs.Shapes.{of-fields, depth-positive}
+use Rattle.inference.proofs.Shapes.{of-fields, depth-positive, kind-case}
 use Rattle.inference.proofs.Rules.{meets-of, Typed-as, typed-as, refused-as, refused-meets, refused-says}
 use Rattle.inference.proofs.Names.{named, case-index}
 use Rattle.typing.proofs.Apart.{after-second, stops-before, stops-first, one-typed, first-typed, second-typed, branch-typed}
-use Rattle.typing.proofs.Below.{first-smaller, second-smaller, third-smaller, first-formed, second-formed, third-formed, first-room, second-room, first-binders, second-binders, several-front, branch-binders, is-case}
+use Rattle.typing.proofs.Below.{first-smaller, second-smaller, third-smaller, first-formed, second-formed, third-formed, first-room, second-room, first-binders, second-binders, several-front, branch-binders, several, three, three-kind}
 
 -- ---- answers taken apart
 
@@ -49,7 +50,7 @@ record Back (b : ℕ) (w₁ w₂ z : Bytes) (low : ℕ) : Type 0 where
   kept : high b w₂ ≡ high b w₁
   same : length w₂ ≡ length w₁
 
-back : (b c low : ℕ) (w₁ u z w₂ : Bytes) → b ≤ c → low + 252 * c ≤ length w₁ → u ≡ drop low w₁ → length z ≡ length u → high c z ≡ high c u
+back : (b c low : ℕ) (w₁ u z w₂ : Bytes) → b ≤ c → low + answer-length * c ≤ length w₁ → u ≡ drop low w₁ → length z ≡ length u → high c z ≡ high c u
     → w₂ ≡ putMid low (length w₁ - low) w₁ z → Back b w₁ w₂ z low
 back b c low w₁ u z w₂ m l eu n k e =
     let i : w₂ ≡ take low w₁ ++ z = e ∙ lent-rest low w₁ z in
@@ -108,7 +109,7 @@ module _ (g : Bytes) {types s : Bytes} {place b : ℕ} {w : Bytes} (v : Ready ty
       bind (typing (readers g) (type-at types) (second-context (v .ctx) (v .tree) t) (1 + place + size (first-operand (v .tree))) (second-operand (v .tree)))
       (after-second (readers g) (type-at types) (v .ctx) place (v .tree) t)
 
-  pub level : 252 * (b + 1) ≤ length w
+  pub level : answer-length * (b + 1) ≤ length w
   level = omega (arith, v .room, depth-positive (v .tree))
 
   module _ {x : Checked} {w₁ : Bytes} (h : Enters (before-first (readers g) (type-at types) place (v .tree)) (first-context (type-at types) (v .ctx) (v .tree)) b w x w₁) where
@@ -130,7 +131,7 @@ module _ (g : Bytes) {types s : Bytes} {place b : ℕ} {w : Bytes} (v : Ready ty
         }
 
   module _ (o : 1 ≤ operand-count (v .tree)) {c : ℕ} {w₁ : Bytes} (h : Went g v c w₁) {low : ℕ} (el : low ≡ kept-front (v .tree)) where
-    pub low-fits : low + 252 * c ≤ 252 * (b + 1)
+    pub low-fits : low + answer-length * c ≤ answer-length * (b + 1)
     low-fits = omega (arith, first-room (type-at types) (v .ctx) (v .tree), h .binders, v .binders)
 
     pub low-within : low ≤ length w₁
@@ -139,7 +140,7 @@ module _ (g : Bytes) {types s : Bytes} {place b : ℕ} {w : Bytes} (v : Ready ty
     pub first-holds : {u : Bytes} → u ≡ drop low w₁ → Holds (first-context (type-at types) (v .ctx) (v .tree)) (high c u)
     first-holds eu = rw (eu, high-drop low c w₁ (omega (arith, low-fits, level, h .same))) (h .holds)
 
-    pub first-room-left : {u : Bytes} → u ≡ drop low w₁ → 252 * (c + depth (first-operand (v .tree))) ≤ length u
+    pub first-room-left : {u : Bytes} → u ≡ drop low w₁ → answer-length * (c + depth (first-operand (v .tree))) ≤ length u
     first-room-left eu = rw eu (simp length-drop (omega (arith, low-fits, v .room, h .same, first-smaller (v .tree) o .deeper)))
 
     pub first-formed-at : Formed types c (first-operand (v .tree))
@@ -147,7 +148,7 @@ module _ (g : Bytes) {types s : Bytes} {place b : ℕ} {w : Bytes} (v : Ready ty
         subst (λ j. Formed types j (first-operand (v .tree))) (h .binders)
         (first-formed types (type-at types) (v .ctx) (v .tree) o (subst (λ j. Formed types j (v .tree)) (sym (v .binders)) (v .formed)))
 
-    pub first-placed : place + 1 + size (first-operand (v .tree)) ≤ 8192
+    pub first-placed : place + 1 + size (first-operand (v .tree)) ≤ script-limit
     first-placed = omega (arith, v .placed, first-smaller (v .tree) o .larger)
 
     abbrev pub ready1 : {s₁ u : Bytes} → s₁ ≡ encode (first-operand (v .tree)) → u ≡ drop low w₁ → Ready types s₁ (place + 1) c u
@@ -192,10 +193,10 @@ module _ (g : Bytes) {types s : Bytes} {place b : ℕ} {w : Bytes} (v : Ready ty
   -- ---- one operand
 
   module _ {n : ℕ} {w₂ : Bytes} (d : Done1 g v n w₂) where
-    pub room2 : 252 * (b + 1) ≤ length w₂
+    pub room2 : answer-length * (b + 1) ≤ length w₂
     room2 = omega (arith, level, d .same)
 
-    pub slot-room : 252 ≤ length w₂
+    pub slot-room : answer-length ≤ length w₂
     slot-room = omega (arith, room2)
 
     abbrev pub one-of : operand-count (v .tree) ≡ 1 → One types s w₂ n
@@ -220,12 +221,12 @@ module _ (g : Bytes) {types s : Bytes} {place b : ℕ} {w : Bytes} (v : Ready ty
 
     module _ (o : 2 ≤ operand-count (v .tree)) where
       pub front : Sized w₂ n (d .type)
-      front = subst (λ j. Sized (drop j w₂) n (d .type)) (several-front (v .tree) o) (d .sized)
+      front = subst (λ j. Sized (drop j w₂) n (d .type)) (several-front (several (v .tree) o)) (d .sized)
 
       pub holds2 : Holds (v .ctx) (high b w₂)
       holds2 = rw (d .kept) (v .holds)
 
-      pub two-levels : 252 * (b + 2) ≤ length w₂
+      pub two-levels : answer-length * (b + 2) ≤ length w₂
       two-levels = omega (arith, v .room, d .same, depth-positive (first-operand (v .tree)), first-smaller (v .tree) (omega arith) .deeper)
 
       abbrev pub some-of : Some s b w₂ n
@@ -254,7 +255,7 @@ module _ (g : Bytes) {types s : Bytes} {place b : ℕ} {w : Bytes} (v : Ready ty
         done2 {c} t ec l k =
             let a = accepts x _ t (h .says) in
             let e = h .entered a in
-            let q : length (second-context (v .ctx) (v .tree) (d .type)) ≡ c = omega (arith, second-binders s (v .ctx) (d .type) (v .tree) (v .is), v .binders) in
+            let q : length (second-context (v .ctx) (v .tree) (d .type)) ≡ c = omega (arith, second-binders s (v .ctx) (d .type) (v .tree) (several (v .tree) o) (v .is), v .binders) in
             record {
               asked = a;
               is = under-first ∙ ap (λ y. then y (after-first (d .type))) a;
@@ -270,8 +271,8 @@ module _ (g : Bytes) {types s : Bytes} {place b : ℕ} {w : Bytes} (v : Ready ty
 
 module _ (g : Bytes) {types s : Bytes} {place b : ℕ} {w : Bytes} (v : Ready types s place b w) (o : 2 ≤ operand-count (v .tree)) where
   module _ {t : Ty} {n c : ℕ} {w₃ : Bytes} (d : Done2 g v t n c w₃) {mid : ℕ} (em : mid ≡ kept-between (operand-count (v .tree))) {j : ℕ} (ej : j ≡ 1 + size (first-operand (v .tree))) where
-    pub mid-fits : mid + 252 * c ≤ 252 * (b + 1)
-    mid-fits = omega (arith, second-room (v .ctx) t (v .tree) o, d .binders, v .binders)
+    pub mid-fits : mid + answer-length * c ≤ answer-length * (b + 1)
+    mid-fits = omega (arith, second-room (v .ctx) t (several (v .tree) o), d .binders, v .binders)
 
     pub mid-within : mid ≤ length w₃
     mid-within = omega (arith, mid-fits, level g v, d .same)
@@ -279,16 +280,16 @@ module _ (g : Bytes) {types s : Bytes} {place b : ℕ} {w : Bytes} (v : Ready ty
     pub second-holds : {u : Bytes} → u ≡ drop mid w₃ → Holds (second-context (v .ctx) (v .tree) t) (high c u)
     second-holds eu = rw (eu, high-drop mid c w₃ (omega (arith, mid-fits, level g v, d .same))) (d .holds)
 
-    pub second-room-left : {u : Bytes} → u ≡ drop mid w₃ → 252 * (c + depth (second-operand (v .tree))) ≤ length u
-    second-room-left eu = rw eu (simp length-drop (omega (arith, mid-fits, v .room, d .same, second-smaller (v .tree) o .deeper)))
+    pub second-room-left : {u : Bytes} → u ≡ drop mid w₃ → answer-length * (c + depth (second-operand (v .tree))) ≤ length u
+    second-room-left eu = rw eu (simp length-drop (omega (arith, mid-fits, v .room, d .same, second-smaller (several (v .tree) o) .deeper)))
 
     pub second-formed-at : Formed types c (second-operand (v .tree))
     second-formed-at =
         subst (λ k. Formed types k (second-operand (v .tree))) (d .binders)
-        (second-formed types (v .ctx) t (v .tree) o (subst (λ k. Formed types k (v .tree)) (sym (v .binders)) (v .formed)))
+        (second-formed types (v .ctx) t (several (v .tree) o) (subst (λ k. Formed types k (v .tree)) (sym (v .binders)) (v .formed)))
 
-    pub second-placed : place + j + size (second-operand (v .tree)) ≤ 8192
-    second-placed = omega (arith, v .placed, second-smaller (v .tree) o .larger)
+    pub second-placed : place + j + size (second-operand (v .tree)) ≤ script-limit
+    second-placed = omega (arith, v .placed, second-smaller (several (v .tree) o) .larger)
 
     abbrev pub ready2 : {s₂ u : Bytes} → s₂ ≡ encode (second-operand (v .tree)) → u ≡ drop mid w₃ → Ready types s₂ (place + j) c u
     ready2 es eu =
@@ -327,17 +328,17 @@ module _ (g : Bytes) {types s : Bytes} {place b : ℕ} {w : Bytes} (v : Ready ty
             sized = subst (λ y. Sized (drop y w₄) k (a .type)) em (rw (q .behind) (a .wrote .sized));
             kept = q .kept ∙ d .kept;
             front = λ two. rw (q .is) (sized-lent mid w₃ z (d .aside .front two) (omega (arith, em ∙ ap kept-between two)) mid-within);
-            slot = λ three.
+            slot = λ h.
                 let p = back c c mid w₃ u z w₄ (omega arith) (omega (arith, mid-fits, level g v, d .same)) eu lz (a .wrote .kept) e₄ in
-                let y : c ≡ b + 1 = omega (arith, branch-binders (v .ctx) t (v .tree) three, d .binders, v .binders) in
-                beside-same (subst (λ i. high i w₄ ≡ high i w₃) y (p .kept)) (d .aside .slot three);
+                let y : c ≡ b + 1 = omega (arith, branch-binders (v .ctx) t (three (v .tree) h), d .binders, v .binders) in
+                beside-same (subst (λ i. high i w₄ ≡ high i w₃) y (p .kept)) (d .aside .slot h);
             same = q .same ∙ d .same;
           }
 
 -- ---- two operands
 
 module _ (g : Bytes) {types s : Bytes} {place b : ℕ} {w : Bytes} (v : Ready types s place b w) (o : operand-count (v .tree) ≡ 2) {t : Ty} {n m : ℕ} {w₄ : Bytes} (d : Done3 g v t n m w₄) where
-  pub two-sized : Sized (drop 252 w₄) m (d .other)
+  pub two-sized : Sized (drop answer-length w₄) m (d .other)
   two-sized = subst (λ y. Sized (drop (kept-between y) w₄) m (d .other)) o (d .sized)
 
   pub two-room : 504 ≤ length w₄
@@ -381,19 +382,19 @@ pub record Done6 (g : Bytes) {types s : Bytes} {place b : ℕ} {w : Bytes} (v : 
 
 module _ (g : Bytes) {types s : Bytes} {place b : ℕ} {w : Bytes} (v : Ready types s place b w) (o : operand-count (v .tree) ≡ 3) {i : ℕ} (ei : i ≡ number s 0) where
   pub case-is : v .tree ≡ case (r s 0) i (first-operand (v .tree)) (second-operand (v .tree)) (third-operand (v .tree))
-  case-is = of-fields s (v .tree) 9 {a = r s 0} {b = ir s 0} (v .is) (ap (λ x. kind x 0) (v .is) ∙ is-case (v .tree) o) refl refl ei
+  case-is = of-fields s (v .tree) kind-case {a = r s 0} {b = ir s 0} (v .is) (ap (λ x. kind x 0) (v .is) ∙ three-kind (three (v .tree) o)) refl refl ei
 
   pub case-named : i < type-count types
   case-named = case-index types b i (v .tree) (v .formed) case-is
 
   module _ {t : Ty} {n m : ℕ} {w₄ : Bytes} (d : Done3 g v t n m w₄) where
-    pub case-room : 252 * (b + 2) ≤ length w₄
+    pub case-room : answer-length * (b + 2) ≤ length w₄
     case-room = omega (arith, v .room, d .same, depth-positive (first-operand (v .tree)), first-smaller (v .tree) (omega arith) .deeper)
 
     pub branch-held : Held w₄ (d .other)
     branch-held = subst (λ y. Sized (drop (kept-between y) w₄) m (d .other)) o (d .sized) .held
 
-    pub turn-asks : Named types i × (Starts w₄ × (Some-sides b w₄ × (252 * (b + 2) ≤ length w₄)))
+    pub turn-asks : Named types i × (Starts w₄ × (Some-sides b w₄ × (answer-length * (b + 2) ≤ length w₄)))
     turn-asks = (named (v .table) case-named, (record { type = d .other; held = branch-held }, (record { type = t; sides = d .slot o }, case-room)))
 
     pub holds4 : Holds (v .ctx) (high b w₄)
@@ -426,16 +427,16 @@ module _ (g : Bytes) {types s : Bytes} {place b : ℕ} {w : Bytes} (v : Ready ty
           }
 
   module _ {t : Ty} {c : ℕ} {w₅ : Bytes} (d : Done5 g v i t c w₅) {j : ℕ} (ej : j ≡ 1 + size (first-operand (v .tree)) + size (second-operand (v .tree))) where
-    pub third-room-left : 252 * (c + depth (third-operand (v .tree))) ≤ length w₅
-    third-room-left = omega (arith, d .binders, v .binders, v .room, d .same, third-smaller (v .tree) (omega arith) .deeper)
+    pub third-room-left : answer-length * (c + depth (third-operand (v .tree))) ≤ length w₅
+    third-room-left = omega (arith, d .binders, v .binders, v .room, d .same, third-smaller (three (v .tree) o) .deeper)
 
     pub third-formed-at : Formed types c (third-operand (v .tree))
     third-formed-at =
         let q : suc b ≡ c = omega (arith, d .binders, v .binders) in
-        subst (λ k. Formed types k (third-operand (v .tree))) q (third-formed types b (v .tree) (omega arith) (v .formed))
+        subst (λ k. Formed types k (third-operand (v .tree))) q (third-formed types b (three (v .tree) o) (v .formed))
 
-    pub third-placed : place + j + size (third-operand (v .tree)) ≤ 8192
-    third-placed = omega (arith, v .placed, third-smaller (v .tree) (omega arith) .larger)
+    pub third-placed : place + j + size (third-operand (v .tree)) ≤ script-limit
+    third-placed = omega (arith, v .placed, third-smaller (three (v .tree) o) .larger)
 
     abbrev pub ready3 : {s₃ : Bytes} → s₃ ≡ encode (third-operand (v .tree)) → Ready types s₃ (place + j) c w₅
     ready3 es =
@@ -476,10 +477,10 @@ module _ (g : Bytes) {types s : Bytes} {place b : ℕ} {w : Bytes} (v : Ready ty
           }
 
   module _ {t : Ty} {w₆ : Bytes} (d : Done6 g v i t w₆) where
-    pub done-room : 252 * (b + 1) ≤ length w₆
+    pub done-room : answer-length * (b + 1) ≤ length w₆
     done-room = omega (arith, level g v, d .same)
 
-    pub done-asks : Named types i × (Starts w₆ × (252 ≤ length w₆))
+    pub done-asks : Named types i × (Starts w₆ × (answer-length ≤ length w₆))
     done-asks = (named (v .table) case-named, (record { type = d .type; held = d .held }, omega (arith, done-room)))
 
     pub done-meets : {by : ℕ} {x : Found} {w₇ : Bytes} → by ≡ top t .ir

@@ -1,3 +1,3 @@
 pub mod Parts
-pub mod Answered
+pub mod Said
 pub mod Judged

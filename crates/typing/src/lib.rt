@@ -21,7 +21,7 @@ ghost use Rattle.rules.specs.Calls.{script-check, checking, type-records, answe
 ghost use Rattle.records.specs.Place.{At};
 ghost use Rattle.inference.specs.Memory.{Meets, Ready};
 ghost use Rattle.typing.specs.Parts.{Operand-at, Part-of, kept-between};
-ghost use Rattle.typing.specs.Answered.{answered, Answers};
+ghost use Rattle.typing.specs.Said.{said, Answers};
 ghost use Rattle.typing.specs.Judged.{Judged};
 
 pub const WORK_LENGTH: usize = DEPTH_LIMIT * SLOT;
@@ -150,14 +150,14 @@ pub fn checking(
     work: &mut [u8],
     answer: &mut [u8],
 ) -> Found
-    ensures { λ x. ⌜ (answered x ≡ type-records (checking (length (now (work .entry))) (length (now (answer .entry)))
+    ensures { λ x. ⌜ (said x ≡ type-records (checking (length (now (work .entry))) (length (now (answer .entry)))
         (now (groups .entry)) (now (types .entry)) (now (script .entry))))
         × (now (work .exit) ≡ work-after (checking (length (now (work .entry))) (length (now (answer .entry)))
         (now (groups .entry)) (now (types .entry)) (now (script .entry))) (now (work .entry)))
         × (now (answer .exit) ≡ answer-after (checking (length (now (work .entry))) (length (now (answer .entry)))
         (now (groups .entry)) (now (types .entry)) (now (script .entry))) (now (answer .entry)))
         × (work-length ≤ length (now (work .entry)) → answer-length ≤ length (now (answer .entry))
-        → Judged (now (groups .entry)) (now (types .entry)) (now (script .entry)) (now (answer .entry)) (answered x)
+        → Judged (now (groups .entry)) (now (types .entry)) (now (script .entry)) (now (answer .entry)) (said x)
         (now (answer .exit))) ⌝ }
 {
     if work.len() < WORK_LENGTH {

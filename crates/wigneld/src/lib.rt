@@ -10,7 +10,7 @@ ghost use Rattle.rules.specs.Limits.{work-length, answer-length};
 ghost use Rattle.rules.specs.Calls.{checking, type-records, work-after, answer-after};
 ghost use Rattle.rules.specs.Calls.{running, run-report, first-after, scratch-after, sheeting, sheet-records, sheet-after};
 ghost use Rattle.rules.specs.Reach.{Accepted};
-ghost use Rattle.typing.specs.Answered.{answered};
+ghost use Rattle.typing.specs.Said.{said};
 ghost use Rattle.typing.specs.Judged.{Judged};
 ghost use Rattle.evaluation.specs.Runs.{run-reported};
 ghost use Rattle.sheet.specs.Said.{reported};
@@ -22,8 +22,8 @@ use sheet::Sheet;
 
 // A found type's record count, or the refusal.
 fn found(a: Found) -> u64
-    requires { ⌜ Bounded (answered a) ⌝ }
-    ensures { λ n. ⌜ n ≡ packed (answered a) ⌝ }
+    requires { ⌜ Bounded (said a) ⌝ }
+    ensures { λ n. ⌜ n ≡ packed (said a) ⌝ }
 {
     match a {
         Found::Typed(count) => count as u64,

@@ -6,7 +6,7 @@ use lib.ListN.{length, drop}
 use Rattle.calculus.specs.Security.{Property}
 use Rattle.calculus.specs.Terms.{Side, Term, inj}
 use Rattle.rules.specs.Answer.{Bytes}
-use Rattle.rules.specs.Limits.{answer-length}
+use Rattle.rules.specs.Limits.{answer-length, type-width, script-width}
 use Rattle.rules.specs.Groups.{readers}
 use Rattle.rules.specs.Types.{type-at, type-count}
 use Rattle.rules.specs.Script.{kind, r, ir, number, make}
@@ -14,7 +14,7 @@ use Rattle.types.specs.Held.{Held, Starts}
 use Rattle.records.specs.Operands.{first-operand, second-operand, third-operand}
 use Rattle.inference.specs.Memory.{Sized, Typed-front, Named-sided}
 use Rattle.inference.specs.Stages.{kept-front, after-one, One}
-use Rattle.inference.proofs.Shapes.{long, mu-kind, front-plain, of-fields}
+use Rattle.inference.proofs.Shapes.{long, mu-kind, front-plain, of-fields, kind-function, kind-first-injection, kind-second-injection, kind-first-projection, kind-second-projection, kind-protect, kind-recursion}
 use Rattle.inference.proofs.Regions.{slot-of}
 use Rattle.inference.proofs.Rules.{meets-of}
 use Rattle.inference.proofs.Names.{named, named-sided, lam-index, inj-index, mu-index}
@@ -34,34 +34,34 @@ module _ {types s w : Bytes} {n : ℕ} (v : One types s w n) {k a b i : ℕ} (f 
   shape j q = of-fields s (v .tree) j (v .is) (sym (f .kind-is) ∙ q) (f .r-is) (f .ir-is) (f .number-is)
 
   -- no injection: the type is in front
-  in-front : (k ≡ 4 → ⊥) → (k ≡ 5 → ⊥) → Sized w n (v .type)
+  in-front : (k ≡ kind-first-injection → ⊥) → (k ≡ kind-second-injection → ⊥) → Sized w n (v .type)
   in-front x y =
       let z = front-plain s (v .tree) (v .is) (λ z. x (f .kind-is ∙ z)) (λ z. y (f .kind-is ∙ z)) in
       subst (λ j. Sized (drop j w) n (v .type)) (sym z) (v .sized)
 
   -- an injection: it is behind the room of a record
-  behind : {d : Side} {p : Property} {e : Term} → v .tree ≡ inj d p i e → Held (drop 4 w) (v .type)
+  behind : {d : Side} {p : Property} {e : Term} → v .tree ≡ inj d p i e → Held (drop type-width w) (v .type)
   unfolding kept-front
   behind q = subst (λ j. Held (drop j w) (v .type)) (ap kept-front q) (v .sized .held)
 
   -- the named type
-  function-index : k ≡ 2 → i < type-count types
-  function-index q = lam-index types (v .binders) i (v .tree) (v .formed) (shape 2 q)
+  function-index : k ≡ kind-function → i < type-count types
+  function-index q = lam-index types (v .binders) i (v .tree) (v .formed) (shape kind-function q)
 
   injection-index : {d : Side} {p : Property} {e : Term} → v .tree ≡ inj d p i e → i < type-count types
   injection-index q = inj-index types (v .binders) i (v .tree) (v .formed) q .0
 
-  recursion-index : k ≡ 11 → i < type-count types
-  recursion-index q = mu-index types (v .binders) i (v .tree) (v .formed) (shape 11 q) .0
+  recursion-index : k ≡ kind-recursion → i < type-count types
+  recursion-index q = mu-index types (v .binders) i (v .tree) (v .formed) (shape kind-recursion q) .0
 
   -- what an injection asks
   injects : {d : Side} {p : Property} {e : Term} → v .tree ≡ inj d p i e
-      → Named-sided types i × (Starts (drop 4 w) × (252 ≤ length w))
+      → Named-sided types i × (Starts (drop type-width w) × (answer-length ≤ length w))
   injects q =
       let m = inj-index types (v .binders) i (v .tree) (v .formed) q in
       (named-sided (v .table) (m .0) (m .1), (record { type = v .type; held = behind q }, v .room))
 
-  is-mu : (k ≡ 2 → ⊥) → (k ≡ 4 → ⊥) → (k ≡ 5 → ⊥) → (k ≡ 7 → ⊥) → (k ≡ 8 → ⊥) → (k ≡ 10 → ⊥) → k ≡ 11
+  is-mu : (k ≡ kind-function → ⊥) → (k ≡ kind-first-injection → ⊥) → (k ≡ kind-second-injection → ⊥) → (k ≡ kind-first-projection → ⊥) → (k ≡ kind-second-projection → ⊥) → (k ≡ kind-protect → ⊥) → k ≡ kind-recursion
   is-mu x2 x4 x5 x7 x8 x10 =
       let q = f .kind-is in
       q
@@ -118,13 +118,13 @@ typed-front c = let v = start (read c) .pre in record { type = v .type; sized = 
 projects : (c : tie.Else3) → let s = start (read c) in Starts (s .args .w .now) × (answer-length ≤ length (s .args .w .now))
 projects c = let v = start (read c) .pre in (record { type = v .type; held = front c v .held }, v .room)
 
-recursion : (c : tie.Else6) (v : Node (read (plain c))) → read (plain c) .before .before .before .kind .result ≡ 11
+recursion : (c : tie.Else6) (v : Node (read (plain c))) → read (plain c) .before .before .before .kind .result ≡ kind-recursion
 recursion c v =
     let d = plain c in
     is-mu v (fields (read d)) (d .before .before .if1 .left) (d .before .if2 .left) (d .if3 .left) (c .before .before .if4 .left)
     (c .before .if5 .left) (c .if6 .left)
 
-node-long : (s : tie.Start) → 6 ≤ length (s .args .s .now)
+node-long : (s : tie.Start) → script-width ≤ length (s .args .s .now)
 node-long s = long (s .pre .tree) (s .pre .is)
 
 kind-requires : tie.Need-kind-requires
@@ -161,7 +161,7 @@ returns c =
     let d = j .before in
     let f = fields d in
     let q = j .if1 .taken in
-    meets-of (rule d v (shape v f 2 q))
+    meets-of (rule d v (shape v f kind-function q))
     (x .function .ensures (type-at (T (start d)) (I d)) (v .type) b (v .table .entry (I d) (function-index v f q))
     (in-front v f (λ z. omega arith) (λ z. omega arith)) l)
 
@@ -170,7 +170,7 @@ inject-requires c κs =
     let j = c .before in
     let d = j .before .before in
     let v = start d .pre in
-    injects v (fields d) (shape v (fields d) 4 (j .if2 .taken))
+    injects v (fields d) (shape v (fields d) kind-first-injection (j .if2 .taken))
 
 same-length-2 : tie.Need-same-length-2
 same-length-2 c = search needs
@@ -183,7 +183,7 @@ returns-2 c =
     let j = x .before .before in
     let d = j .before .before in
     let f = fields d in
-    let e = shape v f 4 (j .if2 .taken) in
+    let e = shape v f kind-first-injection (j .if2 .taken) in
     meets-of (rule d v e)
     (x .inject .ensures (type-at (T (start d)) (I d)) (v .type) b (v .table .entry (I d) (injection-index v f e)) (behind v f e) l)
 
@@ -192,7 +192,7 @@ inject-requires-2 c κs =
     let j = c .before in
     let d = j .before .before .before in
     let v = start d .pre in
-    injects v (fields d) (shape v (fields d) 5 (j .if3 .taken))
+    injects v (fields d) (shape v (fields d) kind-second-injection (j .if3 .taken))
 
 same-length-3 : tie.Need-same-length-3
 same-length-3 c = search needs
@@ -205,7 +205,7 @@ returns-3 c =
     let j = x .before .before in
     let d = j .before .before .before in
     let f = fields d in
-    let e = shape v f 5 (j .if3 .taken) in
+    let e = shape v f kind-second-injection (j .if3 .taken) in
     meets-of (rule d v e)
     (x .inject2 .ensures (type-at (T (start d)) (I d)) (v .type) b (v .table .entry (I d) (injection-index v f e)) (behind v f e) l)
 
@@ -222,7 +222,7 @@ returns-4 c =
     let x = c .before .before in
     let j = x .before .before in
     let d = j .before in
-    meets-of (rule (read d) v (shape v (fields (read d)) 7 (j .if4 .taken))) (x .project .ensures (v .type) b (slot-of (front d v)) l)
+    meets-of (rule (read d) v (shape v (fields (read d)) kind-first-projection (j .if4 .taken))) (x .project .ensures (v .type) b (slot-of (front d v)) l)
 
 project-requires-2 : tie.Need-project-requires-2
 project-requires-2 c κs = projects (c .before .before .before)
@@ -237,7 +237,7 @@ returns-5 c =
     let x = c .before .before in
     let j = x .before .before in
     let d = j .before .before in
-    meets-of (rule (read d) v (shape v (fields (read d)) 8 (j .if5 .taken))) (x .project2 .ensures (v .type) b (slot-of (front d v)) l)
+    meets-of (rule (read d) v (shape v (fields (read d)) kind-second-projection (j .if5 .taken))) (x .project2 .ensures (v .type) b (slot-of (front d v)) l)
 
 protect-requires : tie.Need-protect-requires
 protect-requires c κs = typed-front (c .before .before .before .before)
@@ -252,7 +252,7 @@ returns-6 c =
     let x = c .before .before in
     let j = x .before .before in
     let d = j .before .before .before in
-    meets-of (rule (read d) v (shape v (fields (read d)) 10 (j .if6 .taken))) (x .protect .ensures (v .type) b (front d v) l)
+    meets-of (rule (read d) v (shape v (fields (read d)) kind-protect (j .if6 .taken))) (x .protect .ensures (v .type) b (front d v) l)
 
 adopt-requires : tie.Need-adopt-requires
 adopt-requires c κs =
@@ -275,7 +275,7 @@ returns-7 c =
     let h = read d in
     let f = fields h in
     let q = recursion j v in
-    meets-of (rule h v (shape v f 11 q))
+    meets-of (rule h v (shape v f kind-recursion q))
     (x .adopt .ensures (v .type) (type-at (T (start h)) (I h)) b (front d v .held) (v .table .entry (I h) (recursion-index v f q)) l)
 
 pub after-one-spec : {M : Type 1} → statement M

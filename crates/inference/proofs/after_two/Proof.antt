@@ -4,6 +4,7 @@ use Prim.Native.Nat.{ℕ, _≤_}
 use lib.ListN.{length}
 use Rattle.calculus.specs.Types.{function}
 use Rattle.calculus.specs.Terms.{Term, app}
+use Rattle.rules.specs.Limits.{script-width}
 use Rattle.rules.specs.Answer.{Bytes}
 use Rattle.rules.specs.Groups.{readers}
 use Rattle.rules.specs.Script.{kind, r, number}
@@ -11,7 +12,7 @@ use Rattle.types.specs.Held.{kind-of}
 use Rattle.records.specs.Operands.{first-operand, second-operand}
 use Rattle.inference.specs.Stages.{between, after-two, Two}
 use Rattle.inference.proofs.Regions.{slot-of}
-use Rattle.inference.proofs.Shapes.{long, of-kind, app-kind, of-fields}
+use Rattle.inference.proofs.Shapes.{long, of-kind, app-kind, of-fields, kind-pair, kind-application}
 use Rattle.inference.proofs.Rules.{read-two, meets-of}
 use borrow.Author.Needs.{needs}
 use Rattle.inference.proofs.after_two.Statement.{statement}
@@ -23,10 +24,10 @@ module _ {g s : Bytes} {place : ℕ} {w : Bytes} {n m : ℕ} (v : Two g s place 
       → after-two (readers g) place (v .tree) (v .first) (v .second) ≡ after-two (readers g) place e (v .first) (v .second)
   rule q = ap (λ e. after-two (readers g) place e (v .first) (v .second)) q
 
-  is-app : (kind s 0 ≡ 3 → ⊥) → v .tree ≡ app (r s 0) (first-operand (v .tree)) (second-operand (v .tree))
-  is-app ne = of-kind s (v .tree) 6 (v .is) (app-kind (v .tree) (v .is) (v .two) ne)
+  is-app : (kind s 0 ≡ kind-pair → ⊥) → v .tree ≡ app (r s 0) (first-operand (v .tree)) (second-operand (v .tree))
+  is-app ne = of-kind s (v .tree) kind-application (v .is) (app-kind (v .tree) (v .is) (v .two) ne)
 
-  sided : (kind s 0 ≡ 3 → ⊥) → kind-of (v .first) ≡ 0 → ⊥
+  sided : (kind s 0 ≡ kind-pair → ⊥) → kind-of (v .first) ≡ 0 → ⊥
   unfolding between
   sided ne =
       read-two (readers g) place function (v .first) (r s 0)
@@ -45,7 +46,7 @@ start c = begin (c .before)
 no-pair : (c : tie.Else1) → kind (P (start (c .before))) 0 ≡ 3 → ⊥
 no-pair c z = c .if1 .left (c .before .kind .ensures ∙ z)
 
-node-long : (s : tie.Start) → 6 ≤ length (P s)
+node-long : (s : tie.Start) → script-width ≤ length (P s)
 node-long s = long (s .pre .tree) (s .pre .is)
 
 kind-requires : tie.Need-kind-requires
@@ -72,7 +73,7 @@ returns c =
     let a = d .before in
     let i = a .before in
     let s = P (start (i .before)) in
-    let e = of-fields s (v .tree) 3 {n = number s 0} (v .is) (sym (i .before .kind .ensures) ∙ i .if1 .taken) (a .reader .ensures)
+    let e = of-fields s (v .tree) kind-pair {n = number s 0} (v .is) (sym (i .before .kind .ensures) ∙ i .if1 .taken) (a .reader .ensures)
     (d .indirect .ensures) refl in
     meets-of (rule v e) (x .pair .ensures (v .first) (v .second) b (v .sized) (v .other) l)
 

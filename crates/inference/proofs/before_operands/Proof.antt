@@ -4,16 +4,17 @@ use Prim.Native.Nat.{ℕ, _+_, _*_, _≤_, _<_}
 use native.Mathlib.Omega.{arith}
 use lib.ListN.{length}
 use Rattle.calculus.specs.Security.{Security}
-use Rattle.calculus.specs.Types.{Ty}
+use Rattle.calculus.specs.Types.{function, Ty}
+use Rattle.rules.specs.Limits.{answer-length, script-width}
 use Rattle.rules.specs.Answer.{Bytes, ask}
 use Rattle.rules.specs.Groups.{readers}
-use Rattle.rules.specs.Types.{type-at, type-count, type-kind}
+use Rattle.rules.specs.Types.{former-kind, type-at, type-count, type-kind}
 use Rattle.rules.specs.Script.{r, ir, make}
 use Rattle.records.specs.Operands.{first-operand, second-operand, third-operand}
 use Rattle.inference.specs.Memory.{Ready}
 use Rattle.inference.specs.Stages.{before-first, first-context}
 use Rattle.inference.proofs.Regions.{stayed}
-use Rattle.inference.proofs.Shapes.{long, plain, of-fields, depth-positive}
+use Rattle.inference.proofs.Shapes.{long, plain, of-fields, depth-positive, kind-function, kind-recursion}
 use Rattle.inference.proofs.Rules.{enters-as}
 use Rattle.inference.proofs.Names.{named, named-sided, lam-index, mu-index}
 use borrow.Author.Needs.{needs}
@@ -58,20 +59,20 @@ shape c v j q =
     of-fields p (v .tree) j {a = r p 0} {b = ir p 0} (v .is) (sym (c .before .kind .ensures) ∙ q) refl refl (c .index .ensures)
 
 -- the room for one more binder
-level : {types s : Bytes} {place b : ℕ} {w : Bytes} → Ready types s place b w → 252 * (b + 1) ≤ length w
+level : {types s : Bytes} {place b : ℕ} {w : Bytes} → Ready types s place b w → answer-length * (b + 1) ≤ length w
 level v = omega (arith, v .room, depth-positive (v .tree))
 
 -- the named type of a function, and of a recursion
 lam-named : (c : tie.Then1) (v : Node (c .before)) → I (c .before) < type-count (T (start (c .before)))
 lam-named c v =
     let d = c .before in
-    lam-index (T (start d)) (start d .args .b) (I d) (v .tree) (v .formed) (shape d v 2 (c .if1 .taken))
+    lam-index (T (start d)) (start d .args .b) (I d) (v .tree) (v .formed) (shape d v kind-function (c .if1 .taken))
 
 mu-named : (c : tie.Then2) (v : Node (read c))
-    → let t = T (start (read c)) in (I (read c) < type-count t) × (type-kind t (I (read c)) ≡ 3)
+    → let t = T (start (read c)) in (I (read c) < type-count t) × (type-kind t (I (read c)) ≡ former-kind function)
 mu-named c v =
     let d = read c in
-    mu-index (T (start d)) (start d .args .b) (I d) (v .tree) (v .formed) (shape d v 11 (c .if2 .taken))
+    mu-index (T (start d)) (start d .args .b) (I d) (v .tree) (v .formed) (shape d v kind-recursion (c .if2 .taken))
 
 -- question 23
 asked : (c : tie.After-absorbs) (v : Node (read (c .before)))
@@ -83,10 +84,10 @@ asked c v =
     let d = read j in
     let s = start d in
     let p = s .args .place in
-    ap (before-first (S s) (type-at (T s)) p) (shape d v 11 (j .if2 .taken))
+    ap (before-first (S s) (type-at (T s)) p) (shape d v kind-recursion (j .if2 .taken))
     ∙ ap (ask 23 p) (sym (c .absorbs .ensures (named-type d) (v .table .entry (I d) (mu-named j v .0) .held)))
 
-node-long : (s : tie.Start) → 6 ≤ length (P s)
+node-long : (s : tie.Start) → script-width ≤ length (P s)
 node-long s = long (s .pre .tree) (s .pre .is)
 
 kind-requires : tie.Need-kind-requires
@@ -112,7 +113,7 @@ returns c =
     let j = x .before .before in
     let d = j .before in
     let s = start d in
-    let e = shape d v 2 (j .if1 .taken) in
+    let e = shape d v kind-function (j .if1 .taken) in
     enters-as (sym (ap (before-first (S s) (type-at (T s)) (s .args .place)) e)) (ap (first-context (type-at (T s)) (v .ctx)) e)
     (x .bind .ensures (v .ctx) (named-type d) (v .table .entry (I d) (lam-named j v)) (v .binders) (v .holds))
 
@@ -143,7 +144,7 @@ returns-2 c =
     let a = y .before in
     let j = a .before in
     let d = read j in
-    enters-as (y .ask .ensures ∙ sym (asked a v)) (ap (first-context (type-at (T (start d))) (v .ctx)) (shape d v 11 (j .if2 .taken)))
+    enters-as (y .ask .ensures ∙ sym (asked a v)) (ap (first-context (type-at (T (start d))) (v .ctx)) (shape d v kind-recursion (j .if2 .taken)))
     (x .bind2 .ensures (v .ctx) (named-type d) (v .table .entry (I d) (mu-named j v .0)) (v .binders) (v .holds))
 
 returns-3 : tie.Need-returns-3

@@ -6,6 +6,7 @@ use lib.ListN.{length}
 use Rattle.calculus.specs.Security.{Security}
 use Rattle.calculus.specs.Types.{function, Ty}
 use Rattle.calculus.specs.Terms.{Term}
+use Rattle.rules.specs.Limits.{script-width}
 use Rattle.rules.specs.Answer.{Bytes}
 use Rattle.rules.specs.Groups.{readers}
 use Rattle.rules.specs.Script.{kind, ir, number, make}
@@ -14,7 +15,7 @@ use Rattle.inference.specs.Operands.{operand-count}
 use Rattle.inference.specs.Memory.{Sized, Beside}
 use Rattle.inference.specs.Stages.{between, second-context, Some, Aside}
 use Rattle.inference.proofs.Regions.{stayed}
-use Rattle.inference.proofs.Shapes.{long, of-kind, case-kind, of-fields}
+use Rattle.inference.proofs.Shapes.{long, of-kind, case-kind, of-fields, kind-pair, kind-application, kind-case}
 use Rattle.inference.proofs.Rules.{enters-as, enters-for}
 use borrow.Author.Needs.{needs}
 use Rattle.inference.proofs.between.Statement.{statement}
@@ -65,7 +66,7 @@ front-aside o h = record { front = λ z. h; slot = λ z. absurd (omega arith) }
 slot-aside : {e : Term} {s : Ty} {b : ℕ} {w : Bytes} {n : ℕ} → operand-count e ≡ 3 → Beside s b w → Aside e s b w n
 slot-aside o h = record { front = λ z. absurd (omega arith); slot = λ z. h }
 
-node-long : (s : tie.Start) → 6 ≤ length (P s)
+node-long : (s : tie.Start) → script-width ≤ length (P s)
 node-long s = long (s .pre .tree) (s .pre .is)
 
 kind-requires : tie.Need-kind-requires
@@ -77,7 +78,7 @@ returns c =
     λ v.
     let k = c .before in
     let s = begin (k .before) in
-    let e = of-kind (P s) (v .tree) 3 (v .is) (sym (k .kind .ensures) ∙ c .if1 .taken) in
+    let e = of-kind (P s) (v .tree) kind-pair (v .is) (sym (k .kind .ensures) ∙ c .if1 .taken) in
     (enters-as (sym (asked s v e)) (context s v e) (stayed (v .binders) (v .holds)), λ z. front-aside (ap operand-count e) (v .sized))
 
 reader-requires : tie.Need-reader-requires
@@ -96,7 +97,7 @@ returns-2 c =
     let i = c .before .before in
     let d = i .before in
     let s = start d in
-    let e = shape d v 6 (sym (kinded d .kind .ensures) ∙ i .if2 .taken) in (
+    let e = shape d v kind-application (sym (kinded d .kind .ensures) ∙ i .if2 .taken) in (
       enters-as (c .may-read .ensures function (v .type) refl (v .sized .held) ∙ sym (asked s v e)) (context s v e) (stayed (v .binders) (v .holds)),
       λ z. front-aside (ap operand-count e) (v .sized),
     )
@@ -117,7 +118,7 @@ returns-3 c =
     let s = start d in
     let k = kinded d .kind .ensures in
     let q = case-kind (v .tree) (v .is) (v .some) (λ z. d .before .if1 .left (k ∙ z)) (λ z. i .if2 .left (k ∙ z)) in
-    let e = shape d v 9 q in
+    let e = shape d v kind-case q in
     let h = x .test .ensures (v .ctx) (v .type) (v .sized) (v .binders) (v .holds) in
     (enters-for (asked s v e) (context s v e) (h .0), λ z. slot-aside (ap operand-count e) (h .1 (sym (asked s v e) ∙ z)))
 

@@ -7,6 +7,7 @@ use lib.ListN.{length}
 use Rattle.calculus.specs.Security.{Property}
 use Rattle.calculus.specs.Types.{one, sizeT}
 use Rattle.calculus.specs.Terms.{Term, var, unit}
+use Rattle.rules.specs.Limits.{script-width}
 use Rattle.rules.specs.Answer.{Bytes}
 use Rattle.rules.specs.Types.{encode-type}
 use Rattle.rules.specs.Script.{r, ir, number}
@@ -14,7 +15,7 @@ use Rattle.inference.specs.Operands.{Formed}
 use Rattle.inference.specs.Memory.{finds}
 use Rattle.inference.specs.Stages.{leaf-type, Leaf}
 use Rattle.inference.proofs.Regions.{wrote-first}
-use Rattle.inference.proofs.Shapes.{long, unit-kind, of-fields}
+use Rattle.inference.proofs.Shapes.{long, unit-kind, of-fields, kind-variable, kind-unit}
 use Rattle.inference.proofs.Rules.{meets-of}
 use borrow.Author.Needs.{needs}
 use Rattle.inference.proofs.leaf.Statement.{statement}
@@ -54,7 +55,7 @@ is-var : (c : tie.After-index) (v : Node (var-start c)) → v .tree ≡ var (c .
 is-var c v =
     let i = c .before in
     let p = P (var-start c) in
-    of-fields p (v .tree) 0 {a = r p 0} {b = ir p 0} (v .is) (sym (i .before .kind .ensures) ∙ i .if1 .taken) refl refl (c .index .ensures)
+    of-fields p (v .tree) kind-variable {a = r p 0} {b = ir p 0} (v .is) (sym (i .before .kind .ensures) ∙ i .if1 .taken) refl refl (c .index .ensures)
 
 -- a unit: its property is read
 abbrev no-var : tie.After-indirect → tie.Else1
@@ -71,9 +72,9 @@ is-unit c v =
     let i = no-var c in
     let p = P (unit-start c) in
     let q = unit-kind (v .tree) (v .is) (v .leaf) (λ z. i .if1 .left (i .before .kind .ensures ∙ z)) in
-    of-fields p (v .tree) 1 {n = number p 0} (v .is) q (c .before .reader .ensures) (c .indirect .ensures) refl
+    of-fields p (v .tree) kind-unit {n = number p 0} (v .is) q (c .before .reader .ensures) (c .indirect .ensures) refl
 
-node-long : (s : tie.Start) → 6 ≤ length (P s)
+node-long : (s : tie.Start) → script-width ≤ length (P s)
 node-long s = long (s .pre .tree) (s .pre .is)
 
 kind-requires : tie.Need-kind-requires

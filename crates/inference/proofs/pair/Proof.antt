@@ -1,9 +1,10 @@
 -- `inference::pair` meets its contract: the first type is moved up by a record, the second down to it, the record put in front.
 use mathlib.Core.Path.{_≡_, ap, _∙_}
-use Prim.Native.Nat.{_+_, _*_, _≤_}
+use Prim.Native.Nat.{_+_, _*_, _≤_, _<_}
 use native.Mathlib.Omega.{arith}
 use lib.ListN.{length, take, drop, length-take}
-use Rattle.calculus.specs.Types.{product, Ty, sizeT}
+use Rattle.rules.specs.Limits.{answer-length, type-width}
+use Rattle.calculus.specs.Types.{product, Ty, sizeT, type-limit}
 use Rattle.memory.proofs.Laws.{drop-past}
 use Rattle.inference.specs.Memory.{refuses}
 use Rattle.inference.proofs.Front.{held-bytes}
@@ -27,13 +28,13 @@ start c = fitting c .before .before
 
 -- moving the first type up leaves the second where it was
 kept : (c : tie.After-up) (s t : Ty)
-    → let o = start c .args in o .n ≡ sizeT s → sizeT s + sizeT t ≤ 62 → 252 ≤ length (o .w .now)
-    → drop 252 (c .up .last .0) ≡ drop 252 (o .w .now)
+    → let o = start c .args in o .n ≡ sizeT s → sizeT s + sizeT t < type-limit → answer-length ≤ length (o .w .now)
+    → drop answer-length (c .up .last .0) ≡ drop answer-length (o .w .now)
 kept c s t e f l =
-    let n = 4 * start c .args .n in
+    let n = type-width * start c .args .n in
     let w = start c .args .w .now in
     let z = length-take n w in
-    ap (drop 252) (c .up .ensures) ∙ drop-past 4 252 (take n w) w (omega arith) (omega arith)
+    ap (drop answer-length) (c .up .ensures) ∙ drop-past type-width answer-length (take n w) w (omega arith) (omega arith)
 
 add-if1 : tie.Need-add-if1
 add-if1 c = search needs
@@ -83,9 +84,9 @@ returns-2 c =
     let y = lowered x in
     let u = lifted y in
     let o = start u .args in
-    let f : sizeT s + sizeT t ≤ 62 = omega (arith, fitting u .if1 .left, p .count, q .count) in
+    let f : sizeT s + sizeT t < type-limit = omega (arith, fitting u .if1 .left, p .count, q .count) in
     pair-meets (o .place) (o .r .0) (o .ir .0) (o .n) (o .m) s t f (p .count) (q .count) (held-bytes (p .held) (o .n) (p .count))
-    (ap (take (4 * o .m)) (kept u s t (p .count) f (omega arith)) ∙ held-bytes (q .held) (o .m) (q .count)) l
+    (ap (take (type-width * o .m)) (kept u s t (p .count) f (omega arith)) ∙ held-bytes (q .held) (o .m) (q .count)) l
     (u .up .ensures) (y .down .ensures) (x .put .ensures)
 
 pub pair-spec : {M : Type 1} → statement M

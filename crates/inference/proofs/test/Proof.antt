@@ -6,6 +6,7 @@ use lib.ListN.{length, take, drop}
 use Rattle.answer.proofs.Passed.{accepts}
 use Rattle.calculus.specs.Security.{Security}
 use Rattle.calculus.specs.Types.{sum, Ty}
+use Rattle.rules.specs.Limits.{answer-length, type-width}
 use Rattle.rules.specs.Answer.{Bytes, accepted}
 use Rattle.rules.specs.Groups.{readers}
 use Rattle.types.specs.Held.{Held}
@@ -91,9 +92,9 @@ returns-2 c =
     let b = s .args .b in
     let ok = may d t (h .held) in
     let nz = read-two (S s) (s .args .place) sum t (s .args .r .0) ok in
-    let room : 252 * (b + 1) ≤ length w = omega (arith, s .pre .1) in
+    let room : answer-length * (b + 1) ≤ length w = omega (arith, s .pre .1) in
     let q = beside-written {t = t} {b = b} w w′ nz (h .small)
-    (ap (λ j. take (4 * (j - 1)) (drop 4 w)) (h .count) ∙ sides-bytes w t (h .held) nz) room (x .up .ensures) in
+    (ap (λ j. take (type-width * (j - 1)) (drop type-width w)) (h .count) ∙ sides-bytes w t (h .held) nz) room (x .up .ensures) in
     (record { says = sym ok; entered = λ z. entered (q .0 .one) (q .1) (q .2) room l k }, λ z. q .0)
 
 pub test-spec : {M : Type 1} → statement M

@@ -2,7 +2,7 @@
 use mathlib.Core.Path.{sym, ap, subst, _∙_}
 use native.Mathlib.Omega.{arith}
 use Rattle.rules.specs.Answer.{Bytes}
-use Rattle.typing.specs.Answered.{answered}
+use Rattle.typing.specs.Said.{said}
 use Rattle.text.specs.Written.{Written}
 use Rattle.text.proofs.Placed.{then}
 use Rattle.report.specs.Room.{run-room}
@@ -47,7 +47,7 @@ returns c =
     let a = c .before .before .before .before .before .before .before .before .before .a .given in
     let r = c .before .before .run-text in
     subst (λ (b : Bytes). Written 0 b (s .args .out .now) (r .result) (r .last .1 .1 .1 .0))
-    (sym (report-accepted (s .args .groups .now) (s .args .types .now) (s .args .script .now) (a .0 .0) (sym (ap answered (a .1)) ∙ c .before .before .before .before .before .before .before .before .before .before .before .before .before .checking .ensures .0)))
+    (sym (report-accepted (s .args .groups .now) (s .args .types .now) (s .args .script .now) (a .0 .0) (sym (ap said (a .1)) ∙ c .before .before .before .before .before .before .before .before .before .before .before .before .before .checking .ensures .0)))
     (then (c .before .before .before .before .before .before .accepted-line .ensures) (r .ensures) (accepted-fits _ 0 _ (omega (arith, s .pre))))
 
 same-length-2 : tie.Need-same-length-2
@@ -59,7 +59,7 @@ returns-2 c =
     let a = c .before .before .before .before .before .a2 .given in
     let r = c .before .before .refusal-line in
     subst (λ (b : Bytes). Written 0 b (s .args .out .now) (r .result) (r .last .1 .1 .0))
-    (sym (report-refused (s .args .groups .now) (s .args .types .now) (s .args .script .now) (a .0 .0) (a .0 .1 .0) (sym (ap answered (a .1)) ∙ c .before .before .before .before .before .before .before .before .before .checking .ensures .0)))
+    (sym (report-refused (s .args .groups .now) (s .args .types .now) (s .args .script .now) (a .0 .0) (a .0 .1 .0) (sym (ap said (a .1)) ∙ c .before .before .before .before .before .before .before .before .before .checking .ensures .0)))
     (r .ensures)
 
 pub write-report-spec : {M : Type 1} → statement M

@@ -36,6 +36,8 @@ use Rattle.typing.proofs.Below.{
   third-whole,
   at-most-three,
   branch-binders,
+  several as several-operands,
+  three,
 }
 use Rattle.typing.proofs.Steps as steps
 use Rattle.typing.proofs.type_node.Reads as node
@@ -611,7 +613,7 @@ module _ (t : ℕ) where
     from₂-is = i₂-is (front (first (to-first c))) v
 
     second-stands : At (S (start₃ c)) (from₂ c) (second-operand (v .tree))
-    second-stands = second-at (S (start₃ c)) (v .tree) (from₂ c) (v .is) (has-two (to-several c) v) from₂-is
+    second-stands = second-at (S (start₃ c)) (several-operands (v .tree) (has-two (to-several c) v)) (v .is) from₂-is
 
   module _ (c : Gap) (v : Given (start₃ (between c))) where
     i₃-is : i₃ c ≡ from₂ (between c) + size (second-operand (v .tree))
@@ -870,7 +872,7 @@ module _ (t : ℕ) where
       let e = to-between (two y) in
       let o = has-three y v in
       steps.done5 (G (start₅ c)) v o (i-is y) (done₃ (two y) v) (turns x v) (c .before .match5 .keys1) (w₅-length x)
-      (omega (arith, branch-binders (v .ctx) (first-type e v) (v .tree) o, done₂ e v .binders, v .binders))
+      (omega (arith, branch-binders (v .ctx) (first-type e v) (three (v .tree) o), done₂ e v .binders, v .binders))
 
   -- ---- a case's third operand
 
@@ -908,7 +910,7 @@ module _ (t : ℕ) where
     from₃-is = omega (arith, i₃-is (gap (second (to-second c))) v, from₂-is (to-between (to-second c)) v)
 
     third-stands : At (S (start₅ c)) (from₃ c) (third-operand (v .tree))
-    third-stands = third-at (S (start₅ c)) (v .tree) (from₃ c) (v .is) (omega (arith, has-three (to-index c) v)) from₃-is
+    third-stands = third-at (S (start₅ c)) (three (v .tree) (has-three (to-index c) v)) (v .is) from₃-is
 
   end-is : (c : Third-end) (v : Given (start₅ (c .before)))
       → c .operand-end3 .result ≡ from₃ (c .before) + size (third-operand (v .tree))

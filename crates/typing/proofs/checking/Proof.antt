@@ -9,7 +9,7 @@ use Rattle.rules.specs.Limits.{work-length, answer-length}
 use Rattle.rules.specs.Calls.{script-check, zeros, type-records, answer-after, work-after}
 use Rattle.inference.specs.declared.Found.{Found}
 use Rattle.inference.specs.declared.Found.the-variants.{Refused}
-use Rattle.typing.specs.Answered.{answered}
+use Rattle.typing.specs.Said.{said}
 use Rattle.typing.specs.Judged.{Judged}
 use Rattle.answer.proofs.Passed.{accepts}
 use Rattle.typing.proofs.Outcome.{Outcome, asked, typed, judged, work-short, answer-short, script-refused, finished}
@@ -46,10 +46,10 @@ script-octets c k = omega (arith, c .before .before .shared-slice-known3 .given 
 -- the whole answer, from its first three parts
 abbrev Full : tie.Start → Found → Bytes → Bytes → Type 0
 Full s x work′ answer′ =
-    (answered x ≡ type-records (asked (G s) (T s) (P s) (W s) (A s)))
+    (said x ≡ type-records (asked (G s) (T s) (P s) (W s) (A s)))
     × (work′ ≡ work-after (asked (G s) (T s) (P s) (W s) (A s)) (W s))
     × (answer′ ≡ answer-after (asked (G s) (T s) (P s) (W s) (A s)) (A s))
-    × (work-length ≤ length (W s) → answer-length ≤ length (A s) → Judged (G s) (T s) (P s) (A s) (answered x) answer′)
+    × (work-length ≤ length (W s) → answer-length ≤ length (A s) → Judged (G s) (T s) (P s) (A s) (said x) answer′)
 
 full : (c : tie.After-slice-known2) (x : Found) (work′ answer′ : Bytes)
     → Outcome (asked (G (begin c)) (T (begin c)) (P (begin c)) (W (begin c)) (A (begin c))) x (W (begin c)) work′ (A (begin c)) answer′

@@ -4,6 +4,7 @@ use Prim.Native.Nat.{_+_, _-_, _*_, _≤_}
 use native.Mathlib.Omega.{arith}
 use lib.ListN.{length, take, drop, length-drop, length-take}
 use lib.Seq.{take-at}
+use Rattle.rules.specs.Limits.{script-width}
 use Rattle.rules.specs.Script.{encode, size}
 use Rattle.rules.proofs.PrefixLaws.{encode-length, size-positive}
 use Rattle.rules.proofs.TermCode.{term-code}
@@ -13,7 +14,7 @@ use Rattle.typing.proofs.operand.Statement.{statement}
 use Rattle.typing.proofs.operand.Tie as tie
 
 -- the operand ends within the script
-within : (c : tie.Start) → 6 * c .args .i + 6 * size (c .pre .tree) ≤ length (c .args .s .now)
+within : (c : tie.Start) → script-width * c .args .i + script-width * size (c .pre .tree) ≤ length (c .args .s .now)
 within c = room (c .args .s .now) (c .args .i) (c .pre .tree) (c .pre .at)
 
 mul-from : tie.Need-mul-from
@@ -34,8 +35,8 @@ part-result-end c = omega (arith, within c, c .pre .ends)
 returns : tie.Need-returns
 returns c =
     let start = c .before in
-    let from = 6 * start .args .i in
-    let count = 6 * start .args .end - from in
+    let from = script-width * start .args .i in
+    let count = script-width * start .args .end - from in
     let n = within start in
     let p = size-positive term-code (start .pre .tree) in (
       λ e a z. ap (take count) (a .stands) ∙ take-at (encode e) (a .rest) count (omega (arith, encode-length term-code e)),

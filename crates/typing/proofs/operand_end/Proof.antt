@@ -4,6 +4,7 @@ use Prim.Native.Nat.{ℕ, _+_, _/_}
 use native.Mathlib.Omega.{arith}
 use lib.ListN.{length}
 use Rattle.calculus.specs.Terms.{Term}
+use Rattle.rules.specs.Limits.{script-width}
 use Rattle.rules.specs.Answer.{Bytes}
 use Rattle.rules.specs.Script.{size}
 use Rattle.rules.proofs.PrefixLaws.{unique}
@@ -15,7 +16,7 @@ use Rattle.typing.proofs.operand_end.Statement.{statement}
 use Rattle.typing.proofs.operand_end.Tie as tie
 
 -- the last operand's end, for whichever term stands there
-ends-with : (s : Bytes) (o j i : ℕ) (p : Operand-at s o j i) → j ≡ o → (e : Term) → At s i e → length s / 6 ≡ i + size e
+ends-with : (s : Bytes) (o j i : ℕ) (p : Operand-at s o j i) → j ≡ o → (e : Term) → At s i e → length s / script-width ≡ i + size e
 ends-with s o j i p z e a =
     let q = unique term-prefix e (p .tree) (a .rest) (p .at .rest) (sym (a .stands) ∙ p .at .stands) .0 in
     omega (arith, p .whole z, ap size q)

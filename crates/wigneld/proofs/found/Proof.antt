@@ -1,7 +1,7 @@
 -- `wigneld::found` meets its contract.
 use mathlib.Core.Path.{sym, ap, subst, _∙_}
 use Rattle.inference.specs.declared.Found.{Found}
-use Rattle.typing.specs.Answered.{answered}
+use Rattle.typing.specs.Said.{said}
 use Rattle.packing.specs.Packed.{packed, Bounded}
 use Rattle.packing.proofs.Exported.{place-fits}
 use borrow.Author.Needs.{needs}
@@ -15,13 +15,13 @@ enum-known-a-2 : tie.Need-enum-known-a-2
 enum-known-a-2 c = search needs
 
 refusal-requires : tie.Need-refusal-requires
-refusal-requires c κs = place-fits _ _ (subst (λ (x : Found). Bounded (answered x)) (c .before .a2 .given .1) (c .before .before .before .pre))
+refusal-requires c κs = place-fits _ _ (subst (λ (x : Found). Bounded (said x)) (c .before .a2 .given .1) (c .before .before .before .pre))
 
 returns : tie.Need-returns
 returns c = search needs
 
 returns-2 : tie.Need-returns-2
-returns-2 c = c .refusal .ensures ∙ sym (ap (λ (x : Found). packed (answered x)) (c .before .before .a2 .given .1))
+returns-2 c = c .refusal .ensures ∙ sym (ap (λ (x : Found). packed (said x)) (c .before .before .a2 .given .1))
 
 pub found-spec : {M : Type 1} → statement M
 found-spec = tie.close (tie.spec enum-known-a enum-known-a-2 refusal-requires returns returns-2)

@@ -3,7 +3,7 @@ use mathlib.Core.Path.{sym, ap, subst, _∙_}
 use native.Mathlib.Omega.{arith}
 use lib.ListN.{length}
 use Rattle.rules.specs.Answer.{Octets}
-use Rattle.typing.specs.Answered.{answered}
+use Rattle.typing.specs.Said.{said}
 use Rattle.packing.specs.Packed.{packed, Bounded, Holds}
 use Rattle.packing.proofs.Bounds.{check-bounded}
 use Rattle.packing.proofs.Exported.{records-bounded, check-holds}
@@ -23,7 +23,7 @@ script-octets : (c : tie.After-checking) → Octets (start c .args .script .now)
 script-octets c k = omega (arith, c .before .before .before .before .before .shared-slice-known3 .given k)
 
 -- one number holds what it answered
-holds : (c : tie.After-checking) → Holds (answered (c .checking .result))
+holds : (c : tie.After-checking) → Holds (said (c .checking .result))
 holds c =
     let a = start c .args in
     subst Holds (sym (c .checking .ensures .0))

@@ -6,9 +6,9 @@ use Rattle.inference.specs.Memory.{Meets}
 use Rattle.inference.specs.declared.Found.{Found}
 use Rattle.inference.specs.declared.Found.the-variants.{Typed, Refused}
 
-abbrev pub answered : Found → Answer ℕ
-answered (Typed n) = accepted n
-answered (Refused question place) = refused question place
+abbrev pub said : Found → Answer ℕ
+said (Typed n) = accepted n
+said (Refused question place) = refused question place
 
 -- what an answer hands over
 pub record Answers (x : Found) (w : Bytes) : Type 0 where
