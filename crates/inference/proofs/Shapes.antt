@@ -4,7 +4,7 @@ use mathlib.Core.List.{List}
 use Prim.Native.Nat.{ℕ, _≤_}
 use native.Mathlib.Omega.{arith}
 use lib.ListN.{length}
-use Rattle.calculus.specs.Security.{Security}
+use Rattle.calculus.specs.Security.{Property, Security}
 use Rattle.calculus.specs.Types.{Ty}
 use Rattle.calculus.specs.Terms.{first, second, Term, var, unit, lam, pair, inj, app, proj, case, protect, mu}
 use Rattle.rules.specs.Limits.{script-width}
@@ -136,37 +136,42 @@ mu-kind {s} e p o a b c d f g =
     let q = ap (λ x. kind x 0) p in
     q ∙ mu-left e o (λ z. a (q ∙ z)) (λ z. b (q ∙ z)) (λ z. c (q ∙ z)) (λ z. d (q ∙ z)) (λ z. f (q ∙ z)) (λ z. g (q ∙ z))
 
-case-left : (e : Term) → 2 ≤ operand-count e → (kind (encode e) 0 ≡ kind-pair → ⊥) → (kind (encode e) 0 ≡ kind-application → ⊥) → kind (encode e) 0 ≡ kind-case
-unfolding encode operand-count
-case-left (var n) o a b = absurd (omega arith)
-case-left (unit k) o a b = absurd (omega arith)
-case-left (lam k i e) o a b = absurd (omega arith)
-case-left (pair k x y) o a b = absurd (a refl)
-case-left (inj d k i e) o a b = absurd (omega arith)
-case-left (app w x y) o a b = absurd (b refl)
-case-left (proj d w e) o a b = absurd (omega arith)
-case-left (case w i e x y) o a b = refl
-case-left (protect m e) o a b = absurd (omega arith)
-case-left (mu i e) o a b = absurd (omega arith)
+-- what a node of two or more operands is
+pub data Several : Term → Type 0 where
+  is-pair : {k : Property} {a b : Term} → Several (pair k a b)
+  is-app : {w : ℕ} {f a : Term} → Several (app w f a)
+  is-case : {w i : ℕ} {e a b : Term} → Several (case w i e a b)
+
+pub several : (e : Term) → 2 ≤ operand-count e → Several e
+unfolding operand-count
+several (var n) o = absurd (omega arith)
+several (unit k) o = absurd (omega arith)
+several (lam k i e) o = absurd (omega arith)
+several (pair k a b) o = is-pair
+several (inj d k i e) o = absurd (omega arith)
+several (app w f a) o = is-app
+several (proj d w e) o = absurd (omega arith)
+several (case w i e a b) o = is-case
+several (protect m e) o = absurd (omega arith)
+several (mu i e) o = absurd (omega arith)
+
+case-left : {e : Term} → Several e → (kind (encode e) 0 ≡ kind-pair → ⊥) → (kind (encode e) 0 ≡ kind-application → ⊥) → kind (encode e) 0 ≡ kind-case
+unfolding encode
+case-left is-pair a b = absurd (a refl)
+case-left is-app a b = absurd (b refl)
+case-left is-case a b = refl
 
 pub case-kind : {s : Bytes} (e : Term) → s ≡ encode e → 2 ≤ operand-count e → (kind s 0 ≡ kind-pair → ⊥) → (kind s 0 ≡ kind-application → ⊥) → kind s 0 ≡ kind-case
-case-kind {s} e p o a b = let q = ap (λ x. kind x 0) p in q ∙ case-left e o (λ z. a (q ∙ z)) (λ z. b (q ∙ z))
+case-kind {s} e p o a b = let q = ap (λ x. kind x 0) p in q ∙ case-left (several e o) (λ z. a (q ∙ z)) (λ z. b (q ∙ z))
 
-app-left : (e : Term) → operand-count e ≡ 2 → (kind (encode e) 0 ≡ kind-pair → ⊥) → kind (encode e) 0 ≡ kind-application
+app-left : {e : Term} → Several e → operand-count e ≡ 2 → (kind (encode e) 0 ≡ kind-pair → ⊥) → kind (encode e) 0 ≡ kind-application
 unfolding encode operand-count
-app-left (var n) o a = absurd (omega arith)
-app-left (unit k) o a = absurd (omega arith)
-app-left (lam k i e) o a = absurd (omega arith)
-app-left (pair k x y) o a = absurd (a refl)
-app-left (inj d k i e) o a = absurd (omega arith)
-app-left (app w x y) o a = refl
-app-left (proj d w e) o a = absurd (omega arith)
-app-left (case w i e x y) o a = absurd (omega arith)
-app-left (protect m e) o a = absurd (omega arith)
-app-left (mu i e) o a = absurd (omega arith)
+app-left is-pair o a = absurd (a refl)
+app-left is-app o a = refl
+app-left is-case o a = absurd (omega arith)
 
 pub app-kind : {s : Bytes} (e : Term) → s ≡ encode e → operand-count e ≡ 2 → (kind s 0 ≡ kind-pair → ⊥) → kind s 0 ≡ kind-application
-app-kind {s} e p o a = let q = ap (λ x. kind x 0) p in q ∙ app-left e o (λ z. a (q ∙ z))
+app-kind {s} e p o a = let q = ap (λ x. kind x 0) p in q ∙ app-left (several e (omega arith)) o (λ z. a (q ∙ z))
 
 -- no binder over the first operand
 pub record Plain (S : Security) (tab : ℕ → Ty) (Γ : List Ty) (place : ℕ) (e : Term) : Type 0 where

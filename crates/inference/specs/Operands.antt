@@ -1,4 +1,4 @@
--- The operands of a term, in order, and what it names.
+-- How many operands a term has (`records` says which they are), and what it may name.
 use mathlib.Core.Path.{_≡_}
 use Prim.Native.Nat.{ℕ, suc, _<_}
 use Rattle.calculus.specs.Types.{sum, function}

@@ -58,7 +58,7 @@ pub fn refused(a: Checked) -> Found
 // A slot holds any type. Question 1 asks for one for each level of a script.
 pub const SLOT: usize = TYPE_LIMIT * TYPE_WIDTH;
 
-// The number of the first record.
+// The number field of the record that s starts with.
 pub fn index(s: &[u8]) -> usize
     requires { ⌜ script-width ≤ length (now s) ⌝ }
     ensures { λ a. ⌜ a ≡ number (now (s .entry)) 0 ⌝ }
@@ -66,7 +66,7 @@ pub fn index(s: &[u8]) -> usize
     records::index(records::number(s, 0))
 }
 
-// A record in front.
+// A type record, to the front of the work buffer.
 fn put(w: &mut [u8], kind: u8, r: Reader, ir: Indirect)
     requires { ⌜ type-width ≤ length (now w) ⌝ }
     ensures { λ _. ⌜ now (w .exit) ≡ splice 0 (kind ∷ r .0 ∷ ir .0 ∷ 0 ∷ []) (now (w .entry)) ⌝ }
@@ -109,7 +109,7 @@ fn move_type(w: &mut [u8], from: usize, to: usize) -> usize
     n
 }
 
-// Where a side of the type that s starts with starts.
+// The byte at which a side of the type in front of s starts: past its record, or past its left side too.
 fn side_at(s: &[u8], second: bool) -> usize
     requires { ⌜ Sided (now s) ⌝ }
     ensures { λ a. ⌜ ((t : Ty) → Held (now (s .entry)) t → Held (drop a (now (s .entry))) (side-of second t)) ⌝ }
@@ -120,7 +120,7 @@ fn side_at(s: &[u8], second: bool) -> usize
     TYPE_WIDTH
 }
 
-// The part that starts with that side.
+// The part of s that starts with a side of the type in front.
 fn side(s: &[u8], second: bool) -> &[u8]
     requires { ⌜ Sided (now s) ⌝ }
     ensures { λ a. ⌜ ((t : Ty) → Held (now (s .entry)) t → Held (now a) (side-of second t)) ⌝ }
@@ -129,7 +129,7 @@ fn side(s: &[u8], second: bool) -> &[u8]
     &s[from..]
 }
 
-// Question 22 against the named type.
+// Question 22: is the type in front at or below the named one?
 fn wanted(groups: &[u8], types: &[u8], i: usize, w: &[u8]) -> bool
     requires { ⌜ Named (now types) i × Starts (now w) ⌝ }
     ensures { λ x. ⌜ ((s t : Ty) → Held (now (w .entry)) s → Held (drop (type-width * i) (now (types .entry))) t
@@ -176,7 +176,7 @@ fn variable(i: usize, b: usize, w: &mut [u8]) -> Found
     Found::Typed(n)
 }
 
-// Variable and unit.
+// Without operands: a variable's type is in its slot, a unit's is one record.
 pub fn leaf(s: &[u8], b: usize, w: &mut [u8]) -> Found
     requires { ⌜ Leaf (now s) b (now w) ⌝ }
     ensures { λ x. ⌜ ((v : Leaf (now (s .entry)) b (now (w .entry)))
@@ -194,7 +194,7 @@ pub fn leaf(s: &[u8], b: usize, w: &mut [u8]) -> Found
     Found::Typed(1)
 }
 
-// A binder of the named type: the next slot.
+// A binder of the named type, which goes to the next slot.
 fn bind(types: &[u8], i: usize, b: usize, w: &mut [u8])
     requires { ⌜ Named (now types) i × (answer-length * (b + 1) ≤ length (now w)) ⌝ }
     ensures { λ _. ⌜ ((Γ : List Ty) (t : Ty) → Slot (drop (type-width * i) (now (types .entry))) t → length Γ ≡ b
@@ -216,7 +216,7 @@ fn absorbs(groups: &[u8], types: &[u8], i: usize) -> bool
     own.at_or_below(groups, result)
 }
 
-// Before the operands: the binder of a function or a recursion, and question 23.
+// Before the operands: question 23 of a recursion, and the binder of a function or a recursion.
 pub fn before_operands(
     groups: &[u8],
     types: &[u8],
@@ -244,7 +244,7 @@ pub fn before_operands(
     Checked::Passed
 }
 
-// How much of the front is not lent for the first operand: an injection's record.
+// How many bytes of the front are not lent to the first operand: room for an injection's record.
 pub fn kept_front(s: &[u8]) -> usize
     requires { ⌜ script-width ≤ length (now s) ⌝ }
     ensures { λ a. ⌜ ((e : Term) → now (s .entry) ≡ encode e → a ≡ kept-front e) ⌝ }
@@ -350,7 +350,7 @@ fn adopt(groups: &[u8], types: &[u8], i: usize, place: usize, w: &mut [u8]) -> F
     Found::Refused(22, place)
 }
 
-// After the one operand: a node's type from its operand's.
+// After the one operand: the node's type from its operand's. 22 or 20 and 21, and 24 last.
 pub fn after_one(
     groups: &[u8],
     types: &[u8],

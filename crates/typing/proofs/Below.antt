@@ -4,10 +4,9 @@ use mathlib.Core.List.{List, [], _∷_, _++_, append-nil}
 use Prim.Native.Nat.{ℕ, suc, _+_, _*_, _≤_}
 use native.Mathlib.Omega.{arith}
 use lib.ListN.{length, drop}
-use Rattle.calculus.specs.Security.{Property}
 use Rattle.calculus.specs.Types.{Ty}
 use Rattle.calculus.specs.Terms.{first, second, Term, var, unit, lam, pair, inj, app, proj, case, protect, mu}
-use Rattle.inference.proofs.Shapes.{kind-case}
+use Rattle.inference.proofs.Shapes.{kind-case, Several, is-pair, is-app, is-case, several}
 use Rattle.rules.specs.Limits.{answer-length, script-width}
 use Rattle.rules.specs.Answer.{Bytes}
 use Rattle.rules.specs.Script.{kind, encode, size, depth}
@@ -22,33 +21,15 @@ use Rattle.records.specs.Operands.{first-operand, second-operand, third-operand
 use Rattle.inference.specs.Stages.{first-context, second-context, kept-front}
 use Rattle.typing.specs.Parts.{kept-between}
 
--- what a node of two or more operands is, and one of three
-pub data Several : Term → Type 0 where
-  is-pair : {k : Property} {a b : Term} → Several (pair k a b)
-  is-app : {w : ℕ} {f a : Term} → Several (app w f a)
-  is-case : {w i : ℕ} {e a b : Term} → Several (case w i e a b)
-
+-- a node of three operands is a case
 pub data Three : Term → Type 0 where
-  is-case : {w i : ℕ} {e a b : Term} → Three (case w i e a b)
-
-pub several : (e : Term) → 2 ≤ operand-count e → Several e
-unfolding operand-count
-several (var n) o = absurd (omega arith)
-several (unit k) o = absurd (omega arith)
-several (lam k i e) o = absurd (omega arith)
-several (pair k a b) o = is-pair
-several (inj d k i e) o = absurd (omega arith)
-several (app w f a) o = is-app
-several (proj d w e) o = absurd (omega arith)
-several (case w i e a b) o = is-case
-several (protect m e) o = absurd (omega arith)
-several (mu i e) o = absurd (omega arith)
+  is-three : {w i : ℕ} {e a b : Term} → Three (case w i e a b)
 
 three-of : {e : Term} → Several e → operand-count e ≡ 3 → Three e
 unfolding operand-count
 three-of is-pair o = absurd (omega arith)
 three-of is-app o = absurd (omega arith)
-three-of is-case o = is-case
+three-of is-case o = is-three
 
 pub three : (e : Term) → operand-count e ≡ 3 → Three e
 three e o = three-of (several e (omega arith)) o
@@ -82,7 +63,7 @@ module _ (s : Bytes) where
   second-at {j = j} (is-case {w = w} {i = i} {e = e} {a = a} {b = b}) p z = at-operand s (case w i e a b) p j (e ∷ []) a (b ∷ []) refl (omega arith)
 
   pub third-at : {e : Term} {j : ℕ} → Three e → s ≡ encode e → j ≡ 1 + size (first-operand e) + size (second-operand e) → At s j (third-operand e)
-  third-at {j = j} (is-case {w = w} {i = i} {e = e} {a = a} {b = b}) p z = at-operand s (case w i e a b) p j (e ∷ a ∷ []) b [] refl (omega arith)
+  third-at {j = j} (is-three {w = w} {i = i} {e = e} {a = a} {b = b}) p z = at-operand s (case w i e a b) p j (e ∷ a ∷ []) b [] refl (omega arith)
 
 -- the last operand ends where the term does
 first-ends : (e : Term) → operand-count e ≡ 1 → size e ≡ 1 + size (first-operand e)
@@ -106,7 +87,7 @@ second-ends is-case o = absurd (omega arith)
 
 third-ends : {e : Term} → Three e → size e ≡ 1 + size (first-operand e) + size (second-operand e) + size (third-operand e)
 unfolding size
-third-ends is-case = omega arith
+third-ends is-three = omega arith
 
 module _ (s : Bytes) (e : Term) (p : s ≡ encode e) where
   long-as : length s ≡ script-width * size e
@@ -147,7 +128,7 @@ second-smaller is-case = record { deeper = omega arith; larger = omega arith }
 
 pub third-smaller : {e : Term} → Three e → Smaller e (third-operand e) (size (first-operand e) + size (second-operand e))
 unfolding size depth
-third-smaller is-case = record { deeper = omega arith; larger = omega arith }
+third-smaller is-three = record { deeper = omega arith; larger = omega arith }
 
 -- what questions 16 and 19 say of the operands
 pub first-formed : (t : Bytes) (tab : ℕ → Ty) (Γ : List Ty) (e : Term) → 1 ≤ operand-count e → Formed t (length Γ) e
@@ -172,7 +153,7 @@ second-formed t Γ u is-case f = f .1 .1 .0
 
 pub third-formed : (t : Bytes) (b : ℕ) {e : Term} → Three e → Formed t b e → Formed t (suc b) (third-operand e)
 unfolding Formed
-third-formed t b is-case f = f .1 .1 .1
+third-formed t b is-three f = f .1 .1 .1
 
 -- A level's slot is spent once: on a binder, or in front.
 pub first-room : (tab : ℕ → Ty) (Γ : List Ty) (e : Term) → kept-front e + answer-length * length (first-context tab Γ e) ≤ answer-length * (length Γ + 1)
@@ -215,7 +196,7 @@ at-most-three (mu i e) = omega arith
 
 pub three-kind : {e : Term} → Three e → kind (encode e) 0 ≡ kind-case
 unfolding encode
-three-kind is-case = refl
+three-kind is-three = refl
 
 -- the binders over an operand: the context grows by as many
 first-bound : (tab : ℕ → Ty) (Γ : List Ty) (e : Term) → length (first-context tab Γ e) ≡ length Γ + binds (kind (encode e) 0) 0
@@ -247,4 +228,4 @@ second-binders s Γ u e d p = second-bound Γ u d ∙ ap (λ x. length Γ + bind
 
 pub branch-binders : (Γ : List Ty) (u : Ty) {e : Term} → Three e → length (second-context Γ e u) ≡ length Γ + 1
 unfolding second-context
-branch-binders Γ u is-case = omega arith
+branch-binders Γ u is-three = omega arith

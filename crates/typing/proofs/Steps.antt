@@ -27,11 +27,11 @@ use Rattle.inference.specs.declared.Found.{Found}
 use Rattle.inference.specs.declared.Found.the-variants.{Typed}
 use Rattle.inference.proofs.Found.{the-type}
 use Rattle.inference.proofs.Regions.{high-drop, lent-rest, drop-lent, length-lent, high-lent, high-within, sized-lent, rebase}
-use Rattle.inference.proofs.Shapes.{of-fields, depth-positive, kind-case}
+use Rattle.inference.proofs.Shapes.{of-fields, depth-positive, kind-case, several}
 use Rattle.inference.proofs.Rules.{meets-of, Typed-as, typed-as, refused-as, refused-meets, refused-says}
 use Rattle.inference.proofs.Names.{named, case-index}
 use Rattle.typing.proofs.Apart.{after-second, stops-before, stops-first, one-typed, first-typed, second-typed, branch-typed}
-use Rattle.typing.proofs.Below.{first-smaller, second-smaller, third-smaller, first-formed, second-formed, third-formed, first-room, second-room, first-binders, second-binders, several-front, branch-binders, several, three, three-kind}
+use Rattle.typing.proofs.Below.{first-smaller, second-smaller, third-smaller, first-formed, second-formed, third-formed, first-room, second-room, first-binders, second-binders, several-front, branch-binders, three, three-kind}
 
 -- ---- answers taken apart
 

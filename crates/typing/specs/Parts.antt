@@ -1,4 +1,4 @@
--- The parts of the script and of the work buffer that an operand is given.
+-- The part of the script that an operand is, and the part of the work buffer that is lent for it.
 use mathlib.Core.Path.{_≡_}
 use mathlib.Core.Bool.{cond}
 use Prim.Native.Nat.{ℕ, _+_, _*_}

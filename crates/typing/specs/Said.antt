@@ -6,6 +6,7 @@ use Rattle.inference.specs.Memory.{Meets}
 use Rattle.inference.specs.declared.Found.{Found}
 use Rattle.inference.specs.declared.Found.the-variants.{Typed, Refused}
 
+-- the document's answer
 abbrev pub said : Found → Answer ℕ
 said (Typed n) = accepted n
 said (Refused question place) = refused question place

@@ -23,7 +23,7 @@ use Rattle.types.proofs.Parts.{to-end}
 use Rattle.inference.specs.Operands.{operand-count}
 use Rattle.inference.specs.Memory.{Sized, Meets, Ready, Enters}
 use Rattle.inference.specs.Stages.{first-context, kept-front, second-context, Leaf, Some}
-use Rattle.inference.proofs.Shapes.{long, counted-of}
+use Rattle.inference.proofs.Shapes.{long, counted-of, several as several-operands}
 use Rattle.inference.proofs.Rules.{meets-of}
 use Rattle.typing.specs.Parts.{kept-between}
 use Rattle.typing.proofs.Apart.{typing-leaf}
@@ -36,7 +36,6 @@ use Rattle.typing.proofs.Below.{
   third-whole,
   at-most-three,
   branch-binders,
-  several as several-operands,
   three,
 }
 use Rattle.typing.proofs.Steps as steps
