@@ -3,7 +3,7 @@ use mathlib.Core.Path.{_≡_, refl, sym, ap, ap₂, _∙_}
 use mathlib.Core.Path.{subst as transport}
 use mathlib.Core.Bool.{So, cond, true, false, Bool, false≢true}
 use mathlib.Core.List.{[], _∷_, _++_}
-use Prim.Native.Nat.{ℕ, suc, _+_, _*_, _/_, _%_, _≤_}
+use Prim.Native.Nat.{ℕ, suc, _+_, _*_, _/_, _%_, _≤_, _<_}
 use native.Mathlib.Omega.{arith}
 use lib.ListN.{length, take, drop, length-append}
 use lib.Seq.{take-at}
@@ -17,13 +17,14 @@ use Rattle.rules.specs.Answer.{Bytes, byte}
 use Rattle.rules.specs.Limits.{script-width, script-limit}
 use Rattle.rules.specs.Groups.{join, readers}
 use Rattle.rules.specs.Types.{type-r, type-ir, type-at}
-use Rattle.rules.specs.Script.{kind, r, ir, number, script-record, encode, size, depth}
+use Rattle.rules.specs.Script.{records, kind, r, ir, number, script-record, encode, size, depth}
 use Rattle.rules.proofs.Prefix.{joined}
 use Rattle.rules.proofs.PrefixLaws.{after-head, record-is}
 use Rattle.rules.proofs.TermCode.{term-code, term-head, term-head-length, term-operands, term-encode-is, two-bytes}
 use Rattle.rules.proofs.RecordFields.{ir-is}
 use Rattle.records.specs.Place.{At}
-use Rattle.records.proofs.Stands.{kind-of, operands, op1, room, stands-kind, at-op1}
+use Rattle.records.specs.Operands.{first-operand}
+use Rattle.records.proofs.Stands.{kind-of, operands, there, stands-kind, at-first}
 use Rattle.redex.specs.Fates.{property-of, is-function, goes, misfit, fate, contractum}
 use Rattle.redex.proofs.Places.{number-of, reader-at, number-at}
 use Rattle.redex.proofs.Answers.{function-top}
@@ -40,7 +41,7 @@ use Rattle.contraction.specs.Plans.{Planned, applied, projected, branche
 
 -- what the protection of a destructor's contractum is
 abbrev pub influence-of : Security → Term → Indirect
-influence-of S e = S .influence (property-of (op1 e)) (property-of e .r)
+influence-of S e = S .influence (property-of (first-operand e)) (property-of e .r)
 
 pub record PartPlan (s : Bytes) (e : Term) (x : ℕ) : Type 0 where
   pub part : Term
@@ -120,7 +121,7 @@ unfolding contractum size depth
 lift-plan {s} {at} a (lifted {v = v} h) =
     record {
       value = v;
-      stands = at-op1 s at _ a (omega arith);
+      stands = at-first s at _ a (omega arith);
       is-one = h;
       small = omega arith;
       shallow = omega arith;
@@ -171,7 +172,7 @@ module _ {s : Bytes} {x : ℕ} {e : Term} (a : At s x e) where
   pub own-bytes : (n : ℕ) → n ≡ script-width * size e → take n (drop (script-width * x) s) ≡ encode e
   own-bytes n h = ap (take n) (a .stands) ∙ take-at (encode e) (a .rest) n (term-length e ∙ sym h)
 
-  pub operand-bytes : (from n : ℕ) → from ≡ script-width * x + 6 → n + 6 ≡ script-width * size e
+  pub operand-bytes : (from n : ℕ) → from ≡ script-width * x + script-width → n + script-width ≡ script-width * size e
       → take n (drop from s) ≡ joined encode (term-operands e)
   operand-bytes from n p h =
       let z : from ≡ script-width * suc x = omega arith in
@@ -179,7 +180,7 @@ module _ {s : Bytes} {x : ℕ} {e : Term} (a : At s x e) where
       ∙ take-at (joined encode (term-operands e)) (a .rest) n
       (omega (arith, term-length e, ap length (term-encode-is e), head-and-rest))
     where
-      head-and-rest : length (term-head e ++ joined encode (term-operands e)) ≡ 6 + length (joined encode (term-operands e))
+      head-and-rest : length (term-head e ++ joined encode (term-operands e)) ≡ script-width + length (joined encode (term-operands e))
       head-and-rest = simp (length-append, term-head-length)
 
   pub indirect-at : ir s x ≡ property-of e .ir
@@ -227,10 +228,10 @@ pub record-placed : (k r₁ ir₁ n lo hi start : ℕ) (w w′ : Bytes) → lo �
 record-placed k r₁ ir₁ n lo hi start w w′ e1 e2 e = e ∙ ap₂ (λ a b. splice start (k ∷ r₁ ∷ ir₁ ∷ 0 ∷ a ∷ b ∷ []) w) e1 e2
 
 -- a record and what follows it
-pub record-then : (k r₁ ir₁ n start : ℕ) (b w w1 w2 : Bytes) → start + 6 ≤ length w → w1 ≡ splice start (script-record k r₁ ir₁ n) w
-    → w2 ≡ splice (start + 6) b w1 → w2 ≡ splice start (script-record k r₁ ir₁ n ++ b) w
+pub record-then : (k r₁ ir₁ n start : ℕ) (b w w1 w2 : Bytes) → start + script-width ≤ length w → w1 ≡ splice start (script-record k r₁ ir₁ n) w
+    → w2 ≡ splice (start + script-width) b w1 → w2 ≡ splice start (script-record k r₁ ir₁ n ++ b) w
 record-then k r₁ ir₁ n start b w w1 w2 l e1 e2 =
-    e2 ∙ ap (splice (start + 6) b) e1 ∙ join-after start (start + 6) (script-record k r₁ ir₁ n) b w refl l
+    e2 ∙ ap (splice (start + script-width) b) e1 ∙ join-after start (start + script-width) (script-record k r₁ ir₁ n) b w refl l
 
 pub protect-bytes : (m : Indirect) (e : Term) → script-record 10 0 m 0 ++ encode e ≡ encode (protect m e)
 unfolding encode
@@ -245,9 +246,9 @@ goes-function S tab i b h = by (is-function (tab i)) refl h
     by true e h = e
     by false e h = let z : _≡_ {A = ℕ} 0 1 = cc in absurd (omega arith)
 
--- the records of an operand
-pub two-records : {s : Bytes} {at : ℕ} {e : Term} → At s at e → 1 ≤ operands e → script-width * at + 12 ≤ length s
-two-records {s} {at} {e} a h = omega (arith, room s (at + 1) (op1 e) (at-op1 s at e a h), size-from (op1 e))
+-- the record after that of a node with an operand
+pub operand-there : {s : Bytes} {at : ℕ} {e : Term} → At s at e → 1 ≤ operands e → at + 1 < records s
+operand-there {s} {at} {e} a h = there s (at + 1) (first-operand e) (at-first s at e a h)
 
 pub counted : {e f : Term} {m : Size} → f ≡ e → Measures e m → Measures f m
 counted {m = m} h q = transport (λ (d : Term). Measures d m) (sym h) q
@@ -266,8 +267,8 @@ is-unrolled Raised k = absurd (omega arith)
 is-unrolled Unrolled k = refl
 
 -- a protect record, and a term after it
-pub protect-placed : (m m′ start : ℕ) (e : Term) (b w w1 w2 : Bytes) → m ≡ m′ → b ≡ encode e → start + 6 ≤ length w
-    → w1 ≡ splice start (script-record 10 0 m 0) w → w2 ≡ splice (start + 6) b w1 → w2 ≡ splice start (encode (protect m′ e)) w
+pub protect-placed : (m m′ start : ℕ) (e : Term) (b w w1 w2 : Bytes) → m ≡ m′ → b ≡ encode e → start + script-width ≤ length w
+    → w1 ≡ splice start (script-record 10 0 m 0) w → w2 ≡ splice (start + script-width) b w1 → w2 ≡ splice start (encode (protect m′ e)) w
 protect-placed m m′ start e b w w1 w2 p h l e1 e2 =
     record-then 10 0 m 0 start b w w1 w2 l e1 e2
     ∙ ap (λ x. splice start x w) (ap₂ (λ n x. script-record 10 0 n 0 ++ x) p h ∙ protect-bytes m′ e)
@@ -275,7 +276,7 @@ protect-placed m m′ start e b w w1 w2 p h l e1 e2 =
 -- a raised record, and the operands after it
 pub raise-placed : (g : Bytes) {s : Bytes} {x : ℕ} {v : Term} (a : At s x v) (m k₁ r₁ ir₁ n₁ start : ℕ) (b w w1 w2 : Bytes) → So (is-value v)
     → k₁ ≡ kind s x → r₁ ≡ join g (r s x) m → ir₁ ≡ join g (ir s x) m → n₁ ≡ number s x → b ≡ joined encode (term-operands v)
-    → start + 6 ≤ length w → w1 ≡ splice start (script-record k₁ r₁ ir₁ n₁) w → w2 ≡ splice (start + 6) b w1
+    → start + script-width ≤ length w → w1 ≡ splice start (script-record k₁ r₁ ir₁ n₁) w → w2 ≡ splice (start + script-width) b w1
     → w2 ≡ splice start (encode (raise-value (readers g) v m)) w
 raise-placed g {s} {x} {v} a m k₁ r₁ ir₁ n₁ start b w w1 w2 h ek er ei en eb l e1 e2 =
     let pk : k₁ ≡ kind-of v = ek ∙ stands-kind s x v a in

@@ -10,7 +10,8 @@ use Rattle.calculus.specs.Stuck.{built-by}
 use Rattle.rules.specs.Answer.{Bytes}
 use Rattle.rules.specs.Script.{size}
 use Rattle.records.specs.Place.{At}
-use Rattle.records.proofs.Stands.{kind-of, operands, op1, op2, at-op1, at-op2, at-op3}
+use Rattle.records.specs.Operands.{first-operand, second-operand}
+use Rattle.records.proofs.Stands.{kind-of, operands, at-first, at-second, at-third}
 use Rattle.redex.specs.Fates.{property-of, goes, reading-fate, ready, fate}
 use Rattle.contraction.specs.declared.Plan.the-variants.{Part, Body, Raised, Unrolled}
 use Rattle.contraction.specs.Plans.{Left, applies, projects, branches, lifts, unrolls, Planned, applied, projected, branched, lifted, unrolled-one}
@@ -72,7 +73,7 @@ left-side S tab (protect m e) h g = lifts h
 left-side S tab (mu i e) h g = unrolls
 
 -- what a destructor takes apart has an operand, which stands two records on
-destructs : {e : Term} → Left e → (kind-of e ≡ 11 → ⊥) → (kind-of e ≡ 10 → ⊥) → (1 ≤ operands e) × (1 ≤ operands (op1 e))
+destructs : {e : Term} → Left e → (kind-of e ≡ 11 → ⊥) → (kind-of e ≡ 10 → ⊥) → (1 ≤ operands e) × (1 ≤ operands (first-operand e))
 destructs applies n m = (omega arith, omega arith)
 destructs (projects d) n m = (omega arith, omega arith)
 destructs (branches d) n m = (omega arith, omega arith)
@@ -80,13 +81,13 @@ destructs (lifts v) n m = absurd (m refl)
 destructs unrolls n m = absurd (n refl)
 
 module _ (s : Bytes) (at : ℕ) where
-  pub taken-at : {e : Term} → At s at e → Left e → (kind-of e ≡ 11 → ⊥) → (kind-of e ≡ 10 → ⊥) → At s (at + 1) (op1 e)
-  taken-at {e} a l n m = at-op1 s at e a (destructs l n m .0)
+  pub taken-at : {e : Term} → At s at e → Left e → (kind-of e ≡ 11 → ⊥) → (kind-of e ≡ 10 → ⊥) → At s (at + 1) (first-operand e)
+  taken-at {e} a l n m = at-first s at e a (destructs l n m .0)
 
-  pub inner-at : {e : Term} → At s at e → Left e → (kind-of e ≡ 11 → ⊥) → (kind-of e ≡ 10 → ⊥) → At s (at + 2) (op1 (op1 e))
+  pub inner-at : {e : Term} → At s at e → Left e → (kind-of e ≡ 11 → ⊥) → (kind-of e ≡ 10 → ⊥) → At s (at + 2) (first-operand (first-operand e))
   inner-at {e} a l n m =
       let z : at + 1 + 1 ≡ at + 2 = omega arith in
-      subst (λ (j : ℕ). At s j (op1 (op1 e))) z (at-op1 s (at + 1) (op1 e) (taken-at a l n m) (destructs l n m .1))
+      subst (λ (j : ℕ). At s j (first-operand (first-operand e))) z (at-first s (at + 1) (first-operand e) (taken-at a l n m) (destructs l n m .1))
 
   pub plan-unrolled : {e : Term} → Left e → kind-of e ≡ 11 → Planned s e Unrolled
   plan-unrolled applies h = absurd (omega arith)
@@ -104,7 +105,7 @@ module _ (s : Bytes) (at : ℕ) where
   plan-raised (lifts v) h = lifted v
   plan-raised unrolls h = absurd (omega arith)
 
-  pub plan-first : {e : Term} → Left e → kind-of e ≡ 7 → At s (at + 2) (op1 (op1 e)) → Planned s e (Part (at + 2))
+  pub plan-first : {e : Term} → Left e → kind-of e ≡ 7 → At s (at + 2) (first-operand (first-operand e)) → Planned s e (Part (at + 2))
   plan-first applies h x = absurd (omega arith)
   plan-first (projects first) h x = projected x
   plan-first (projects second) h x = absurd (omega arith)
@@ -113,18 +114,18 @@ module _ (s : Bytes) (at : ℕ) where
   plan-first unrolls h x = absurd (omega arith)
 
   -- `next` is the record after the first inner operand
-  pub plan-second : {e : Term} (next : ℕ) → Left e → kind-of e ≡ 8 → At s (at + 1) (op1 e) → next ≡ at + 2 + size (op1 (op1 e)) → Planned s e (Part next)
+  pub plan-second : {e : Term} (next : ℕ) → Left e → kind-of e ≡ 8 → At s (at + 1) (first-operand e) → next ≡ at + 2 + size (first-operand (first-operand e)) → Planned s e (Part next)
   plan-second next applies h y p = absurd (omega arith)
   plan-second next (projects first) h y p = absurd (omega arith)
-  plan-second next (projects second) h y p = projected (at-op2 s (at + 1) _ y next (omega arith) (omega arith))
+  plan-second next (projects second) h y p = projected (at-second s (at + 1) _ y next (omega arith) (omega arith))
   plan-second next (branches d) h y p = absurd (omega arith)
   plan-second next (lifts v) h y p = absurd (omega arith)
   plan-second next unrolls h y p = absurd (omega arith)
 
-  pub plan-applied : {e : Term} (next : ℕ) → Left e → kind-of e ≡ 6 → At s at e → At s (at + 2) (op1 (op1 e)) → next ≡ at + 2 + size (op1 (op1 e))
+  pub plan-applied : {e : Term} (next : ℕ) → Left e → kind-of e ≡ 6 → At s at e → At s (at + 2) (first-operand (first-operand e)) → next ≡ at + 2 + size (first-operand (first-operand e))
       → Planned s e (Body (at + 2) next)
   unfolding size
-  plan-applied next applies h a x p = applied x (at-op2 s at _ a next (omega arith) (omega arith))
+  plan-applied next applies h a x p = applied x (at-second s at _ a next (omega arith) (omega arith))
   plan-applied next (projects first) h a x p = absurd (omega arith)
   plan-applied next (projects second) h a x p = absurd (omega arith)
   plan-applied next (branches d) h a x p = absurd (omega arith)
@@ -133,24 +134,24 @@ module _ (s : Bytes) (at : ℕ) where
 
   -- a case: its first branch stands at `next`
   pub record Cased (e : Term) (next : ℕ) : Type 0 where
-    pub branch : At s next (op2 e)
-    pub to-first : kind-of (op1 e) ≡ 4 → Planned s e (Body next (at + 2))
-    pub to-second : (kind-of (op1 e) ≡ 4 → ⊥) → (third : ℕ) → third ≡ next + size (op2 e) → Planned s e (Body third (at + 2))
+    pub branch : At s next (second-operand e)
+    pub to-first : kind-of (first-operand e) ≡ 4 → Planned s e (Body next (at + 2))
+    pub to-second : (kind-of (first-operand e) ≡ 4 → ⊥) → (third : ℕ) → third ≡ next + size (second-operand e) → Planned s e (Body third (at + 2))
 
-  pub cased : {e : Term} (next : ℕ) → Left e → At s at e → At s (at + 2) (op1 (op1 e)) → next ≡ at + 2 + size (op1 (op1 e))
+  pub cased : {e : Term} (next : ℕ) → Left e → At s at e → At s (at + 2) (first-operand (first-operand e)) → next ≡ at + 2 + size (first-operand (first-operand e))
       → (kind-of e ≡ 11 → ⊥) → (kind-of e ≡ 10 → ⊥) → (kind-of e ≡ 7 → ⊥) → (kind-of e ≡ 8 → ⊥) → (kind-of e ≡ 6 → ⊥) → Cased e next
   unfolding size
   cased next applies a x p n11 n10 n7 n8 n6 = absurd (n6 refl)
   cased next (projects first) a x p n11 n10 n7 n8 n6 = absurd (n7 refl)
   cased next (projects second) a x p n11 n10 n7 n8 n6 = absurd (n8 refl)
   cased next (branches first) a x p n11 n10 n7 n8 n6 =
-      let b = at-op2 s at _ a next (omega arith) (omega arith) in
+      let b = at-second s at _ a next (omega arith) (omega arith) in
       record { branch = b; to-first = λ h. branched b x; to-second = λ h third q. absurd (h refl) }
   cased next (branches second) a x p n11 n10 n7 n8 n6 =
       record {
-        branch = at-op2 s at _ a next (omega arith) (omega arith);
+        branch = at-second s at _ a next (omega arith) (omega arith);
         to-first = λ h. absurd (omega arith);
-        to-second = λ h third q. branched (at-op3 s at _ a third (omega arith) (omega arith)) x;
+        to-second = λ h third q. branched (at-third s at _ a third (omega arith) (omega arith)) x;
       }
   cased next (lifts v) a x p n11 n10 n7 n8 n6 = absurd (n10 refl)
   cased next unrolls a x p n11 n10 n7 n8 n6 = absurd (n11 refl)

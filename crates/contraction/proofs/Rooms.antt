@@ -12,13 +12,13 @@ use Rattle.rules.specs.Groups.{readers}
 use Rattle.rules.specs.Types.{type-at}
 use Rattle.rules.specs.Script.{ir, encode, size, depth}
 use Rattle.records.specs.Place.{At}
-use Rattle.records.proofs.Stands.{operands, at-op1}
+use Rattle.records.proofs.Stands.{operands, at-first}
 use Rattle.redex.specs.Fates.{property-of, fate, contractum}
 use Rattle.memory.specs.Splice.{splice}
 use Rattle.contraction.specs.declared.Plan.{Plan}
 use Rattle.contraction.specs.declared.Plan.the-variants.{Part, Body, Raised, Unrolled}
 use Rattle.contraction.specs.Plans.{Planned, Ready, Fit, PartRoom, BodyRoom, RaisedRoom, UnrolledRoom}
-use Rattle.contraction.proofs.Plans.{PartPlan, part-plan, BodyPlan, body-plan, LiftPlan, lift-plan, RollPlan, roll-plan, raise-size, protect-size, body-size, unrolled-size, few, two-records, indirect-at, goes-function, unroll-is, influence-of}
+use Rattle.contraction.proofs.Plans.{PartPlan, part-plan, BodyPlan, body-plan, LiftPlan, lift-plan, RollPlan, roll-plan, raise-size, protect-size, body-size, unrolled-size, few, operand-there, indirect-at, goes-function, unroll-is, influence-of}
 
 pub planned-as : {s : Bytes} {e : Term} {p p′ : Plan} → p ≡ p′ → Planned s e p → Planned s e p′
 planned-as {s} {e} h q = transport (λ (x : Plan). Planned s e x) h q
@@ -44,13 +44,13 @@ module _ {g t s : Bytes} {at : ℕ} {p : Plan} {w : Bytes} {start : ℕ} (q : Fi
   part-room h = record {
     part = part-of h .part;
     stands = part-of h .stands;
-    operand = two-records (q .ready .stands) (part-of h .operand);
+    operand = operand-there (q .ready .stands) (part-of h .operand);
     fits = omega (arith, q .fits, ap size (part-of h .is S tab), protect-size (influence-of S e) (part-of h .part) .0);
   }
 
   -- the protection, as it stands in the record of what the destructor takes apart
   influence-at : 1 ≤ operands e → ir s (at + 1) ≡ influence-of S e
-  influence-at h = indirect-at (at-op1 s at e (q .ready .stands) h)
+  influence-at h = indirect-at (at-first s at e (q .ready .stands) h)
 
   pub part-written : {x : ℕ} (h : p ≡ Part x) (w′ : Bytes) → w′ ≡ splice start (encode (protect (ir s (at + 1)) (part-room h .part))) w
       → w′ ≡ splice start (encode (contractum S tab e)) w
@@ -68,7 +68,7 @@ module _ {g t s : Bytes} {at : ℕ} {p : Plan} {w : Bytes} {start : ℕ} (q : Fi
     at-body = body-of h .at-body;
     at-value = body-of h .at-value;
     shallow = omega (arith, body-of h .shallow-body, q .ready .shallow);
-    operand = two-records (q .ready .stands) (body-of h .operand);
+    operand = operand-there (q .ready .stands) (body-of h .operand);
     fits = omega (
       arith,
       q .fits,

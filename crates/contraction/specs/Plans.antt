@@ -1,7 +1,7 @@
 -- How a redex's contractum is made from parts of its script, and what counting and writing it are given.
 use mathlib.Core.Path.{_≡_}
 use mathlib.Core.Bool.{So}
-use Prim.Native.Nat.{ℕ, _+_, _*_, _≤_}
+use Prim.Native.Nat.{ℕ, _+_, _*_, _≤_, _<_}
 use lib.ListN.{length}
 use Rattle.calculus.specs.Security.{Property, Reader, Indirect}
 use Rattle.calculus.specs.Types.{top}
@@ -11,7 +11,7 @@ use Rattle.rules.specs.Answer.{Bytes}
 use Rattle.rules.specs.Limits.{script-width, script-limit, depth-limit, table-limit}
 use Rattle.rules.specs.Groups.{readers}
 use Rattle.rules.specs.Types.{type-count, type-at}
-use Rattle.rules.specs.Script.{size, depth}
+use Rattle.rules.specs.Script.{records as record-count, size, depth}
 use Rattle.records.specs.Place.{At}
 use Rattle.redex.specs.Fates.{is-function, goes, fate, contractum}
 use Rattle.contraction.specs.declared.Plan.{Plan}
@@ -72,11 +72,11 @@ pub record Recursive (s : Bytes) (at : ℕ) : Type 0 where
   pub shallow : depth (mu type body) ≤ depth-limit
 
 -- Room in w from byte `start` on: for a protected part, for a protected body with a value put in, for a raised value, for an
--- unrolled recursion. A destructor at record `at` has at least one operand, and so two records.
+-- unrolled recursion. A destructor at record `at` has an operand, and so a record after its own.
 pub record PartRoom (s : Bytes) (at x : ℕ) (w : Bytes) (start : ℕ) : Type 0 where
   pub part : Term
   pub stands : At s x part
-  pub operand : script-width * at + 12 ≤ length s
+  pub operand : at + 1 < record-count s
   pub fits : start + script-width * (1 + size part) ≤ length w
 
 pub record BodyRoom (s : Bytes) (at x y : ℕ) (w : Bytes) (start : ℕ) : Type 0 where
@@ -85,7 +85,7 @@ pub record BodyRoom (s : Bytes) (at x y : ℕ) (w : Bytes) (start : ℕ) : Type 
   pub at-body : At s x body
   pub at-value : At s y value
   pub shallow : depth body ≤ depth-limit
-  pub operand : script-width * at + 12 ≤ length s
+  pub operand : at + 1 < record-count s
   pub fits : start + script-width * (1 + size (subst 0 value body)) ≤ length w
 
 pub record RaisedRoom (s : Bytes) (at : ℕ) (w : Bytes) (start : ℕ) : Type 0 where

@@ -17,6 +17,7 @@ ghost use Rattle.calculus.specs.Types.{Ty, top};
 ghost use Rattle.calculus.specs.Terms.{protect, mu, subst, raise-value};
 ghost use Rattle.calculus.specs.Reduction.{unrolled};
 ghost use Rattle.rules.specs.Answer.{Bytes};
+ghost use Rattle.rules.specs.Limits.{script-width};
 ghost use Rattle.rules.specs.Groups.{readers};
 ghost use Rattle.rules.specs.Types.{type-at};
 ghost use Rattle.rules.specs.Script.{ir, script-record, encode};
@@ -150,7 +151,7 @@ pub fn measure(script: &[u8], at: usize, plan: Plan) -> Size
 
 // One record, over `written` from byte `start` on.
 fn write_record(kind: u8, r: Reader, ir: Indirect, number: u16, written: &mut [u8], start: usize)
-    requires { ⌜ start + 6 ≤ length (now written) ⌝ }
+    requires { ⌜ start + script-width ≤ length (now written) ⌝ }
     ensures { λ _. ⌜ now (written .exit) ≡ splice start (script-record kind (r .0) (ir .0) number) (now (written .entry)) ⌝ }
 {
     let record = [kind, r.0, ir.0, 0, low(number), high(number)];

@@ -2,12 +2,13 @@
 use mathlib.Core.Path.{_≡_, refl, ap, sym, _∙_}
 use mathlib.Core.List.{List, [], _∷_, _++_, append-assoc, append-nil}
 use mathlib.Core.Option.{some}
-use Prim.Native.Nat.{ℕ, suc, _+_, _*_, _-_, _≤_}
+use Prim.Native.Nat.{ℕ, suc, _+_, _*_, _-_, _≤_, _<_}
 use native.Mathlib.Omega.{arith}
-use lib.ListN.{length, getD, drop, length-append, length-drop}
-use Rattle.calculus.specs.Terms.{Term}
+use lib.ListN.{length, take, drop, length-append, length-drop}
+use Rattle.calculus.specs.Terms.{Term, var, unit, lam, pair, inj, app, proj, case, protect, mu}
 use Rattle.rules.specs.Answer.{Bytes, byte}
-use Rattle.rules.specs.Script.{kind, records, encode, size, term, term-end, arity, no-term}
+use Rattle.rules.specs.Limits.{script-width}
+use Rattle.rules.specs.Script.{kind, records, encode, size, term, term-end, arity}
 use Rattle.rules.proofs.Prefix.{joined}
 use Rattle.rules.proofs.Parts.{first-byte}
 use Rattle.rules.proofs.PrefixLaws.{size-positive, encode-length, ops-at, tree-end}
@@ -15,15 +16,7 @@ use Rattle.rules.proofs.Nodes.{operand-at}
 use Rattle.rules.proofs.TermCode.{term-code, term-prefix, term-head, term-operands, term-head-length, term-encode-is}
 use Rattle.rules.proofs.Scripts.{records-encode}
 use Rattle.records.specs.Place.{At, Here}
-
-abbrev pub op1 : Term → Term
-op1 e = getD (term-operands e) 0 no-term
-
-abbrev pub op2 : Term → Term
-op2 e = getD (term-operands e) 1 no-term
-
-abbrev pub op3 : Term → Term
-op3 e = getD (term-operands e) 2 no-term
+use Rattle.records.specs.Operands.{first-operand, second-operand, third-operand}
 
 abbrev pub operands : Term → ℕ
 operands e = length (term-operands e)
@@ -34,62 +27,86 @@ kind-of e = byte (term-head e) 0
 pub here : {s : Bytes} {i : ℕ} {e : Term} → At s i e → Here s i
 here {e = e} w = record { tree = e; at = w }
 
-pub room : (s : Bytes) (i : ℕ) (e : Term) → At s i e → 6 * i + 6 * size e ≤ length s
+-- a term's bytes are within its script
+pub room : (s : Bytes) (i : ℕ) (e : Term) → At s i e → script-width * i + script-width * size e ≤ length s
 room s i e w =
     omega (
       arith,
       ap length (w .stands),
-      length-drop (6 * i) s,
+      length-drop (script-width * i) s,
       length-append (encode e) (w .rest),
       encode-length term-code e,
       size-positive
           term-code e,
     )
 
-pub room-one : (s : Bytes) (i : ℕ) (e : Term) → At s i e → 6 * i + 6 ≤ length s
-room-one s i e w = omega (arith, room s i e w, size-positive term-code e)
+-- its records are, and so its first one is there
+pub inside : (s : Bytes) (i : ℕ) (e : Term) → At s i e → i + size e ≤ records s
+inside s i e w = omega (arith, room s i e w)
+
+pub there : (s : Bytes) (i : ℕ) (e : Term) → At s i e → i < records s
+there s i e w = omega (arith, inside s i e w, size-positive term-code e)
 
 pub stands-arity : (s : Bytes) (i : ℕ) (e : Term) → At s i e → arity (kind s i) ≡ operands e
 stands-arity s i e w = ops-at term-prefix s i e (w .rest) (w .stands)
 
 pub stands-kind : (s : Bytes) (i : ℕ) (e : Term) → At s i e → kind s i ≡ kind-of e
 stands-kind s i e w =
-    first-byte s (6 * i) (term-head e) (joined encode (term-operands e) ++ w .rest) (omega (arith, term-head-length e))
+    first-byte s (script-width * i) (term-head e) (joined encode (term-operands e) ++ w .rest) (omega (arith, term-head-length e))
     (w .stands ∙ ap (λ b. b ++ w .rest) (term-encode-is e) ∙ append-assoc (term-head e) (joined encode (term-operands e)) (w .rest))
 
-one-up : (ts : List Term) → 1 ≤ length ts → ts ≡ getD ts 0 no-term ∷ drop 1 ts
-one-up [] h = absurd (omega arith)
-one-up (a ∷ ts) h = refl
+module _ (a b c : Term) where
+  -- as many of the three as the list is long
+  abbrev Starts : List Term → Type 0
+  Starts ts = ts ≡ take (length ts) (a ∷ b ∷ c ∷ [])
 
-two-up : (ts : List Term) → 2 ≤ length ts → ts ≡ getD ts 0 no-term ∷ getD ts 1 no-term ∷ drop 2 ts
-two-up [] h = absurd (omega arith)
-two-up (a ∷ []) h = absurd (omega arith)
-two-up (a ∷ b ∷ ts) h = refl
+  one-up : (ts : List Term) → Starts ts → 1 ≤ length ts → ts ≡ a ∷ drop 1 ts
+  one-up [] h l = absurd (omega arith)
+  one-up (x ∷ ts) h l = cc
 
-three-up : (ts : List Term) → 3 ≤ length ts → ts ≡ getD ts 0 no-term ∷ getD ts 1 no-term ∷ getD ts 2 no-term ∷ drop 3 ts
-three-up [] h = absurd (omega arith)
-three-up (a ∷ []) h = absurd (omega arith)
-three-up (a ∷ b ∷ []) h = absurd (omega arith)
-three-up (a ∷ b ∷ c ∷ ts) h = refl
+  two-up : (ts : List Term) → Starts ts → 2 ≤ length ts → ts ≡ a ∷ b ∷ drop 2 ts
+  two-up [] h l = absurd (omega arith)
+  two-up (x ∷ []) h l = absurd (omega arith)
+  two-up (x ∷ y ∷ ts) h l = cc
 
-moved : {s : Bytes} {e : Term} (i j : ℕ) (rest : Bytes) → i ≡ j → drop (6 * i) s ≡ encode e ++ rest → At s j e
-moved {s} i j rest p h = record { rest = rest; stands = ap (λ n. drop (6 * n) s) (sym p) ∙ h }
+  three-up : (ts : List Term) → Starts ts → 3 ≤ length ts → ts ≡ a ∷ b ∷ c ∷ drop 3 ts
+  three-up [] h l = absurd (omega arith)
+  three-up (x ∷ []) h l = absurd (omega arith)
+  three-up (x ∷ y ∷ []) h l = absurd (omega arith)
+  three-up (x ∷ y ∷ z ∷ ts) h l = cc
+
+-- A term's operands are the first of the three that stand for them.
+listed : (e : Term) → term-operands e ≡ take (operands e) (first-operand e ∷ second-operand e ∷ third-operand e ∷ [])
+listed (var n) = refl
+listed (unit k) = refl
+listed (lam k i e) = refl
+listed (pair k a b) = refl
+listed (inj d k i e) = refl
+listed (app w f a) = refl
+listed (proj d w e) = refl
+listed (case w i e a b) = refl
+listed (protect m e) = refl
+listed (mu i e) = refl
+
+moved : {s : Bytes} {e : Term} (i j : ℕ) (rest : Bytes) → i ≡ j → drop (script-width * i) s ≡ encode e ++ rest → At s j e
+moved {s} i j rest p h = record { rest = rest; stands = ap (λ n. drop (script-width * n) s) (sym p) ∙ h }
 
 module _ (s : Bytes) (i : ℕ) (e : Term) (w : At s i e) where
-  pub at-op1 : 1 ≤ operands e → At s (i + 1) (op1 e)
-  at-op1 h =
-      moved (suc i + 0) (i + 1) _ (omega arith) (operand-at term-code s i e (w .rest) (w .stands) [] (op1 e) (drop 1 (term-operands e))
-      (one-up _ h))
+  pub at-first : 1 ≤ operands e → At s (i + 1) (first-operand e)
+  at-first h =
+      moved (suc i + 0) (i + 1) _ (omega arith)
+      (operand-at term-code s i e (w .rest) (w .stands) [] (first-operand e) (drop 1 (term-operands e)) (one-up _ _ _ _ (listed e) h))
 
-  pub at-op2 : (j : ℕ) → 2 ≤ operands e → j ≡ i + 1 + size (op1 e) → At s j (op2 e)
-  at-op2 j h p =
-      moved (suc i + (size (op1 e) + 0)) j _ (omega arith)
-      (operand-at term-code s i e (w .rest) (w .stands) (op1 e ∷ []) (op2 e) (drop 2 (term-operands e)) (two-up _ h))
+  pub at-second : (j : ℕ) → 2 ≤ operands e → j ≡ i + 1 + size (first-operand e) → At s j (second-operand e)
+  at-second j h p =
+      moved (suc i + (size (first-operand e) + 0)) j _ (omega arith)
+      (operand-at term-code s i e (w .rest) (w .stands) (first-operand e ∷ []) (second-operand e) (drop 2 (term-operands e)) (two-up _ _ _ _ (listed e) h))
 
-  pub at-op3 : (j : ℕ) → 3 ≤ operands e → j ≡ i + 1 + size (op1 e) + size (op2 e) → At s j (op3 e)
-  at-op3 j h p =
-      moved (suc i + (size (op1 e) + (size (op2 e) + 0))) j _ (omega arith)
-      (operand-at term-code s i e (w .rest) (w .stands) (op1 e ∷ op2 e ∷ []) (op3 e) (drop 3 (term-operands e)) (three-up _ h))
+  pub at-third : (j : ℕ) → 3 ≤ operands e → j ≡ i + 1 + size (first-operand e) + size (second-operand e) → At s j (third-operand e)
+  at-third j h p =
+      moved (suc i + (size (first-operand e) + (size (second-operand e) + 0))) j _ (omega arith)
+      (operand-at term-code s i e (w .rest) (w .stands) (first-operand e ∷ second-operand e ∷ []) (third-operand e) (drop 3 (term-operands e))
+      (three-up _ _ _ _ (listed e) h))
 
 -- a whole script
 pub at-start : (s : Bytes) → encode (term s) ≡ s → At s 0 (term s)

@@ -1,47 +1,32 @@
 -- The table of kinds.
 use mathlib.Core.Path.{_≡_, refl}
+use mathlib.Core.Bool.{Bool, true, false, _&&_, So, and-eq-true-iff}
+use mathlib.Core.List.{List, [], _∷_}
 use Prim.Native.Nat.{ℕ, zero, suc, _≤_}
 use native.Mathlib.Omega.{arith}
-use mathlib.Core.Bool.{false}
-use lib.ListN.{List·getD-eq-default}
-use Rattle.rules.specs.Script.{signatures, signature-of, arity, signature}
+use borrow.Author.Tests.{leb-true}
+use lib.Dec.{leb}
+use lib.ListN.{length, getD, List·getD-eq-default}
+use Rattle.rules.specs.Script.{Signature, signatures, signature-of, arity, signature}
+
+abbrev unnamed : Signature
+unnamed = signature 0 false false false false
 
 -- past the table nothing is named
-pub past-table : (k : ℕ) → 12 ≤ k → signature-of k ≡ signature 0 false false false false
+pub past-table : (k : ℕ) → length signatures ≤ k → signature-of k ≡ unnamed
 unfolding signature-of
-past-table k h = List·getD-eq-default signatures (signature 0 false false false false) h
+past-table k h = List·getD-eq-default signatures unnamed h
+
+-- no kind has more than three operands
+abbrev each-small : List Signature → Bool
+each-small [] = true
+each-small (f ∷ fs) = leb (f .operands) 3 && each-small fs
+
+small : (fs : List Signature) (k : ℕ) → So (each-small fs) → getD fs k unnamed .operands ≤ 3
+small [] k h = omega arith
+small (f ∷ fs) zero h = leb-true (f .operands) 3 (and-eq-true-iff _ _ .0 h .0)
+small (f ∷ fs) (suc k) h = small fs k (and-eq-true-iff (leb (f .operands) 3) _ .0 h .1)
 
 pub arity-small : (k : ℕ) → arity k ≤ 3
 unfolding arity
-arity-small zero = omega arith
-arity-small (suc zero) = omega arith
-arity-small (suc (suc zero)) = omega arith
-arity-small (suc (suc (suc zero))) = omega arith
-arity-small (suc (suc (suc (suc zero)))) = omega arith
-arity-small (suc (suc (suc (suc (suc zero))))) = omega arith
-arity-small (suc (suc (suc (suc (suc (suc zero)))))) = omega arith
-arity-small (suc (suc (suc (suc (suc (suc (suc zero))))))) = omega arith
-arity-small (suc (suc (suc (suc (suc (suc (suc (suc zero)))))))) = omega arith
-arity-small (suc (suc (suc (suc (suc (suc (suc (suc (suc zero))))))))) = omega arith
-arity-small (suc (suc (suc (suc (suc (suc (suc (suc (suc (suc zero)))))))))) = omega arith
-arity-small (suc (suc (suc (suc (suc (suc (suc (suc (suc (suc (suc zero))))))))))) = omega arith
-arity-small (suc (suc (suc (suc (suc (suc (suc (suc (suc (suc (suc (suc k)))))))))))) = omega arith
-
-twelve-up : (k : ℕ) → 12 ≤ (suc (suc (suc (suc (suc (suc (suc (suc (suc (suc (suc (suc k))))))))))))
-twelve-up k = omega arith
-
-pub past-twelve : (k : ℕ) → (k ≡ 0 → ⊥) → (k ≡ 1 → ⊥) → (k ≡ 2 → ⊥) → (k ≡ 3 → ⊥) → (k ≡ 4 → ⊥) → (k ≡ 5 → ⊥) → (k ≡ 6 → ⊥) → (k ≡ 7 → ⊥) →
-    (k ≡ 8 → ⊥) → (k ≡ 9 → ⊥) → (k ≡ 10 → ⊥) → (k ≡ 11 → ⊥) → 12 ≤ k
-past-twelve zero n0 n1 n2 n3 n4 n5 n6 n7 n8 n9 n10 n11 = absurd (n0 refl)
-past-twelve (suc zero) n0 n1 n2 n3 n4 n5 n6 n7 n8 n9 n10 n11 = absurd (n1 refl)
-past-twelve (suc (suc zero)) n0 n1 n2 n3 n4 n5 n6 n7 n8 n9 n10 n11 = absurd (n2 refl)
-past-twelve (suc (suc (suc zero))) n0 n1 n2 n3 n4 n5 n6 n7 n8 n9 n10 n11 = absurd (n3 refl)
-past-twelve (suc (suc (suc (suc zero)))) n0 n1 n2 n3 n4 n5 n6 n7 n8 n9 n10 n11 = absurd (n4 refl)
-past-twelve (suc (suc (suc (suc (suc zero))))) n0 n1 n2 n3 n4 n5 n6 n7 n8 n9 n10 n11 = absurd (n5 refl)
-past-twelve (suc (suc (suc (suc (suc (suc zero)))))) n0 n1 n2 n3 n4 n5 n6 n7 n8 n9 n10 n11 = absurd (n6 refl)
-past-twelve (suc (suc (suc (suc (suc (suc (suc zero))))))) n0 n1 n2 n3 n4 n5 n6 n7 n8 n9 n10 n11 = absurd (n7 refl)
-past-twelve (suc (suc (suc (suc (suc (suc (suc (suc zero)))))))) n0 n1 n2 n3 n4 n5 n6 n7 n8 n9 n10 n11 = absurd (n8 refl)
-past-twelve (suc (suc (suc (suc (suc (suc (suc (suc (suc zero))))))))) n0 n1 n2 n3 n4 n5 n6 n7 n8 n9 n10 n11 = absurd (n9 refl)
-past-twelve (suc (suc (suc (suc (suc (suc (suc (suc (suc (suc zero)))))))))) n0 n1 n2 n3 n4 n5 n6 n7 n8 n9 n10 n11 = absurd (n10 refl)
-past-twelve (suc (suc (suc (suc (suc (suc (suc (suc (suc (suc (suc zero))))))))))) n0 n1 n2 n3 n4 n5 n6 n7 n8 n9 n10 n11 = absurd (n11 refl)
-past-twelve (suc (suc (suc (suc (suc (suc (suc (suc (suc (suc (suc (suc k)))))))))))) n0 n1 n2 n3 n4 n5 n6 n7 n8 n9 n10 n11 = twelve-up k
+arity-small k = small signatures k refl

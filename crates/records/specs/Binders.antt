@@ -2,8 +2,9 @@
 use mathlib.Core.Bool.{_||_, cond}
 use Prim.Native.Nat.{ℕ, zero, suc}
 use lib.Dec.{eqb}
+use Rattle.records.specs.Kinds as kinds
 
 -- how many stand over operand j, counted from 0, of a record of this kind
 unfoldable pub binds : ℕ → ℕ → ℕ
-binds kind zero = cond (eqb kind 2 || eqb kind 11) 1 0
-binds kind (suc j) = cond (eqb kind 9) 1 0
+binds kind zero = cond (eqb kind kinds.function || eqb kind kinds.recursion) 1 0
+binds kind (suc j) = cond (eqb kind kinds.case) 1 0

@@ -1,3 +1,4 @@
+pub mod Kinds
 pub mod Place
 pub mod Operands
 pub mod Binders

@@ -7,10 +7,10 @@ use Rattle.records.specs.declared.Ended.{Ended}
 use Rattle.records.specs.declared.Ended.the-variants.{Before, Short}
 
 -- a line of the table of kinds, from the code's struct
-abbrev pub line : Line → Signature
-line a = signature (a .operands) (a .reader) (a .indirect) (a .number) (a .typed)
+abbrev pub said-line : Line → Signature
+said-line a = signature (a .operands) (a .reader) (a .indirect) (a .number) (a .typed)
 
 -- the record after a term, if it ends
-abbrev pub ended : Ended → Option ℕ
-ended (Before i) = some i
-ended Short = none
+abbrev pub said-end : Ended → Option ℕ
+said-end (Before i) = some i
+said-end Short = none

@@ -3,13 +3,11 @@
 use lattice::Indirect;
 use lattice::Reader;
 ghost use mathlib.Core.Path.{_≡_};
-ghost use Prim.Native.Nat.{_+_, _*_, _≤_, _<_};
-ghost use lib.ListN.{length};
+ghost use Prim.Native.Nat.{_+_, _≤_, _<_};
 ghost use Rattle.calculus.specs.Terms.{Term};
-ghost use Rattle.rules.specs.Limits.{script-width};
 ghost use Rattle.rules.specs.Script.{records, kind, r, ir, zero-byte, number, signature, signature-of, arity, size, term-end};
 ghost use Rattle.records.specs.Place.{At, Here};
-ghost use Rattle.records.specs.Said.{line, ended};
+ghost use Rattle.records.specs.Said.{said-line, said-end};
 ghost use Rattle.records.specs.Binders.{binds};
 
 pub const SCRIPT_WIDTH: usize = 6;
@@ -67,35 +65,35 @@ pub fn record_count(script: &[u8]) -> usize
 
 // The fields of record i.
 pub fn kind(script: &[u8], i: usize) -> u8
-    requires { ⌜ script-width * i + 6 ≤ length (now script) ⌝ }
+    requires { ⌜ i < records (now script) ⌝ }
     ensures { λ a. ⌜ a ≡ kind (now (script .entry)) i ⌝ }
 {
     script[SCRIPT_WIDTH * i]
 }
 
 pub fn reader(script: &[u8], i: usize) -> Reader
-    requires { ⌜ script-width * i + 6 ≤ length (now script) ⌝ }
+    requires { ⌜ i < records (now script) ⌝ }
     ensures { λ a. ⌜ a .0 ≡ r (now (script .entry)) i ⌝ }
 {
     Reader(script[SCRIPT_WIDTH * i + 1])
 }
 
 pub fn indirect(script: &[u8], i: usize) -> Indirect
-    requires { ⌜ script-width * i + 6 ≤ length (now script) ⌝ }
+    requires { ⌜ i < records (now script) ⌝ }
     ensures { λ a. ⌜ a .0 ≡ ir (now (script .entry)) i ⌝ }
 {
     Indirect(script[SCRIPT_WIDTH * i + 2])
 }
 
 pub fn zero_byte(script: &[u8], i: usize) -> u8
-    requires { ⌜ script-width * i + 6 ≤ length (now script) ⌝ }
+    requires { ⌜ i < records (now script) ⌝ }
     ensures { λ a. ⌜ a ≡ zero-byte (now (script .entry)) i ⌝ }
 {
     script[SCRIPT_WIDTH * i + 3]
 }
 
 pub fn number(script: &[u8], i: usize) -> u16
-    requires { ⌜ script-width * i + 6 ≤ length (now script) ⌝ }
+    requires { ⌜ i < records (now script) ⌝ }
     ensures { λ a. ⌜ a ≡ number (now (script .entry)) i ⌝ }
 {
     word(script[SCRIPT_WIDTH * i + 4]) + 256 * word(script[SCRIPT_WIDTH * i + 5])
@@ -111,7 +109,7 @@ pub struct Signature {
 }
 
 fn entry(operands: u8, reader: bool, indirect: bool, number: bool, typed: bool) -> Signature
-    ensures { λ a. ⌜ line a ≡ signature operands reader indirect number typed ⌝ }
+    ensures { λ a. ⌜ said-line a ≡ signature operands reader indirect number typed ⌝ }
 {
     Signature {
         operands,
@@ -124,7 +122,7 @@ fn entry(operands: u8, reader: bool, indirect: bool, number: bool, typed: bool) 
 
 // The table of kinds: operands, r, ir, number, type.
 pub fn signature_of(kind: u8) -> Signature
-    ensures { λ a. ⌜ line a ≡ signature-of kind ⌝ }
+    ensures { λ a. ⌜ said-line a ≡ signature-of kind ⌝ }
 {
     match kind {
         VARIABLE => entry(0, false, false, true, false),
@@ -178,7 +176,7 @@ pub enum Ended {
 
 // The record after the term that starts at record `start`: how many terms are still to come, record by record.
 pub fn term_end(script: &[u8], start: usize) -> Ended
-    ensures { λ a. ⌜ ended a ≡ term-end (now (script .entry)) start ⌝ }
+    ensures { λ a. ⌜ said-end a ≡ term-end (now (script .entry)) start ⌝ }
 {
     let n = record_count(script);
     let mut pending: usize = 1;

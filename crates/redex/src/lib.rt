@@ -14,15 +14,13 @@ use records::UNIT;
 use records::VARIABLE;
 use types::TYPE_WIDTH;
 ghost use mathlib.Core.Path.{_≡_};
-ghost use Prim.Native.Nat.{ℕ, _+_, _*_, _≤_, _<_};
-ghost use lib.ListN.{length};
+ghost use Prim.Native.Nat.{ℕ, _+_, _≤_, _<_};
 ghost use Rattle.calculus.specs.Security.{Security};
 ghost use Rattle.calculus.specs.Types.{Ty};
 ghost use Rattle.calculus.specs.Terms.{Term};
-ghost use Rattle.rules.specs.Limits.{script-width};
 ghost use Rattle.rules.specs.Groups.{leq, readers};
 ghost use Rattle.rules.specs.Types.{type-at};
-ghost use Rattle.rules.specs.Script.{kind, r};
+ghost use Rattle.rules.specs.Script.{records, kind, r};
 ghost use Rattle.records.specs.Place.{At};
 ghost use Rattle.redex.specs.Fates.{is-function, fate};
 ghost use Rattle.redex.specs.Found.{Shallow, Finds, answer, takes-apart};
@@ -61,7 +59,7 @@ fn takes_apart(destructor: u8, value: u8) -> bool
 
 // May the destructor at record `at` read the value at the next record?
 fn may_read(groups: &[u8], script: &[u8], at: usize) -> bool
-    requires { ⌜ script-width * at + 12 ≤ length (now script) ⌝ }
+    requires { ⌜ at + 1 < records (now script) ⌝ }
     ensures { λ a. ⌜ a ≡ leq (now (groups .entry)) (r (now (script .entry)) (at + 1)) (r (now (script .entry)) at) ⌝ }
 {
     let read = records::reader(script, at + 1);
@@ -71,7 +69,7 @@ fn may_read(groups: &[u8], script: &[u8], at: usize) -> bool
 
 // The answer of the destructor at record `at`, whose evaluated operands are values: the kind is asked before the reader.
 fn reading(groups: &[u8], script: &[u8], at: usize, depth: usize) -> Found
-    requires { ⌜ script-width * at + 12 ≤ length (now script) ⌝ }
+    requires { ⌜ at + 1 < records (now script) ⌝ }
     ensures { λ a. ⌜ ((tab : ℕ → Ty) (e : Term) → At (now (script .entry)) at e → 6 ≤ kind (now (script .entry)) at
         → kind (now (script .entry)) at ≤ 9 → a ≡ answer (fate (readers (now (groups .entry))) tab e) at depth) ⌝ }
 {
@@ -88,7 +86,7 @@ fn reading(groups: &[u8], script: &[u8], at: usize, depth: usize) -> Found
 
 // The answer of the recursion at record `at`.
 fn unrolling(types: &[u8], script: &[u8], at: usize, depth: usize) -> Found
-    requires { ⌜ script-width * at + 6 ≤ length (now script) ⌝ }
+    requires { ⌜ at < records (now script) ⌝ }
     ensures { λ a. ⌜ ((S : Security) (e : Term) → At (now (script .entry)) at e → kind (now (script .entry)) at ≡ 11
         → a ≡ answer (fate S (type-at (now (types .entry))) e) at depth) ⌝ }
 {

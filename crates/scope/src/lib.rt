@@ -2,11 +2,9 @@
 
 use answer::Checked;
 ghost use mathlib.Core.Path.{_≡_};
-ghost use Prim.Native.Nat.{_+_, _*_, _≤_};
-ghost use lib.ListN.{length};
+ghost use Prim.Native.Nat.{_+_, _≤_, _<_};
 ghost use Rattle.calculus.specs.Terms.{Term};
-ghost use Rattle.rules.specs.Limits.{script-width};
-ghost use Rattle.rules.specs.Script.{encode, term, counts, q18, q19};
+ghost use Rattle.rules.specs.Script.{records, encode, term, counts, q18, q19};
 ghost use Rattle.answer.specs.Said.{said};
 ghost use Rattle.records.specs.Place.{At, Here};
 ghost use Rattle.scope.specs.Stops.{walked, finished};
@@ -32,7 +30,7 @@ fn answered(w: Walked) -> Checked
 
 // Question 18 of a record at depth n, or question 19 of record i under n binders.
 fn passes(script: &[u8], question: u8, i: usize, n: usize) -> bool
-    requires { ⌜ script-width * i + 6 ≤ length (now script) ⌝ }
+    requires { ⌜ i < records (now script) ⌝ }
     ensures { λ a. ⌜ a ≡ passes question (now (script .entry)) i n ⌝ }
 {
     if question == 18 {

@@ -11,13 +11,11 @@ use types::TYPE_WIDTH;
 ghost use mathlib.Core.Path.{_≡_};
 ghost use mathlib.Core.Bool.{not};
 ghost use mathlib.Core.List.{[], _∷_};
-ghost use Prim.Native.Nat.{_+_, _*_, _≤_};
+ghost use Prim.Native.Nat.{_<_};
 ghost use lib.Dec.{eqb};
-ghost use lib.ListN.{length};
 ghost use Rattle.rules.specs.Answer.{_⇒_};
-ghost use Rattle.rules.specs.Limits.{script-width};
 ghost use Rattle.rules.specs.Types.{type-kind};
-ghost use Rattle.rules.specs.Script.{ok14, ok15, ok16, q13, q14, q15, q16, q17};
+ghost use Rattle.rules.specs.Script.{records, ok14, ok15, ok16, q13, q14, q15, q16, q17};
 ghost use Rattle.answer.specs.Said.{said};
 
 pub const SCRIPT_LIMIT: usize = 8192;
@@ -54,7 +52,7 @@ fn zero_unless(named: bool, field: u16) -> bool
 
 // Is the kind of record i at most 11, and are its unnamed fields 0?
 fn fields_right(script: &[u8], i: usize) -> bool
-    requires { ⌜ script-width * i + 6 ≤ length (now script) ⌝ }
+    requires { ⌜ i < records (now script) ⌝ }
     ensures { λ a. ⌜ a ≡ ok14 (now (script .entry)) i ⌝ }
 {
     let k = records::kind(script, i);
@@ -82,7 +80,7 @@ pub fn question_14(script: &[u8]) -> Checked
 
 // Are the named groups of record i in the table, and for kinds 1 to 5 ir ⊑ r?
 fn groups_right(groups: &[u8], script: &[u8], i: usize) -> bool
-    requires { ⌜ script-width * i + 6 ≤ length (now script) ⌝ }
+    requires { ⌜ i < records (now script) ⌝ }
     ensures { λ a. ⌜ a ≡ ok15 (now (groups .entry)) (now (script .entry)) i ⌝ }
 {
     let k = records::kind(script, i);
@@ -124,7 +122,7 @@ fn type_kind(types: &[u8], i: u16) -> u8
 
 // Does the type that record i names exist, a sum for 4 and 5, a function for 11?
 fn type_right(types: &[u8], script: &[u8], i: usize) -> bool
-    requires { ⌜ script-width * i + 6 ≤ length (now script) ⌝ }
+    requires { ⌜ i < records (now script) ⌝ }
     ensures { λ a. ⌜ a ≡ ok16 (now (types .entry)) (now (script .entry)) i ⌝ }
 {
     let k = records::kind(script, i);

@@ -9,7 +9,7 @@ use lib.Dec.{ltb}
 use lib.ListN.{length}
 use Rattle.calculus.specs.Terms.{is-value}
 use Rattle.rules.specs.Answer.{Bytes, Octets, Answer, accepted, refused, _>>_}
-use Rattle.rules.specs.Limits.{group-limit}
+use Rattle.rules.specs.Limits.{sheet-width, group-limit}
 use Rattle.rules.specs.Groups.{rows, q2}
 use Rattle.rules.specs.Script.{encode, term}
 use Rattle.rules.specs.Sheet.{sheet}
@@ -65,10 +65,10 @@ no-sheet : (o : Answer Bytes) (old : Bytes) (q p : ℕ) → o ≡ refused q p �
 unfolding sheet-records
 no-sheet o old q p e = record { answer = sym (ap sheet-records e); after = sym (ap (λ x. sheet-after x old) e) }
 
-the-sheet : (o : Answer Bytes) (b old new : Bytes) (n : ℕ) → o ≡ accepted b → length b ≡ 4 * n → new ≡ splice 0 b old → Paged o old (the.Written n) new
+the-sheet : (o : Answer Bytes) (b old new : Bytes) (n : ℕ) → o ≡ accepted b → length b ≡ sheet-width * n → new ≡ splice 0 b old → Paged o old (the.Written n) new
 unfolding sheet-records
 the-sheet o b old new n e l h =
-    let k : n ≡ length b / 4 = omega arith in
+    let k : n ≡ length b / sheet-width = omega arith in
     record { answer = ap accepted k ∙ sym (ap sheet-records e); after = h ∙ splice-front b old ∙ sym (ap (λ x. sheet-after x old) e) }
 
 module _ (g t s : Bytes) (group : ℕ) (old : Bytes) where
@@ -87,16 +87,16 @@ module _ (g t s : Bytes) (group : ℕ) (old : Bytes) where
     pub no-value : is-value (term s) ≡ false → Paged call old (the.Refused 26 0) old
     no-value v = no-sheet call old 26 0 (after-25 ∙ rw v)
 
-    pub no-room : is-value (term s) ≡ true → length old < 4 * lines (term s) → Paged call old (the.Refused 27 0) old
+    pub no-room : is-value (term s) ≡ true → length old < sheet-width * lines (term s) → Paged call old (the.Refused 27 0) old
     no-room v l =
         no-sheet call old 27 0 (after-25 ∙ rw (v, lt-leb (length (sheet g group (term s))) (length old) (omega (arith, sheet-length g group (term s)))))
 
-    pub written : is-value (term s) ≡ true → 4 * lines (term s) ≤ length old → (n : ℕ) → n ≡ lines (term s) → (new : Bytes)
+    pub written : is-value (term s) ≡ true → sheet-width * lines (term s) ≤ length old → (n : ℕ) → n ≡ lines (term s) → (new : Bytes)
         → new ≡ splice 0 (sheet g group (term s)) old → Paged call old (the.Written n) new
     written v l n h new e =
         the-sheet call (sheet g group (term s)) old new n
         (after-25 ∙ rw (v, le-leb (length (sheet g group (term s))) (length old) (omega (arith, sheet-length g group (term s)))))
-        (sheet-length g group (term s) ∙ ap (λ x. 4 * x) (sym h)) e
+        (sheet-length g group (term s) ∙ ap (λ x. sheet-width * x) (sym h)) e
 
     -- the script is the encoding of its term
     pub encoded : Octets s → encode (term s) ≡ s

@@ -8,6 +8,7 @@ use lib.ListN.{length, length-append}
 use Rattle.calculus.specs.Security.{Property}
 use Rattle.calculus.specs.Terms.{first, second, Term, var, unit, lam, pair, inj, app, proj, case, protect, mu, is-value}
 use Rattle.rules.specs.Answer.{Bytes}
+use Rattle.rules.specs.Limits.{sheet-width}
 use Rattle.rules.specs.Groups.{leq}
 use Rattle.rules.specs.Script.{size, kind, r, ir}
 use Rattle.rules.specs.Sheet.{sheet, sheet-record}
@@ -15,7 +16,8 @@ use Rattle.rules.proofs.PrefixLaws.{record-is}
 use Rattle.rules.proofs.RecordFields.{kind-is, r-is, ir-is}
 use Rattle.rules.proofs.TermCode.{term-code, term-head}
 use Rattle.records.specs.Place.{At}
-use Rattle.records.proofs.Stands.{kind-of, op1, op2, at-op1, at-op2}
+use Rattle.records.specs.Operands.{first-operand, second-operand}
+use Rattle.records.proofs.Stands.{kind-of, at-first, at-second}
 use Rattle.memory.specs.Splice.{splice}
 use Rattle.sheet.specs.Shown.{shown, shown-kind}
 use Rattle.sheet.specs.Value.{lines, Room, Wrote}
@@ -23,12 +25,12 @@ use Rattle.sheet.specs.declared.Reached.{Reached}
 use Rattle.memory.proofs.Laws.{join-next}
 use Rattle.sheet.proofs.Values.{Pairs, injects, pairs, first-part}
 
--- every record has four bytes
-line-length : (b : Bool) (k r ir : ℕ) → length (cond b (k ∷ r ∷ ir ∷ 0 ∷ []) (5 ∷ 0 ∷ 0 ∷ 0 ∷ [])) ≡ 4
+-- every record has the width of a sheet record
+line-length : (b : Bool) (k r ir : ℕ) → length (cond b (k ∷ r ∷ ir ∷ 0 ∷ []) (5 ∷ 0 ∷ 0 ∷ 0 ∷ [])) ≡ sheet-width
 line-length true k r ir = refl
 line-length false k r ir = refl
 
-pub shown-length : (g : Bytes) (group : ℕ) (s : Bytes) (i : ℕ) → length (shown g group s i) ≡ 4
+pub shown-length : (g : Bytes) (group : ℕ) (s : Bytes) (i : ℕ) → length (shown g group s i) ≡ sheet-width
 unfolding shown
 shown-length g group s i = line-length (leq g (r s i) group) (shown-kind (kind s i)) (r s i) (ir s i)
 
@@ -44,7 +46,7 @@ open-line g group s i x y z k h hk hy hz e =
     let f : leq g (r s i) group ≡ true = ap (λ y. leq g y group) (sym h) ∙ e in
     rw (f, hy, hk, hz, h)
 
-pub sheet-length : (g : Bytes) (group : ℕ) (e : Term) → length (sheet g group e) ≡ 4 * lines e
+pub sheet-length : (g : Bytes) (group : ℕ) (e : Term) → length (sheet g group e) ≡ sheet-width * lines e
 unfolding sheet lines
 sheet-length g group (var n) = refl
 sheet-length g group (unit k) = line-length (leq g (k .r) group) 0 (k .r) (k .ir)
@@ -93,7 +95,7 @@ sheet-alone g group (protect m e) v l = absurd (false≢true v)
 sheet-alone g group (mu i e) v l = absurd (false≢true v)
 
 pub sheet-injection : (g : Bytes) (group : ℕ) (e : Term) → 2 < kind-of e → kind-of e ≤ 5 → (kind-of e ≡ 3 → ⊥)
-    → shown g group (term-head e) 0 ++ sheet g group (op1 e) ≡ sheet g group e
+    → shown g group (term-head e) 0 ++ sheet g group (first-operand e) ≡ sheet g group e
 unfolding sheet shown shown-kind
 sheet-injection g group (var n) l m h = absurd (omega arith)
 sheet-injection g group (unit k) l m h = absurd (omega arith)
@@ -109,7 +111,7 @@ sheet-injection g group (protect n e) l m h = absurd (omega arith)
 sheet-injection g group (mu i e) l m h = absurd (omega arith)
 
 pub sheet-pair : (g : Bytes) (group : ℕ) (e : Term) → kind-of e ≡ 3
-    → shown g group (term-head e) 0 ++ (sheet g group (op1 e) ++ sheet g group (op2 e)) ≡ sheet g group e
+    → shown g group (term-head e) 0 ++ (sheet g group (first-operand e) ++ sheet g group (second-operand e)) ≡ sheet g group e
 unfolding sheet shown shown-kind
 sheet-pair g group (var n) h = absurd (omega arith)
 sheet-pair g group (unit k) h = absurd (omega arith)
@@ -141,8 +143,8 @@ object (mu i e) v = absurd (false≢true v)
 
 -- the parts of a value are values, and their sheets are parts of its sheet
 pub record First (e : Term) : Type 0 where
-  pub value : is-value (op1 e) ≡ true
-  pub lesser : 1 + lines (op1 e) ≤ lines e
+  pub value : is-value (first-operand e) ≡ true
+  pub lesser : 1 + lines (first-operand e) ≤ lines e
 
 pub first-of : (e : Term) → is-value e ≡ true → 2 < kind-of e → First e
 unfolding is-value lines
@@ -157,25 +159,25 @@ first-of (case w i e a b) v l = absurd (false≢true v)
 first-of (protect m e) v l = absurd (false≢true v)
 first-of (mu i e) v l = absurd (false≢true v)
 
-pub second-value : (e : Term) → is-value e ≡ true → Pairs e → is-value (op2 e) ≡ true
-second-value e v p = and-eq-true-iff (is-value (op1 e)) (is-value (op2 e)) .0 (sym (p .value) ∙ v) .1
+pub second-value : (e : Term) → is-value e ≡ true → Pairs e → is-value (second-operand e) ≡ true
+second-value e v p = and-eq-true-iff (is-value (first-operand e)) (is-value (second-operand e)) .0 (sym (p .value) ∙ v) .1
 
 -- The sheet of a node, once its record is written, and after it the sheets of its parts.
-module _ (g : Bytes) (group : ℕ) (s : Bytes) (i n : ℕ) (e : Term) (w : At s i e) (v : is-value e ≡ true) (b b1 : Bytes) (fits : 4 * n ≤ length b)
-    (put : b1 ≡ splice (4 * n) (shown g group s i) b) where
+module _ (g : Bytes) (group : ℕ) (s : Bytes) (i n : ℕ) (e : Term) (w : At s i e) (v : is-value e ≡ true) (b b1 : Bytes) (fits : sheet-width * n ≤ length b)
+    (put : b1 ≡ splice (sheet-width * n) (shown g group s i) b) where
   pub wrote-alone : (end : ℕ) → kind-of e ≤ 2 → end ≡ i + size e → Wrote g group i n e b (record { next = end; line = n + 1 }) b1
   wrote-alone end l h =
       let a = sheet-alone g group e v l in
       record {
         next = h;
         line = omega (arith, a .1);
-        wrote = put ∙ ap (λ x. splice (4 * n) x b) (shown-at g group s i e w ∙ a .0);
+        wrote = put ∙ ap (λ x. splice (sheet-width * n) x b) (shown-at g group s i e w ∙ a .0);
       }
 
-  module _ (kept : length b1 ≡ length b) (x : Reached) (b2 : Bytes) (one : Wrote g group (i + 1) (n + 1) (op1 e) b1 x b2) where
-    so-far : b2 ≡ splice (4 * n) (shown g group s i ++ sheet g group (op1 e)) b
+  module _ (kept : length b1 ≡ length b) (x : Reached) (b2 : Bytes) (one : Wrote g group (i + 1) (n + 1) (first-operand e) b1 x b2) where
+    so-far : b2 ≡ splice (sheet-width * n) (shown g group s i ++ sheet g group (first-operand e)) b
     so-far =
-        join-next (4 * n) (4 * (n + 1)) (shown g group s i) (sheet g group (op1 e)) b b1 b2 fits (omega (arith, shown-length g group s i)) put kept
+        join-next (sheet-width * n) (sheet-width * (n + 1)) (shown g group s i) (sheet g group (first-operand e)) b b1 b2 fits (omega (arith, shown-length g group s i)) put kept
         (one .wrote)
 
     pub wrote-injection : 2 < kind-of e → (kind-of e ≡ 3 → ⊥) → Wrote g group i n e b x b2
@@ -186,22 +188,22 @@ module _ (g : Bytes) (group : ℕ) (s : Bytes) (i n : ℕ) (e : Term) (w : At s 
           next = omega (arith, one .next, p .sized);
           line = omega (arith, one .line, p .counted);
           wrote = so-far
-              ∙ ap (λ y. splice (4 * n) y b) (ap (λ y. y ++ sheet g group (op1 e)) (shown-at g group s i e w) ∙ sheet-injection g group e l m h);
+              ∙ ap (λ y. splice (sheet-width * n) y b) (ap (λ y. y ++ sheet g group (first-operand e)) (shown-at g group s i e w) ∙ sheet-injection g group e l m h);
         }
 
-    pub wrote-pair : kind-of e ≡ 3 → length b2 ≡ length b1 → (y : Reached) (b3 : Bytes) → Wrote g group (x .next) (x .line) (op2 e) b2 y b3
+    pub wrote-pair : kind-of e ≡ 3 → length b2 ≡ length b1 → (y : Reached) (b3 : Bytes) → Wrote g group (x .next) (x .line) (second-operand e) b2 y b3
         → Wrote g group i n e b y b3
     wrote-pair h kept2 y b3 other-one =
         let p = pairs e h in
-        let sa = sheet g group (op1 e) in
-        let sb = sheet g group (op2 e) in
+        let sa = sheet g group (first-operand e) in
+        let sb = sheet g group (second-operand e) in
         let o = shown g group s i in
         record {
           next = omega (arith, one .next, other-one .next, p .sized);
           line = omega (arith, one .line, other-one .line, p .counted);
-          wrote = join-next (4 * n) (4 * x .line) (o ++ sa) sb b b2 b3 fits
-              (omega (arith, one .line, length-append o sa, shown-length g group s i, sheet-length g group (op1 e))) so-far (kept2 ∙ kept) (other-one .wrote)
-              ∙ ap (λ z. splice (4 * n) z b)
+          wrote = join-next (sheet-width * n) (sheet-width * x .line) (o ++ sa) sb b b2 b3 fits
+              (omega (arith, one .line, length-append o sa, shown-length g group s i, sheet-length g group (first-operand e))) so-far (kept2 ∙ kept) (other-one .wrote)
+              ∙ ap (λ z. splice (sheet-width * n) z b)
               (append-assoc o sa sb ∙ ap (λ z. z ++ (sa ++ sb)) (shown-at g group s i e w) ∙ sheet-pair g group e h);
         }
 
@@ -211,20 +213,20 @@ room-first {s} {i} q w1 l k =
     let e = q .tree in
     let f = first-of e (q .value) l in
     record {
-      tree = op1 e;
-      at = at-op1 s i e (q .at) (first-part e l (object e (q .value) .1) .0);
+      tree = first-operand e;
+      at = at-first s i e (q .at) (first-part e l (object e (q .value) .1) .0);
       value = f .value;
       fits = omega (arith, q .fits, f .lesser);
     }
 
 pub room-second : {g : Bytes} {group : ℕ} {s : Bytes} {i : ℕ} {w : Bytes} {n : ℕ} (q : Room s i w n) {w1 w2 : Bytes} {x : Reached} → kind-of (q .tree) ≡ 3
-    → length w2 ≡ length w → Wrote g group (i + 1) (n + 1) (op1 (q .tree)) w1 x w2 → Room s (x .next) w2 (x .line)
+    → length w2 ≡ length w → Wrote g group (i + 1) (n + 1) (first-operand (q .tree)) w1 x w2 → Room s (x .next) w2 (x .line)
 room-second {s = s} {i = i} q {x = x} h k m =
     let e = q .tree in
     let p = pairs e h in
     record {
-      tree = op2 e;
-      at = at-op2 s i e (q .at) (x .next) (p .two) (m .next);
+      tree = second-operand e;
+      at = at-second s i e (q .at) (x .next) (p .two) (m .next);
       value = second-value e (q .value) p;
       fits = omega (arith, q .fits, p .counted, m .line);
     }

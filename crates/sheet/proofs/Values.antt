@@ -9,7 +9,8 @@ use denote.Enum.Declared.{tagOf}
 use Rattle.calculus.specs.Security.{Property}
 use Rattle.calculus.specs.Terms.{Side, first, second, choose, Term, var, unit, lam, pair, inj, app, proj, case, protect, mu, is-value}
 use Rattle.rules.specs.Script.{size}
-use Rattle.records.proofs.Stands.{kind-of, op1, op2, operands}
+use Rattle.records.specs.Operands.{first-operand, second-operand}
+use Rattle.records.proofs.Stands.{kind-of, operands}
 use Rattle.sheet.specs.Value.{lines, looked}
 use Rattle.sheet.specs.declared.Looked.{Looked}
 use Rattle.sheet.specs.declared.Looked.the-variants.{Value, Other}
@@ -114,16 +115,16 @@ no-parts e l m = go e (view e) l m
 -- an injection: its part is the operand
 pub record Injects (e : Term) : Type 0 where
   pub one : 1 ≤ operands e
-  pub value : is-value e ≡ is-value (op1 e)
-  pub sized : size e ≡ 1 + size (op1 e)
-  pub counted : lines e ≡ 1 + lines (op1 e)
+  pub value : is-value e ≡ is-value (first-operand e)
+  pub sized : size e ≡ 1 + size (first-operand e)
+  pub counted : lines e ≡ 1 + lines (first-operand e)
 
 -- a pair: its parts are both operands
 pub record Pairs (e : Term) : Type 0 where
   pub two : 2 ≤ operands e
-  pub value : is-value e ≡ (is-value (op1 e) && is-value (op2 e))
-  pub sized : size e ≡ 1 + (size (op1 e) + size (op2 e))
-  pub counted : lines e ≡ 1 + (lines (op1 e) + lines (op2 e))
+  pub value : is-value e ≡ (is-value (first-operand e) && is-value (second-operand e))
+  pub sized : size e ≡ 1 + (size (first-operand e) + size (second-operand e))
+  pub counted : lines e ≡ 1 + (lines (first-operand e) + lines (second-operand e))
 
 pub injects : (e : Term) → 2 < kind-of e → kind-of e ≤ 5 → (kind-of e ≡ 3 → ⊥) → Injects e
 unfolding is-value lines size
@@ -148,11 +149,11 @@ pairs e h = go e (view e) h
     go e (injection p q) h = absurd (omega arith)
 
 -- both have a first operand, without which the node is no value
-pub first-part : (e : Term) → 2 < kind-of e → kind-of e ≤ 5 → (1 ≤ operands e) × (is-value (op1 e) ≡ false → is-value e ≡ false)
+pub first-part : (e : Term) → 2 < kind-of e → kind-of e ≤ 5 → (1 ≤ operands e) × (is-value (first-operand e) ≡ false → is-value e ≡ false)
 unfolding is-value
 first-part e l m = go e (view e) l m
   where
-    go : (e : Term) → View e → 2 < kind-of e → kind-of e ≤ 5 → (1 ≤ operands e) × (is-value (op1 e) ≡ false → is-value e ≡ false)
+    go : (e : Term) → View e → 2 < kind-of e → kind-of e ≤ 5 → (1 ≤ operands e) × (is-value (first-operand e) ≡ false → is-value e ≡ false)
     go e (other v k) l m = absurd (omega (arith, k (omega arith)))
     go e a-unit l m = absurd (omega arith)
     go e a-function l m = absurd (omega arith)
@@ -160,16 +161,16 @@ first-part e l m = go e (view e) l m
     go e (injection p q) l m = (omega arith, λ v. v)
 
 -- the look's answers, from the operands'
-pub look-injection : (e : Term) (i n : ℕ) → Injects e → looked (op1 e) (i + 1) (n + 1) ≡ looked e i n
+pub look-injection : (e : Term) (i n : ℕ) → Injects e → looked (first-operand e) (i + 1) (n + 1) ≡ looked e i n
 unfolding looked
 look-injection e i n p =
-    let a : i + 1 + size (op1 e) ≡ i + size e = omega (arith, p .sized) in
-    let b : n + 1 + lines (op1 e) ≡ n + lines e = omega (arith, p .counted) in
+    let a : i + 1 + size (first-operand e) ≡ i + size e = omega (arith, p .sized) in
+    let b : n + 1 + lines (first-operand e) ≡ n + lines e = omega (arith, p .counted) in
     rw (p .value, a, b)
 
-pub look-pair : (e : Term) (i n j m : ℕ) → Pairs e → Found (op1 e) (i + 1) (n + 1) j m → looked (op2 e) j m ≡ looked e i n
+pub look-pair : (e : Term) (i n j m : ℕ) → Pairs e → Found (first-operand e) (i + 1) (n + 1) j m → looked (second-operand e) j m ≡ looked e i n
 unfolding looked
 look-pair e i n j m p f =
-    let a : j + size (op2 e) ≡ i + size e = omega (arith, p .sized, f .end) in
-    let b : m + lines (op2 e) ≡ n + lines e = omega (arith, p .counted, f .count) in
+    let a : j + size (second-operand e) ≡ i + size e = omega (arith, p .sized, f .end) in
+    let b : m + lines (second-operand e) ≡ n + lines e = omega (arith, p .counted, f .count) in
     rw (p .value, f .value, a, b)

@@ -10,11 +10,11 @@ use records::SECOND_INJECTION;
 use records::UNIT;
 ghost use mathlib.Core.Path.{_≡_};
 ghost use mathlib.Core.Bool.{true};
-ghost use Prim.Native.Nat.{_+_, _*_, _≤_, _<_};
+ghost use Prim.Native.Nat.{_*_, _/_, _≤_, _<_};
 ghost use lib.ListN.{length};
 ghost use Rattle.calculus.specs.Terms.{Term, is-value};
-ghost use Rattle.rules.specs.Limits.{script-width, sheet-width};
-ghost use Rattle.rules.specs.Script.{kind};
+ghost use Rattle.rules.specs.Limits.{sheet-width};
+ghost use Rattle.rules.specs.Script.{records, kind};
 ghost use Rattle.rules.specs.Calls.{sheeting, sheet-records, sheet-after};
 ghost use Rattle.answer.specs.Said.{said};
 ghost use Rattle.records.specs.Place.{At, Here};
@@ -106,7 +106,7 @@ fn shown_kind(kind: u8) -> u8
 
 // The sheet record of the object at record i: closed where r ⋢ group, and then nothing of it is told.
 fn line_of(groups: &[u8], value: &[u8], i: usize, group: Reader) -> Line
-    requires { ⌜ script-width * i + 6 ≤ length (now value) ⌝ }
+    requires { ⌜ i < records (now value) ⌝ }
     ensures { λ a. ⌜ bytes-of a ≡ shown (now (groups .entry)) (group .0) (now (value .entry)) i ⌝ }
 {
     let r = records::reader(value, i);
@@ -124,7 +124,7 @@ fn line_of(groups: &[u8], value: &[u8], i: usize, group: Reader) -> Line
 
 // Writes a sheet record at its place.
 fn put(sheet: &mut [u8], at: usize, line: Line)
-    requires { ⌜ sheet-width * at + 4 ≤ length (now sheet) ⌝ }
+    requires { ⌜ at < length (now sheet) / sheet-width ⌝ }
     ensures { λ _. ⌜ now (sheet .exit) ≡ splice (sheet-width * at) (bytes-of line) (now (sheet .entry)) ⌝ }
 {
     let i = SHEET_WIDTH * at;

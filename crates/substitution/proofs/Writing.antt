@@ -53,7 +53,7 @@ module _ {i n : ℕ} {e v : Term} {start : ℕ} {w : Bytes} {j next end : ℕ} {
       }
 
   -- with the record in front of them
-  pub copied-all : (at : ℕ) (w₀ : Bytes) → (kind-of e ≡ 0 → ⊥) → j ≡ length (term-operands e) → at ≤ length w₀ → start ≡ at + 6 → w ≡ splice at (term-head e) w₀
+  pub copied-all : (at : ℕ) (w₀ : Bytes) → (kind-of e ≡ 0 → ⊥) → j ≡ length (term-operands e) → at ≤ length w₀ → start ≡ at + script-width → w ≡ splice at (term-head e) w₀
       → length w ≡ length w₀ → Written i n e v at w₀ (record { next = next; end = end }) w′
   copied-all at w₀ h l r z hw lw =
       let q = p .passed in
@@ -87,7 +87,7 @@ room-for n e v before d later j level h s c l =
 
 -- what writing an operand is given
 abbrev pub operand-room : {s : Bytes} {i : ℕ} {f m b : Bytes} {n : ℕ} {w₀ : Bytes} {at : ℕ} (q : Room s i f m b n w₀ at) {j next end : ℕ} {w w′ : Bytes}
-    (p : Copied i n (q .tree) (q .value) (at + 6) w j next end w′) (a : Ahead (p .passed)) (level : ℕ) → length w ≡ length w₀ → (kind-of (q .tree) ≡ 0 → ⊥)
+    (p : Copied i n (q .tree) (q .value) (at + script-width) w j next end w′) (a : Ahead (p .passed)) (level : ℕ) → length w ≡ length w₀ → (kind-of (q .tree) ≡ 0 → ⊥)
     → level ≡ n + binds (kind-of (q .tree)) j → level ≤ n + 1 → Room s next f m b level w′ end
 operand-room {n = n} q {j = j} p a level k h l g =
     let o = p .passed in
@@ -135,7 +135,7 @@ module _ {s : Bytes} {i : ℕ} {e : Term} (a : At s i e) (k : kind s i ≡ 0) (n
       }
 
   pub written-else : (start : ℕ) (w w′ : Bytes) → (number s i ≡ n → ⊥) → w′ ≡ splice start (take script-width (drop (script-width * i) s)) w
-      → Written i n e v start w (record { next = i + 1; end = start + 6 }) w′
+      → Written i n e v start w (record { next = i + 1; end = start + script-width }) w′
   written-else start w w′ h hw =
       let z = variable-else h in
       record {

@@ -10,7 +10,7 @@ ghost use lib.Dec.{eqb};
 ghost use lib.ListN.{length};
 ghost use Rattle.calculus.specs.Terms.{Term};
 ghost use Rattle.rules.specs.Limits.{script-width};
-ghost use Rattle.rules.specs.Script.{kind, number, encode, size, depth};
+ghost use Rattle.rules.specs.Script.{records as record-count, kind, number, encode, size, depth};
 ghost use Rattle.records.specs.Place.{At};
 ghost use Rattle.memory.specs.Splice.{splice};
 ghost use Rattle.records.specs.Binders.{binds};
@@ -40,7 +40,7 @@ fn larger(a: usize, b: usize) -> usize
 
 // Is the variable at record i variable n?
 fn is_variable(script: &[u8], i: usize, n: u16) -> bool
-    requires { ⌜ script-width * i + 6 ≤ length (now script) ⌝ }
+    requires { ⌜ i < record-count (now script) ⌝ }
     ensures { λ a. ⌜ a ≡ eqb (number (now (script .entry)) i) n ⌝ }
 {
     records::number(script, i) == n
@@ -48,7 +48,7 @@ fn is_variable(script: &[u8], i: usize, n: u16) -> bool
 
 // A variable with the value for variable n, counted.
 fn measure_variable(script: &[u8], i: usize, n: u16, records: usize, deep: usize) -> Extent
-    requires { ⌜ script-width * i + 6 ≤ length (now script) ⌝ }
+    requires { ⌜ i < record-count (now script) ⌝ }
     ensures { λ x. ⌜ (x .next ≡ i + 1) × (x .records ≡ cond (eqb (number (now (script .entry)) i) n) records 1)
         × (x .depth ≡ cond (eqb (number (now (script .entry)) i) n) deep 1) ⌝ }
 {

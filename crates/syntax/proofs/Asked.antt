@@ -6,6 +6,7 @@ use Prim.Native.Nat.{ℕ, _*_, _-_}
 use native.Mathlib.Omega.{arith}
 use lib.ListN.{take, drop}
 use Rattle.rules.specs.Answer.{Bytes, Answer, _>>_}
+use Rattle.rules.specs.Limits.{script-width}
 use Rattle.rules.specs.Script.{part-if, slice, q13}
 use Rattle.rules.specs.Calls.{types-check, script-check}
 use Rattle.answer.specs.declared.Checked.{Checked}
@@ -21,8 +22,10 @@ no-part (Refused q p) o part k e = ap (λ a. part-if a part) (sym e)
 pub whole-part : (x : Checked) (o : Answer (Unit {0})) (part : Bytes) → Yes x → said x ≡ o → part-if o part ≡ part
 whole-part x o part k e = ap (λ a. part-if a part) (accepts x o k e)
 
-pub slice-is : (s : Bytes) (i e : ℕ) → take (6 * e - 6 * i) (drop (6 * i) s) ≡ slice s i (some e)
-slice-is s i e = let p : 6 * e - 6 * i ≡ 6 * (e - i) = omega arith in ap (λ n. take n (drop (6 * i) s)) p
+pub slice-is : (s : Bytes) (i e : ℕ) → take (script-width * e - script-width * i) (drop (script-width * i) s) ≡ slice s i (some e)
+slice-is s i e =
+    let p : script-width * e - script-width * i ≡ script-width * (e - i) = omega arith in
+    ap (λ n. take n (drop (script-width * i) s)) p
 
 -- questions 2 to 19: those of the tables, 13, and the others of the script
 pub script-check-is : (rooms : List ℕ) (g t s : Bytes) → _>>_ (types-check g t) (_>>_ (q13 rooms s) (later-check g t s)) ≡ script-check rooms g t s

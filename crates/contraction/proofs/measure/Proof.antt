@@ -8,7 +8,7 @@ use Prim.Native.Nat.{_≤_}
 use Rattle.rules.specs.Limits.{script-limit, depth-limit}
 use Rattle.rules.specs.Script.{size, depth}
 use Rattle.records.specs.Place.{At}
-use Rattle.records.proofs.Stands.{room-one}
+use Rattle.records.proofs.Stands.{there}
 use Rattle.redex.specs.Fates.{property-of, contractum}
 use Rattle.contraction.specs.declared.Plan.{Plan}
 use Rattle.contraction.specs.Plans.{Planned, Ready, Measures, Recursive}
@@ -69,7 +69,7 @@ enum-told : tie.Need-enum-told
 enum-told c = search needs
 
 add-measure-raised : tie.Need-add-measure-raised
-add-measure-raised c = omega (arith, room-one _ _ _ (lifted (c .before) (c .before .before .before .pre) .stands), c .before .before .before .good)
+add-measure-raised c = omega (arith, there _ _ _ (lifted (c .before) (c .before .before .before .pre) .stands), c .before .before .before .good)
 
 measure-raised-requires : tie.Need-measure-raised-requires
 measure-raised-requires c κs =

@@ -7,7 +7,7 @@ use Rattle.calculus.specs.Terms.{mu}
 use Rattle.calculus.specs.Reduction.{unrolled}
 use Rattle.rules.specs.Groups.{readers}
 use Rattle.records.specs.Place.{At}
-use Rattle.records.proofs.Stands.{room-one, at-op1}
+use Rattle.records.proofs.Stands.{there, at-first}
 use Rattle.redex.specs.Fates.{contractum}
 use Rattle.substitution.specs.Substituted.{Extends}
 use Rattle.contraction.specs.Plans.{Recursive}
@@ -19,7 +19,7 @@ abbrev R : tie.Start → Type 0
 R s = Recursive (s .args .script .now) (s .args .at)
 
 body-at : (s : tie.Start) (q : R s) → At (s .args .script .now) (s .args .at + 1) (q .body)
-body-at s q = at-op1 _ _ _ (q .stands) (omega arith)
+body-at s q = at-first _ _ _ (q .stands) (omega arith)
 
 whole : (c : tie.After-extent-at) (q : R (c .before .before)) → Extends (c .before .before .args .at) (mu (q .type) (q .body)) (c .extent-at .result)
 whole c q = c .extent-at .ensures (mu (q .type) (q .body)) (q .stands)
@@ -29,7 +29,7 @@ extent-at-requires c κs =
     let q = c .before .pre in record { tree = mu (q .type) (q .body); at = q .stands; shallow = q .shallow; small = q .small }
 
 add-measure : tie.Need-add-measure
-add-measure c = let s = c .before .before in omega (arith, room-one _ _ _ (body-at s (s .pre)), s .good)
+add-measure c = let s = c .before .before in omega (arith, there _ _ _ (body-at s (s .pre)), s .good)
 
 add-measure-2 : tie.Need-add-measure-2
 add-measure-2 c = let q = c .before .before .before .pre in omega (arith, whole (c .before) q .records, q .small)

@@ -1,12 +1,12 @@
 -- `contraction::plan_of` meets its contract: the kinds of two records tell the left side and where its parts stand.
 use mathlib.Core.Path.{_≡_, sym, _∙_}
-use Prim.Native.Nat.{_+_, _*_, _≤_}
+use Prim.Native.Nat.{_+_, _<_}
 use native.Mathlib.Omega.{arith}
-use lib.ListN.{length}
 use Rattle.rules.specs.Answer.{Bytes}
-use Rattle.rules.specs.Script.{size}
+use Rattle.rules.specs.Script.{records, size}
 use Rattle.records.specs.Place.{At}
-use Rattle.records.proofs.Stands.{kind-of, op1, room-one, stands-kind, here}
+use Rattle.records.specs.Operands.{first-operand}
+use Rattle.records.proofs.Stands.{kind-of, there, stands-kind, here}
 use Rattle.contraction.specs.Plans.{Fires}
 use Rattle.contraction.proofs.Redexes.{taken-at, inner-at, plan-unrolled, plan-raised, plan-first, plan-second, plan-applied}
 use Rattle.contraction.proofs.Redexes.{Cased, cased}
@@ -50,15 +50,15 @@ not-11 c q z = c .if1 .left (own-kind (c .before) q ∙ z)
 not-10 : (c : tie.Else2) (q : F (entry c)) → kind-of (q .tree) ≡ 10 → ⊥
 not-10 c q z = c .if2 .left (own-kind (seen c) q ∙ z)
 
-taken : (c : tie.Else2) (q : F (entry c)) → At (P (entry c)) (entry c .args .at + 1) (op1 (q .tree))
+taken : (c : tie.Else2) (q : F (entry c)) → At (P (entry c)) (entry c .args .at + 1) (first-operand (q .tree))
 taken c q = let s = entry c in taken-at (P s) (s .args .at) (q .stands) (q .left) (not-11 (c .before) q) (not-10 c q)
 
-inner : (c : tie.Else2) (q : F (entry c)) → At (P (entry c)) (entry c .args .at + 2) (op1 (op1 (q .tree)))
+inner : (c : tie.Else2) (q : F (entry c)) → At (P (entry c)) (entry c .args .at + 2) (first-operand (first-operand (q .tree)))
 inner c q = let s = entry c in inner-at (P s) (s .args .at) (q .stands) (q .left) (not-11 (c .before) q) (not-10 c q)
 
 next : (c : tie.After-end-of) (q : F (entry (destructs c)))
-    → c .end-of .result ≡ entry (destructs c) .args .at + 2 + size (op1 (op1 (q .tree)))
-next c q = c .end-of .ensures (op1 (op1 (q .tree))) (inner (destructs c) q)
+    → c .end-of .result ≡ entry (destructs c) .args .at + 2 + size (first-operand (first-operand (q .tree)))
+next c q = c .end-of .ensures (first-operand (first-operand (q .tree))) (inner (destructs c) q)
 
 case-of : (c : tie.Else5) (q : F (entry (choice c)))
     → Cased (P (entry (choice c))) (entry (choice c) .args .at) (q .tree) (ended c .end-of .result)
@@ -75,11 +75,11 @@ case-of c q =
     (λ z. c .if5 .left (k ∙ z))
 
 -- what is taken apart stands within the script
-taken-inside : (c : tie.Else5) → 6 * (entry (choice c) .args .at + 1) + 6 ≤ length (P (entry (choice c)))
-taken-inside c = let d = choice c in room-one _ _ _ (taken d (entry d .pre))
+taken-inside : (c : tie.Else5) → entry (choice c) .args .at + 1 < records (P (entry (choice c)))
+taken-inside c = let d = choice c in there _ _ _ (taken d (entry d .pre))
 
 kind-requires : tie.Need-kind-requires
-kind-requires c κs = room-one _ _ _ (c .before .pre .stands)
+kind-requires c κs = there _ _ _ (c .before .pre .stands)
 
 returns : tie.Need-returns
 returns c q =
@@ -90,7 +90,7 @@ returns-2 c q =
     let k = c .before .before in plan-raised _ (start k .args .at) (q .left) (sym (own-kind k q) ∙ c .if2 .taken)
 
 add-inner : tie.Need-add-inner
-add-inner c = let s = entry c in omega (arith, room-one _ _ _ (inner c (s .pre)), s .good)
+add-inner c = let s = entry c in omega (arith, there _ _ _ (inner c (s .pre)), s .good)
 
 returns-3 : tie.Need-returns-3
 returns-3 c q =

@@ -6,6 +6,7 @@ use native.Mathlib.Omega.{arith}
 use lib.ListN.{length, take, drop}
 use borrow.Author.Needs.{needs}
 use Rattle.rules.specs.Answer.{Bytes}
+use Rattle.rules.specs.Limits.{script-width}
 use Rattle.rules.specs.Script.{size, encode}
 use Rattle.records.proofs.Stands.{room}
 use Rattle.contraction.specs.Plans.{BodyRoom}
@@ -38,15 +39,15 @@ known c = c .before .before .before .before
 end : (c : tie.After-end-of) (q : Q (start c)) → c .end-of .result ≡ start c .args .y + size (q .value)
 end c q = c .end-of .ensures (q .value) (q .at-value)
 
-inside : (s : tie.Start) → 6 * s .args .y + 6 * size (s .pre .value) ≤ length (P s)
+inside : (s : tie.Start) → script-width * s .args .y + script-width * size (s .pre .value) ≤ length (P s)
 inside s = room _ _ _ (s .pre .at-value)
 
 -- the value's own bytes, between two empty pieces
 abbrev length-of : tie.After-end-of → ℕ
-length-of c = 6 * c .end-of .result - 6 * start c .args .y
+length-of c = script-width * c .end-of .result - script-width * start c .args .y
 
 pieces : (c : tie.After-end-of) (q : Q (start c))
-    → [] ++ (take (length-of c) (drop (6 * start c .args .y) (P (start c))) ++ []) ≡ encode (q .value)
+    → [] ++ (take (length-of c) (drop (script-width * start c .args .y) (P (start c))) ++ []) ≡ encode (q .value)
 pieces c q = append-nil _ ∙ own-bytes (q .at-value) (length-of c) (omega (arith, end c q))
 
 end-of-requires : tie.Need-end-of-requires

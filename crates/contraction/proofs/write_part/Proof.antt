@@ -5,6 +5,7 @@ use native.Mathlib.Omega.{arith}
 use lib.ListN.{length}
 use borrow.Author.Needs.{needs}
 use Rattle.rules.specs.Answer.{Bytes}
+use Rattle.rules.specs.Limits.{script-width}
 use Rattle.rules.specs.Script.{size}
 use Rattle.records.proofs.Stands.{room}
 use Rattle.contraction.specs.Plans.{PartRoom}
@@ -29,7 +30,7 @@ ended c = c .before .before .before .before .before
 end : (c : tie.After-end-of) (q : Q (start c)) → c .end-of .result ≡ start c .args .x + size (q .part)
 end c q = c .end-of .ensures (q .part) (q .stands)
 
-inside : (s : tie.Start) → 6 * s .args .x + 6 * size (s .pre .part) ≤ length (P s)
+inside : (s : tie.Start) → script-width * s .args .x + script-width * size (s .pre .part) ≤ length (P s)
 inside s = room _ _ _ (s .pre .stands)
 
 end-of-requires : tie.Need-end-of-requires
@@ -79,7 +80,7 @@ returns c q =
     let d = i .before in
     let s = start d in
     protect-placed _ _ (s .args .start) (q .part) _ (s .args .written .now) _ _ (i .indirect .ensures)
-    (own-bytes (q .stands) (6 * (d .end-of .result - s .args .x)) (omega (arith, end d q)))
+    (own-bytes (q .stands) (script-width * (d .end-of .result - s .args .x)) (omega (arith, end d q)))
     (omega (arith, q .fits))
     (w .write-record .ensures)
     (p .copy-part .ensures)

@@ -1,13 +1,14 @@
 -- `contraction::write_raised` meets its contract: it writes the value's own record with other groups, and its operands' bytes.
 use mathlib.Core.Path.{_≡_, ap₂, _∙_}
-use Prim.Native.Nat.{_+_, _*_, _-_, _≤_}
+use Prim.Native.Nat.{_+_, _*_, _-_, _≤_, _<_}
 use native.Mathlib.Omega.{arith}
 use lib.ListN.{length}
 use borrow.Author.Needs.{needs}
 use Rattle.rules.specs.Answer.{Bytes}
+use Rattle.rules.specs.Limits.{script-width}
 use Rattle.rules.specs.Groups.{join}
-use Rattle.rules.specs.Script.{size, ir}
-use Rattle.records.proofs.Stands.{room, room-one}
+use Rattle.rules.specs.Script.{records, size, ir}
+use Rattle.records.proofs.Stands.{room, there}
 use Rattle.substitution.proofs.Reading.{size-from}
 use Rattle.contraction.specs.Plans.{RaisedRoom}
 use Rattle.contraction.proofs.Plans.{operand-bytes, raise-placed}
@@ -46,11 +47,11 @@ known c = ended (joined (told c))
 end : (c : tie.After-end-of) (q : Q (start c)) → c .end-of .result ≡ start c .args .at + 1 + size (q .value)
 end c q = c .end-of .ensures (q .value) (q .stands)
 
-inside : (s : tie.Start) → 6 * (s .args .at + 1) + 6 * size (s .pre .value) ≤ length (P s)
+inside : (s : tie.Start) → script-width * (s .args .at + 1) + script-width * size (s .pre .value) ≤ length (P s)
 inside s = room _ _ _ (s .pre .stands)
 
-own-record : (s : tie.Start) → 6 * (s .args .at + 1) + 6 ≤ length (P s)
-own-record s = room-one _ _ _ (s .pre .stands)
+own-record : (s : tie.Start) → s .args .at + 1 < records (P s)
+own-record s = there _ _ _ (s .pre .stands)
 
 some-record : (s : tie.Start) → 1 ≤ size (s .pre .value)
 some-record s = size-from (s .pre .value)
@@ -127,13 +128,13 @@ returns c q =
     let s = start d in
     let g = s .args .groups .now in
     let by = j .before .before .before .before .indirect .ensures in
-    let from = 6 * (s .args .at + 1) + 6 in
+    let from = script-width * (s .args .at + 1) + script-width in
     raise-placed g (q .stands) (ir (P s) (s .args .at)) _ _ _ _ (s .args .start) _ (s .args .written .now) _ _ (q .is-one)
     (k .before .before .kind .ensures)
     (j .before .before .joined .ensures ∙ ap₂ (join g) (j .before .before .before .reader .ensures) by)
     (j .joined2 .ensures ∙ ap₂ (join g) (j .before .indirect2 .ensures) by)
     (k .before .number .ensures)
-    (operand-bytes (q .stands) from (6 * d .end-of .result - from) (omega arith) (omega (arith, end d q, size-from (q .value))))
+    (operand-bytes (q .stands) from (script-width * d .end-of .result - from) (omega arith) (omega (arith, end d q, size-from (q .value))))
     (omega (arith, q .fits, size-from (q .value)))
     (w .before .before .write-record .ensures)
     (p .copy-part .ensures)

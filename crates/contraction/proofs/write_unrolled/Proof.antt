@@ -9,11 +9,12 @@ use Rattle.calculus.specs.Types.{top}
 use Rattle.calculus.specs.Terms.{Term, mu}
 use Rattle.calculus.specs.Reduction.{unrolled}
 use Rattle.rules.specs.Answer.{Bytes}
+use Rattle.rules.specs.Limits.{script-width}
 use Rattle.rules.specs.Groups.{readers}
 use Rattle.rules.specs.Types.{type-count, type-at}
 use Rattle.rules.specs.Script.{size, encode}
 use Rattle.records.specs.Place.{At}
-use Rattle.records.proofs.Stands.{room, room-one, at-op1}
+use Rattle.records.proofs.Stands.{room, there, at-first}
 use Rattle.redex.proofs.Answers.{function-inside}
 use Rattle.contraction.specs.Plans.{UnrolledRoom}
 use Rattle.contraction.proofs.Plans.{own-bytes, rolled-bytes, type-groups, recursion-number}
@@ -56,11 +57,11 @@ fronted c = c .before .before .before .before
 end : (c : tie.After-number) (q : Q (start c)) → ended c .end-of .result ≡ start c .args .at + size (mu (q .type) (q .body))
 end c q = ended c .end-of .ensures (mu (q .type) (q .body)) (q .stands)
 
-inside : (s : tie.Start) → 6 * s .args .at + 6 * size (mu (s .pre .type) (s .pre .body)) ≤ length (P s)
+inside : (s : tie.Start) → script-width * s .args .at + script-width * size (mu (s .pre .type) (s .pre .body)) ≤ length (P s)
 inside s = room _ _ _ (s .pre .stands)
 
 body-at : (s : tie.Start) (q : Q s) → At (P s) (s .args .at + 1) (q .body)
-body-at s q = at-op1 _ _ _ (q .stands) (omega arith)
+body-at s q = at-first _ _ _ (q .stands) (omega arith)
 
 named : (c : tie.After-number) (q : Q (start c)) → c .number .result ≡ q .type
 named c q = c .number .ensures ∙ recursion-number (q .stands)
@@ -80,10 +81,10 @@ front c =
     2 ∷ r ∷ ir ∷ 0 ∷ c .before .low .result ∷ c .high .result ∷ 6 ∷ r ∷ 0 ∷ 0 ∷ 0 ∷ 0 ∷ []
 
 abbrev length-of : tie.After-number → ℕ
-length-of c = 6 * ended c .end-of .result - 6 * start c .args .at
+length-of c = script-width * ended c .end-of .result - script-width * start c .args .at
 
 abbrev own : tie.After-number → Bytes
-own c = take (length-of c) (drop (6 * start c .args .at) (P (start c)))
+own c = take (length-of c) (drop (script-width * start c .args .at) (P (start c)))
 
 abbrev back : Bytes
 back = 0 ∷ 0 ∷ 0 ∷ 0 ∷ 0 ∷ 0 ∷ []
@@ -107,7 +108,7 @@ end-of-requires : tie.Need-end-of-requires
 end-of-requires c κs = let q = begin c .pre in record { tree = mu (q .type) (q .body); at = q .stands }
 
 number-requires : tie.Need-number-requires
-number-requires c κs = room-one _ _ _ (begin (c .before) .pre .stands)
+number-requires c κs = there _ _ _ (begin (c .before) .pre .stands)
 
 index-requires : tie.Need-index-requires
 index-requires c κs = search needs
@@ -149,7 +150,7 @@ mul-to c =
     omega (arith, end d (s .pre), inside s, s .good)
 
 add-write : tie.Need-add-write
-add-write c = let s = start (known c) in omega (arith, room-one _ _ _ (body-at s (s .pre)), s .good)
+add-write c = let s = start (known c) in omega (arith, there _ _ _ (body-at s (s .pre)), s .good)
 
 slice-aggregate-write : tie.Need-slice-aggregate-write
 slice-aggregate-write c = search needs

@@ -6,6 +6,7 @@ use native.Mathlib.Omega.{arith}
 use lib.ListN.{length}
 use borrow.Author.Needs.{needs}
 use Rattle.rules.specs.Answer.{Bytes}
+use Rattle.rules.specs.Limits.{script-width}
 use Rattle.rules.specs.Groups.{readers}
 use Rattle.rules.specs.Types.{type-at}
 use Rattle.rules.specs.Run.{run}
@@ -87,7 +88,7 @@ returns c =
     let h = run-so d in
     record {
       told = h .told;
-      first-is = cleared _ (w .last .1 .1 .1 .1 .0) _ (6 * w .result .records) (length (F s)) (f .clear-from .ensures)
+      first-is = cleared _ (w .last .1 .1 .1 .1 .0) _ (script-width * w .result .records) (length (F s)) (f .clear-from .ensures)
           (h .holds) (omega (arith, h .fits, w .kept .1 .1 .1 .1 .0)) (w .kept .1 .1 .1 .1 .0);
       scratch-is = all-cleared (w .last .1 .1 .1 .1 .1 .0) _ (length (W s)) (x .clear-from2 .ensures)
           (w .kept .1 .1 .1 .1 .1 .0);

@@ -84,21 +84,21 @@ abbrev end : Start → Term → End
 end s e = step-in (S s) (tab s) (s .args .room) e
 
 -- the term at the front is within the first buffer
-inside : (l : Turn) → 6 * l .loop .n ≤ length (start l .args .first .now)
+inside : (l : Turn) → script-width * l .loop .n ≤ length (start l .args .first .now)
 inside l = omega (arith, l .loop .inv .3 .fits, start l .pre .1)
 
 -- one step of the term at the front
 step-said : (c : Stepped) → c .step-term .result ≡ told (end (start (turn c)) (here (turn c)))
 step-said c =
     let l = turn c in
-    c .step-term .ensures .0 ∙ ap (λ (b : Bytes). told (end (start l) (term b))) (cut (l .loop .first) (6 * l .loop .n))
+    c .step-term .ensures .0 ∙ ap (λ (b : Bytes). told (end (start l) (term b))) (cut (l .loop .first) (script-width * l .loop .n))
 
 step-wrote : (c : Stepped)
     → c .step-term .last .1 .1 .1 .0 ≡ front-after (end (start (turn c)) (here (turn c))) (turn c .loop .scratch)
 step-wrote c =
     let l = turn c in
     c .step-term .ensures .1
-    ∙ ap (λ (b : Bytes). front-after (end (start l) (term b)) (l .loop .scratch)) (cut (l .loop .first) (6 * l .loop .n))
+    ∙ ap (λ (b : Bytes). front-after (end (start l) (term b)) (l .loop .scratch)) (cut (l .loop .first) (script-width * l .loop .n))
 
 -- the new term, and its limits
 moved : (c : Moving) → Went (end (start (turn (stepped c))) (here (turn (stepped c)))) (c .before .x .given .0 .0)
@@ -132,7 +132,7 @@ part-step-term-end c = let l = c .before .before in omega (arith, inside l, l .l
 step-term-requires : tie.Need-step-term-requires Inv-loop μ-loop
 step-term-requires c κs =
     let l = c .before .before .before .before in (
-      cut-start (l .loop .first) (6 * l .loop .n) (l .loop .inv .3 .start),
+      cut-start (l .loop .first) (script-width * l .loop .n) (l .loop .inv .3 .start),
       omega (arith, start l .pre .2, l .loop .inv .1),
     )
 
@@ -228,7 +228,7 @@ part-find-end c = let l = c .before .before in omega (arith, inside l, l .loop .
 find-requires : tie.Need-find-requires Inv-loop μ-loop
 find-requires c κs =
     let l = c .before .before .before .loop in
-    let q = cut-start (l .first) (6 * l .n) (l .inv .3 .start) in
+    let q = cut-start (l .first) (script-width * l .n) (l .inv .3 .start) in
     record { tree = term _; at = at-start _ (q .encoded); shallow = omega (arith, q .shallow) }
 
 spent-on-requires : tie.Need-spent-on-requires Inv-loop μ-loop
@@ -250,12 +250,12 @@ returns-2 c =
     let t = last c in
     let s = start t in
     let l = t .loop in
-    let q = cut-start (l .first) (6 * l .n) (l .inv .3 .start) in
+    let q = cut-start (l .first) (script-width * l .n) (l .inv .3 .start) in
     halted _ (l .steps) _ _
     (spent (S s) (tab s) (s .args .room) (s .args .budget) (l .steps) (given s) (here t) (l .inv .4)
     (omega (arith, l .inv .2, f .before .before .before .loop-test .left)) (f .find .result)
-    (transport (λ (b : Bytes). Finds (S s) (tab s) 0 0 (term b) (f .find .result)) (cut (l .first) (6 * l .n))
-    (f .find .ensures (term (take (6 * l .n - 0) (drop 0 (l .first)))) (at-start _ (q .encoded)))))
+    (transport (λ (b : Bytes). Finds (S s) (tab s) 0 0 (term b) (f .find .result)) (cut (l .first) (script-width * l .n))
+    (f .find .ensures (term (take (script-width * l .n - 0) (drop 0 (l .first)))) (at-start _ (q .encoded)))))
     (c .spent-on .ensures) refl refl (l .inv .3) (omega (arith, s .pre .1, l .inv .0))
 
 pub walk-spec : {M : Type 1} → statement M

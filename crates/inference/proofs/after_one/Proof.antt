@@ -128,13 +128,13 @@ node-long : (s : tie.Start) → script-width ≤ length (s .args .s .now)
 node-long s = long (s .pre .tree) (s .pre .is)
 
 kind-requires : tie.Need-kind-requires
-kind-requires c κs = node-long (begin c)
+kind-requires c κs = omega (arith, node-long (begin c))
 
 reader-requires : tie.Need-reader-requires
-reader-requires c κs = node-long (begin (c .before))
+reader-requires c κs = omega (arith, node-long (begin (c .before)))
 
 indirect-requires : tie.Need-indirect-requires
-indirect-requires c κs = node-long (begin (c .before .before))
+indirect-requires c κs = omega (arith, node-long (begin (c .before .before)))
 
 index-requires : tie.Need-index-requires
 index-requires c κs = node-long (begin (c .before .before .before))

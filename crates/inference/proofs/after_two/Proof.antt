@@ -50,13 +50,13 @@ node-long : (s : tie.Start) → script-width ≤ length (P s)
 node-long s = long (s .pre .tree) (s .pre .is)
 
 kind-requires : tie.Need-kind-requires
-kind-requires c κs = node-long (begin c)
+kind-requires c κs = omega (arith, node-long (begin c))
 
 reader-requires : tie.Need-reader-requires
-reader-requires c κs = node-long (start (c .before))
+reader-requires c κs = omega (arith, node-long (start (c .before)))
 
 indirect-requires : tie.Need-indirect-requires
-indirect-requires c κs = node-long (start (c .before .before))
+indirect-requires c κs = omega (arith, node-long (start (c .before .before)))
 
 pair-requires : tie.Need-pair-requires
 pair-requires c κs = search needs

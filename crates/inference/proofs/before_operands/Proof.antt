@@ -91,7 +91,7 @@ node-long : (s : tie.Start) → script-width ≤ length (P s)
 node-long s = long (s .pre .tree) (s .pre .is)
 
 kind-requires : tie.Need-kind-requires
-kind-requires c κs = node-long (begin c)
+kind-requires c κs = omega (arith, node-long (begin c))
 
 index-requires : tie.Need-index-requires
 index-requires c κs = node-long (begin (c .before))

@@ -70,7 +70,7 @@ node-long : (s : tie.Start) → script-width ≤ length (P s)
 node-long s = long (s .pre .tree) (s .pre .is)
 
 kind-requires : tie.Need-kind-requires
-kind-requires c κs = node-long (begin c)
+kind-requires c κs = omega (arith, node-long (begin c))
 
 returns : tie.Need-returns
 unfolding between second-context operand-count
@@ -82,7 +82,7 @@ returns c =
     (enters-as (sym (asked s v e)) (context s v e) (stayed (v .binders) (v .holds)), λ z. front-aside (ap operand-count e) (v .sized))
 
 reader-requires : tie.Need-reader-requires
-reader-requires c κs = node-long (begin (c .before .before))
+reader-requires c κs = omega (arith, node-long (begin (c .before .before)))
 
 may-read-requires : tie.Need-may-read-requires
 may-read-requires c κs = search needs

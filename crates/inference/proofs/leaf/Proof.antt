@@ -78,7 +78,7 @@ node-long : (s : tie.Start) → script-width ≤ length (P s)
 node-long s = long (s .pre .tree) (s .pre .is)
 
 kind-requires : tie.Need-kind-requires
-kind-requires c κs = node-long (begin c)
+kind-requires c κs = omega (arith, node-long (begin c))
 
 index-requires : tie.Need-index-requires
 index-requires c κs = node-long (start (c .before))
@@ -107,10 +107,10 @@ returns c =
     meets-of (ap (leaf-type (v .ctx)) (is-var (x .before .before) v)) (x .variable .ensures (v .ctx) (v .binders) (v .holds))
 
 reader-requires : tie.Need-reader-requires
-reader-requires c κs = node-long (start (c .before .before))
+reader-requires c κs = omega (arith, node-long (start (c .before .before)))
 
 indirect-requires : tie.Need-indirect-requires
-indirect-requires c κs = node-long (start (c .before .before .before))
+indirect-requires c κs = omega (arith, node-long (start (c .before .before .before)))
 
 put-requires : tie.Need-put-requires
 put-requires c κs = search needs

@@ -1,7 +1,9 @@
 -- `records::signature_of` meets its contract: each line is the rules' line of that kind, and past the table nothing is named.
-use mathlib.Core.Path.{sym, ap, _∙_}
-use Rattle.rules.specs.Script.{signature-of}
-use Rattle.records.proofs.Table.{past-table, past-twelve}
+use mathlib.Core.Path.{_≡_, sym, ap, _∙_}
+use Prim.Native.Nat.{ℕ, suc, _≤_}
+use native.Mathlib.Omega.{arith}
+use Rattle.rules.specs.Script.{signatures, signature-of}
+use Rattle.records.proofs.Table.{past-table}
 use borrow.Author.Needs.{needs}
 use Rattle.records.proofs.signature_of.Statement.{statement}
 use Rattle.records.proofs.signature_of.Tie as tie
@@ -93,11 +95,14 @@ returns-12 : tie.Need-returns-12
 unfolding signature-of
 returns-12 c = c .entry12 .ensures ∙ ap signature-of (sym (c .before .match .keys12))
 
+past : {k n : ℕ} → (k ≡ n → ⊥) → n ≤ k → suc n ≤ k
+past h l = omega arith
+
 returns-13 : tie.Need-returns-13
+unfolding signatures
 returns-13 c =
-    let m = c .before .match .rest in c .entry13 .ensures ∙ sym (past-table _ (past-twelve _ (m .0 .0 .0 .0 .0 .0 .0 .0 .0 .0 .0 .1) (m .0 .0 .0 .0 .0 .0 .0 .0 .0 .0 .1)
-    (m .0 .0 .0 .0 .0 .0 .0 .0 .0 .1) (m .0 .0 .0 .0 .0 .0 .0 .0 .1) (m .0 .0 .0 .0 .0 .0 .0 .1) (m .0 .0 .0 .0 .0 .0 .1) (m .0 .0 .0 .0 .0 .1)
-    (m .0 .0 .0 .0 .1) (m .0 .0 .0 .1) (m .0 .0 .1) (m .0 .1) (m .1)))
+    let m = c .before .match .rest in
+    c .entry13 .ensures ∙ sym (past-table _ (past (m .1) (past (m .0 .1) (past (m .0 .0 .1) (past (m .0 .0 .0 .1) (past (m .0 .0 .0 .0 .1) (past (m .0 .0 .0 .0 .0 .1) (past (m .0 .0 .0 .0 .0 .0 .1) (past (m .0 .0 .0 .0 .0 .0 .0 .1) (past (m .0 .0 .0 .0 .0 .0 .0 .0 .1) (past (m .0 .0 .0 .0 .0 .0 .0 .0 .0 .1) (past (m .0 .0 .0 .0 .0 .0 .0 .0 .0 .0 .1) (past (m .0 .0 .0 .0 .0 .0 .0 .0 .0 .0 .0 .1) (omega arith))))))))))))))
 
 pub signature-of-spec : {M : Type 1} → statement M
 signature-of-spec =

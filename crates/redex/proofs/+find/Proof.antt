@@ -3,7 +3,6 @@
 use mathlib.Core.Path.{_≡_, refl, sym, subst, _∙_}
 use mathlib.Core.Bool.{So}
 use native.Mathlib.Omega.{arith}
-use lib.ListN.{length}
 use borrow.Author.Needs.{needs}
 use Rattle.calculus.specs.Security.{Security}
 use Rattle.calculus.specs.Types.{Ty}
@@ -11,16 +10,16 @@ use Rattle.calculus.specs.Terms.{Term, is-value}
 use Rattle.rules.specs.Limits.{depth-limit}
 use Rattle.rules.specs.Groups.{readers}
 use Rattle.rules.specs.Types.{type-at}
-use Rattle.rules.specs.Script.{size}
+use Rattle.rules.specs.Script.{records, size}
 use Rattle.records.specs.Place.{At}
 use Rattle.redex.specs.declared.Found.{Found}
 use Rattle.records.specs.Operands.{first-operand, second-operand}
 use Rattle.redex.specs.Found.{Finds, finds-value}
-use Rattle.records.proofs.Stands.{kind-of, room-one, stands-kind, here}
+use Rattle.records.proofs.Stands.{kind-of, there, stands-kind, here}
 use Rattle.redex.proofs.Places.{kind-bound}
 use Rattle.redex.proofs.Forms.{Position, first-position, Second, second-position, unit-value, function-value, injection-value, variable-turn, recursion-turn, operand-turn, protect-fate}
 use Rattle.redex.proofs.Searches.{either, neither, past-six, found-value, position-at, position-shallow, lift, fired}
-use Prim.Native.Nat.{ℕ, _+_, _-_, _*_, _≤_, _<_}
+use Prim.Native.Nat.{ℕ, _+_, _-_, _≤_, _<_}
 use borrow.Fn.Kinds.{In}
 use borrow.Fn.PlainCycle.{Measures, is, falls, and}
 use Rattle.redex.proofs.find.Reads as find
@@ -70,8 +69,8 @@ module _ (t : ℕ) where
   kind-is : (c : Read) (e : Term) → U (st c) e → c .kind .result ≡ kind-of e
   kind-is c e a = c .kind .ensures ∙ stands-kind _ _ e a
 
-  room : (c : Start) → 6 * c .args .at + 6 ≤ length (c .args .script .now)
-  room c = room-one _ _ _ (c .pre .1 .at)
+  record-there : (c : Start) → c .args .at < records (c .args .script .now)
+  record-there c = there _ _ _ (c .pre .1 .at)
 
   -- once kinds 0, 1, 2 and 11 are answered: the first operand comes next
   abbrev Four : Type 0
@@ -142,12 +141,12 @@ module _ (t : ℕ) where
       (c .before .second .given .1)
       (c .before .before .before .find2 .ensures (second-operand e) (later-at (seven c) e a)))
 
-  -- a node with an operand has a second record
-  two-records : (c : Four) → 6 * st (read4 c) .args .at + 12 ≤ length (st (read4 c) .args .script .now)
-  two-records c = omega (arith, room-one _ _ _ (operand-at c _ (st (read4 c) .pre .1 .at)))
+  -- a node with an operand has the record after its own
+  operand-there : (c : Four) → st (read4 c) .args .at + 1 < records (st (read4 c) .args .script .now)
+  operand-there c = there _ _ _ (operand-at c _ (st (read4 c) .pre .1 .at))
 
   find-kind-requires : find-lts.Need-kind-requires (find-claims t) (find-at t) find.Post
-  find-kind-requires c κs = omega (arith, room (c .before .before .before))
+  find-kind-requires c κs = record-there (c .before .before .before)
 
   find-returns : find-lts.Need-returns (find-claims t) (find-at t) find.Post
   find-returns c e a =
@@ -156,7 +155,7 @@ module _ (t : ℕ) where
       fired (S (st g)) (tab (st g)) _ _ e (v .0) (rw (v .1))
 
   find-add-t12 : find-lts.Need-add-t12 (find-claims t) (find-at t) find.Post
-  find-add-t12 c = let g = c .before .before in omega (arith, room (st g), st g .good)
+  find-add-t12 c = let g = c .before .before in omega (arith, record-there (st g), st g .good)
 
   find-returns-2 : find-lts.Need-returns-2 (find-claims t) (find-at t) find.Post
   find-returns-2 c e a =
@@ -174,7 +173,7 @@ module _ (t : ℕ) where
       finds-value (function-value e (sym (kind-is g e a) ∙ c .before .if3 .taken)) (c .end-of .ensures e a)
 
   find-unrolling-requires : find-lts.Need-unrolling-requires (find-claims t) (find-at t) find.Post
-  find-unrolling-requires c κs = omega (arith, room (st (c .before .before .before .before)))
+  find-unrolling-requires c κs = record-there (st (c .before .before .before .before))
 
   find-returns-4 : find-lts.Need-returns-4 (find-claims t) (find-at t) find.Post
   find-returns-4 c e a =
@@ -183,7 +182,7 @@ module _ (t : ℕ) where
       fired (S (st g)) (tab (st g)) _ _ e (v .0) (c .unrolling .ensures (S (st g)) e a (sym (g .kind .ensures) ∙ c .before .if4 .taken))
 
   find-add-find : find-lts.Need-add-find (find-claims t) (find-at t) find.Post
-  find-add-find c = omega (arith, room (st (read4 c)), st (read4 c) .good)
+  find-add-find c = omega (arith, record-there (st (read4 c)), st (read4 c) .good)
 
   find-add-find-2 : find-lts.Need-add-find-2 (find-claims t) (find-at t) find.Post
   find-add-find-2 c = omega (arith, st (read4 c) .pre .1 .shallow)
@@ -224,7 +223,7 @@ module _ (t : ℕ) where
       (rw (protect-fate (S g) (tab g) e h))
 
   find-reading-requires : find-lts.Need-reading-requires (find-claims t) (find-at t) find.Post
-  find-reading-requires c κs = omega (arith, two-records (four (c .before .before .before)))
+  find-reading-requires c κs = operand-there (four (c .before .before .before))
 
   find-returns-8 : find-lts.Need-returns-8 (find-claims t) (find-at t) find.Post
   find-returns-8 c e a =
@@ -265,7 +264,7 @@ module _ (t : ℕ) where
       finds-value (later f e a .paired (sym q ∙ c .if8 .taken) (v .0)) n
 
   find-reading-requires-2 : find-lts.Need-reading-requires-2 (find-claims t) (find-at t) find.Post
-  find-reading-requires-2 c κs = omega (arith, two-records (four (told7 (seven (c .before)))))
+  find-reading-requires-2 c κs = operand-there (four (told7 (seven (c .before))))
 
   find-returns-11 : find-lts.Need-returns-11 (find-claims t) (find-at t) find.Post
   find-returns-11 c e a =

@@ -6,6 +6,7 @@ use lib.ListN.{length}
 use borrow.Author.Needs.{needs}
 use Rattle.calculus.specs.Terms.{Term}
 use Rattle.rules.specs.Answer.{Bytes}
+use Rattle.rules.specs.Limits.{script-width}
 use Rattle.rules.specs.Groups.{readers}
 use Rattle.rules.specs.Types.{type-at}
 use Rattle.rules.specs.Script.{records, encode, size}
@@ -64,11 +65,11 @@ total s q =
 inside : (s : tie.Start) (q : Q s) → s .args .end ≤ records (P s)
 inside s q = end-inside (q .start) (q .site) (s .args .end) (q .end-is)
 
-bytes : (s : tie.Start) (q : Q s) → length (P s) ≡ 6 * records (P s)
+bytes : (s : tie.Start) (q : Q s) → length (P s) ≡ script-width * records (P s)
 bytes s q = length-is (q .start) (q .site)
 
 abbrev fit : (s : tie.Start) (q : Q s) (w : Bytes) → length w ≡ length (W s)
-    → Fit (G s) (T s) (P s) (s .args .at) (s .args .plan) w (6 * s .args .at)
+    → Fit (G s) (T s) (P s) (s .args .at) (s .args .plan) w (script-width * s .args .at)
 fit s q w l = record {
   ready = record {
     tree = q .site .redex;
@@ -137,9 +138,9 @@ returns c q =
     let f = copied (x .before) in
     let s = start f in
     let kept = f .copy-part .kept .1 .1 .1 .0 in
-    new-term (q .start) (q .site) (new s q) (s .args .end) (6 * s .args .at + 6 * s .args .records) (W s)
+    new-term (q .start) (q .site) (new s q) (s .args .end) (script-width * s .args .at + script-width * s .args .records) (W s)
     (f .copy-part .last .1 .1 .1 .0) (x .write-contractum .last .1 .1 .1 .1 .1 .0) _ (q .end-is)
-    (ap (λ n. 6 * s .args .at + 6 * n) (q .count-is))
+    (ap (λ n. script-width * s .args .at + script-width * n) (q .count-is))
     (f .copy-part .ensures) kept
     (x .write-contractum .ensures (fit s q _ kept)) (x .write-contractum .kept .1 .1 .1 .1 .1 .0)
     (b .copy-part2 .ensures)

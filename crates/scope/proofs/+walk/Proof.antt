@@ -11,7 +11,7 @@ use lib.ListN.{length}
 use Rattle.calculus.specs.Terms.{Term}
 use Rattle.rules.specs.Script.{arity}
 use Rattle.records.specs.Place.{At}
-use Rattle.records.proofs.Stands.{operands, kind-of, here, room-one, stands-kind, stands-arity}
+use Rattle.records.proofs.Stands.{operands, kind-of, here, there, stands-kind, stands-arity}
 use Rattle.scope.specs.Stops.{walked}
 use Rattle.scope.specs.Walk.{passes, increment}
 use Rattle.scope.proofs.Walks.{scanned, refuse, Reached, reach, Ahead, ahead, end, operand-at, stop, pass}
@@ -117,7 +117,7 @@ module _ (t : ℕ) where
   operand-scan c u w = c .walk .ensures _ (operand-at _ (ahead-of (c .before) u w))
 
   passes-requires : lts.Need-passes-requires (claims t) (walk-at t) walk.Post Inv-loop μ-loop
-  passes-requires c κs = room-one _ _ _ (given (c .before))
+  passes-requires c κs = there _ _ _ (given (c .before))
 
   returns : lts.Need-returns (claims t) (walk-at t) walk.Post Inv-loop μ-loop
   returns c u w =
@@ -125,13 +125,13 @@ module _ (t : ℕ) where
       refuse (a .question) (a .script .now) (a .i) (a .n) u (sym (c .before .passes .ensures) ∙ not-true _ (c .if1 .taken))
 
   kind-requires : lts.Need-kind-requires (claims t) (walk-at t) walk.Post Inv-loop μ-loop
-  kind-requires c κs = room-one _ _ _ (given (c .before .before .before))
+  kind-requires c κs = there _ _ _ (given (c .before .before .before))
 
   arity-requires : lts.Need-arity-requires (claims t) (walk-at t) walk.Post Inv-loop μ-loop
   arity-requires c κs = search needs
 
   add-next : lts.Need-add-next (claims t) (walk-at t) walk.Post Inv-loop μ-loop
-  add-next c = omega (arith, room-one _ _ _ (given (entry c)), entry c .good)
+  add-next c = omega (arith, there _ _ _ (given (entry c)), entry c .good)
 
   loop-holds : lts.Need-loop-holds (claims t) (walk-at t) walk.Post Inv-loop μ-loop
   loop-holds c = (omega arith, λ u w. reach _ _ _ _ u w (passed c))
@@ -140,13 +140,13 @@ module _ (t : ℕ) where
   increment-requires c κs = search needs
 
   add-walk : lts.Need-add-walk (claims t) (walk-at t) walk.Post Inv-loop μ-loop
-  add-walk c = omega (arith, room-one _ _ _ (given (start c)), start c .good, start c .pre .1 .1, c .increment .ensures .1)
+  add-walk c = omega (arith, there _ _ _ (given (start c)), start c .good, start c .pre .1 .1, c .increment .ensures .1)
 
   walk-requires : lts.Need-walk-requires (claims t) (walk-at t) walk.Post Inv-loop μ-loop
   walk-requires c κs =
       let s = start c in
       let p = so-far c _ (given s) in (
-        omega (arith, room-one _ _ _ (given s), s .pre .0, p .after),
+        omega (arith, there _ _ _ (given s), s .pre .0, p .after),
         (here (operand-at p (ahead-of c _ (given s))), omega (arith, p .after, s .pre .1 .1, c .increment .ensures .1)),
       )
 

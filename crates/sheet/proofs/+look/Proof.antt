@@ -8,8 +8,10 @@ use borrow.Fn.Kinds.{In}
 use borrow.Fn.PlainCycle.{Measures, is, falls, and}
 use lib.ListN.{length}
 use Rattle.calculus.specs.Terms.{Term}
+use Rattle.rules.specs.Script.{records}
 use Rattle.records.specs.Place.{At}
-use Rattle.records.proofs.Stands.{kind-of, op1, op2, here, room-one, stands-kind, at-op1, at-op2}
+use Rattle.records.specs.Operands.{first-operand, second-operand}
+use Rattle.records.proofs.Stands.{kind-of, here, there, stands-kind, at-first, at-second}
 use Rattle.sheet.specs.Value.{looked}
 use Rattle.sheet.proofs.Values.{Found, found, lost, is-other, looked-no, looked-yes, no-object, no-parts, first-part, injects, pairs, look-injection, look-pair, lines-size}
 use Rattle.sheet.proofs.look.Reads as look
@@ -41,8 +43,8 @@ module _ (t : ℕ) where
   abbrev Stands : Start → Term → Type 0
   Stands c u = At (c .args .value .now) (c .args .i) u
 
-  record-fits : (c : Start) → c .args .i + 1 ≤ length (c .args .value .now)
-  record-fits c = omega (arith, room-one _ _ _ (c .pre .1 .0 .at))
+  record-there : (c : Start) → c .args .i < records (c .args .value .now)
+  record-there c = there _ _ _ (c .pre .1 .0 .at)
 
   -- the record's kind is known
   abbrev Known : Type 0
@@ -70,8 +72,8 @@ module _ (t : ℕ) where
   is-object : (c : Parts) (u : Term) → Stands (enter c) u → kind-of u ≤ 5
   is-object c u w = omega (arith, kind-is (known c) u w, c .before .if2 .left)
 
-  first-at : (c : Parts) (u : Term) → Stands (enter c) u → At (enter c .args .value .now) (enter c .args .i + 1) (op1 u)
-  first-at c u w = at-op1 _ _ u w (first-part u (has-parts c u w) (is-object c u w) .0)
+  first-at : (c : Parts) (u : Term) → Stands (enter c) u → At (enter c .args .value .now) (enter c .args .i + 1) (first-operand u)
+  first-at c u w = at-first _ _ u w (first-part u (has-parts c u w) (is-object c u w) .0)
 
   -- the first part is a value
   abbrev Past : Type 0
@@ -89,11 +91,11 @@ module _ (t : ℕ) where
   abbrev so-far : Past → ℕ
   so-far c = c .before .first .given .0 .1 .0
 
-  first-is : (c : Past) (u : Term) → Stands (begin c) u → c .before .before .before .look .result ≡ looked (op1 u) (begin c .args .i + 1) (begin c .args .count + 1)
-  first-is c u w = c .before .before .before .look .ensures (op1 u) (first-at (parts c) u w)
+  first-is : (c : Past) (u : Term) → Stands (begin c) u → c .before .before .before .look .result ≡ looked (first-operand u) (begin c .args .i + 1) (begin c .args .count + 1)
+  first-is c u w = c .before .before .before .look .ensures (first-operand u) (first-at (parts c) u w)
 
-  first-found : (c : Past) (u : Term) → Stands (begin c) u → Found (op1 u) (begin c .args .i + 1) (begin c .args .count + 1) (next c) (so-far c)
-  first-found c u w = found (op1 u) _ _ _ _ (sym (first-is c u w) ∙ c .before .first .given .1)
+  first-found : (c : Past) (u : Term) → Stands (begin c) u → Found (first-operand u) (begin c .args .i + 1) (begin c .args .count + 1) (next c) (so-far c)
+  first-found c u w = found (first-operand u) _ _ _ _ (sym (first-is c u w) ∙ c .before .first .given .1)
 
   -- the node is a pair
   abbrev Both : Type 0
@@ -102,11 +104,11 @@ module _ (t : ℕ) where
   a-pair : (c : Both) (u : Term) → Stands (begin (c .before)) u → kind-of u ≡ 3
   a-pair c u w = sym (kind-is (known (parts (c .before))) u w) ∙ c .if4 .left
 
-  second-at : (c : Both) (u : Term) → Stands (begin (c .before)) u → At (begin (c .before) .args .value .now) (next (c .before)) (op2 u)
-  second-at c u w = at-op2 _ _ u w (next (c .before)) (pairs u (a-pair c u w) .two) (first-found (c .before) u w .end)
+  second-at : (c : Both) (u : Term) → Stands (begin (c .before)) u → At (begin (c .before) .args .value .now) (next (c .before)) (second-operand u)
+  second-at c u w = at-second _ _ u w (next (c .before)) (pairs u (a-pair c u w) .two) (first-found (c .before) u w .end)
 
   look-kind-requires : lts.Need-kind-requires (claims t) (look-at t) look.Post
-  look-kind-requires c κs = room-one _ _ _ (c .before .pre .1 .0 .at)
+  look-kind-requires c κs = record-there (c .before)
 
   look-returns : lts.Need-returns (claims t) (look-at t) look.Post
   look-returns c u w = sym (looked-no u _ _ (no-object u (λ l. absurd (omega (arith, kind-is (c .before) u w, c .if1 .taken)))))
@@ -118,7 +120,7 @@ module _ (t : ℕ) where
   look-end-of-requires c κs = start (c .before .before .before) .pre .1 .0
 
   look-add-t10 : lts.Need-add-t10 (claims t) (look-at t) look.Post
-  look-add-t10 c = let s = start (c .before .before .before .before) in omega (arith, record-fits s, s .pre .1 .1, s .good)
+  look-add-t10 c = let s = start (c .before .before .before .before) in omega (arith, record-there s, s .pre .1 .1, s .good)
 
   look-returns-3 : lts.Need-returns-3 (claims t) (look-at t) look.Post
   look-returns-3 c u w =
@@ -127,15 +129,15 @@ module _ (t : ℕ) where
       looked-yes u _ _ _ _ (p .0) (c .end-of .ensures u w) (omega (arith, p .1))
 
   look-add-look : lts.Need-add-look (claims t) (look-at t) look.Post
-  look-add-look c = let s = enter c in omega (arith, record-fits s, s .good)
+  look-add-look c = let s = enter c in omega (arith, record-there s, s .good)
 
   look-add-look-2 : lts.Need-add-look-2 (claims t) (look-at t) look.Post
-  look-add-look-2 c = let s = enter c in omega (arith, record-fits s, s .pre .1 .1, s .good)
+  look-add-look-2 c = let s = enter c in omega (arith, record-there s, s .pre .1 .1, s .good)
 
   look-look-requires : lts.Need-look-requires (claims t) (look-at t) look.Post
   look-look-requires c κs =
       let s = enter c in
-      (omega (arith, s .pre .0, record-fits s), (here (first-at c _ (s .pre .1 .0 .at)), omega (arith, s .pre .1 .1)))
+      (omega (arith, s .pre .0, record-there s), (here (first-at c _ (s .pre .1 .0 .at)), omega (arith, s .pre .1 .1)))
 
   look-enum-known-first : lts.Need-enum-known-first (claims t) (look-at t) look.Post
   look-enum-known-first c = search needs
@@ -148,7 +150,7 @@ module _ (t : ℕ) where
       let d = c .before .before in
       let p = d .before in
       let x = d .look .result in
-      let v = lost (op1 u) _ _ x (c .before .match .keys2) (d .look .ensures (op1 u) (first-at p u w)) in
+      let v = lost (first-operand u) _ _ x (c .before .match .keys2) (d .look .ensures (first-operand u) (first-at p u w)) in
       is-other x (c .before .match .keys2) ∙ sym (looked-no u _ _ (first-part u (has-parts p u w) (is-object p u w) .1 v))
 
   look-returns-5 : lts.Need-returns-5 (claims t) (look-at t) look.Post
@@ -164,12 +166,12 @@ module _ (t : ℕ) where
       let u = s .pre .1 .0 .tree in
       let w = s .pre .1 .0 .at in
       let f = first-found (c .before) u w in
-      (omega (arith, s .pre .0, record-fits s, f .end, room-one _ _ _ (second-at c u w)), (here (second-at c u w), omega (arith, s .pre .1 .1, f .end, f .count, lines-size (op1 u))))
+      (omega (arith, s .pre .0, record-there s, f .end, there _ _ _ (second-at c u w)), (here (second-at c u w), omega (arith, s .pre .1 .1, f .end, f .count, lines-size (first-operand u))))
 
   look-returns-6 : lts.Need-returns-6 (claims t) (look-at t) look.Post
   look-returns-6 c u w =
       let b = c .before in
-      c .look2 .ensures (op2 u) (second-at b u w) ∙ look-pair u _ _ _ _ (pairs u (a-pair b u w)) (first-found (b .before) u w)
+      c .look2 .ensures (second-operand u) (second-at b u w) ∙ look-pair u _ _ _ _ (pairs u (a-pair b u w)) (first-found (b .before) u w)
 
 pub +look-spec : {M : Type 1} → statement M
 +look-spec =

@@ -2,15 +2,18 @@
 -- right in the script.
 use mathlib.Core.Path.{_≡_, sym, ap, _∙_}
 use mathlib.Core.Bool.{true}
-use Prim.Native.Nat.{ℕ, _+_, _*_, _-_, _≤_, _<_}
+use Prim.Native.Nat.{ℕ, _+_, _*_, _-_, _/_, _<_}
 use native.Mathlib.Omega.{arith}
 use borrow.Fn.Kinds.{In}
 use borrow.Fn.PlainCycle.{Measures, is, falls, and}
 use lib.ListN.{length}
 use Rattle.calculus.specs.Terms.{Term, is-value}
 use Rattle.rules.specs.Answer.{Bytes}
+use Rattle.rules.specs.Limits.{sheet-width}
+use Rattle.rules.specs.Script.{records}
 use Rattle.records.specs.Place.{At}
-use Rattle.records.proofs.Stands.{kind-of, op1, op2, here, room-one, stands-kind, at-op1, at-op2}
+use Rattle.records.specs.Operands.{first-operand, second-operand}
+use Rattle.records.proofs.Stands.{kind-of, here, there, stands-kind, at-first, at-second}
 use Rattle.memory.specs.Splice.{splice}
 use Rattle.sheet.specs.Shown.{shown}
 use Rattle.sheet.specs.Value.{Room, Wrote}
@@ -61,11 +64,11 @@ module _ (t : ℕ) where
   abbrev Stands : Start → Term → Type 0
   Stands c u = At (c .args .value .now) (c .args .i) u
 
-  record-fits : (c : Start) → 6 * c .args .i + 6 ≤ length (c .args .value .now)
-  record-fits c = room-one _ _ _ (room c .at)
+  record-there : (c : Start) → c .args .i < records (c .args .value .now)
+  record-there c = there _ _ _ (room c .at)
 
-  line-fits : (c : Start) → 4 * c .args .at + 4 ≤ length (c .args .sheet .now)
-  line-fits c = omega (arith, room c .fits, object (room c .tree) (room c .value) .2)
+  line-there : (c : Start) → c .args .at < length (c .args .sheet .now) / sheet-width
+  line-there c = omega (arith, room c .fits, object (room c .tree) (room c .value) .2)
 
   -- the node's record is written, and its kind is known
   abbrev Known : Type 0
@@ -81,10 +84,10 @@ module _ (t : ℕ) where
   line-kept c = c .before .before .before .put .kept .0
 
   line-is : (c : Known)
-      → line-written c ≡ splice (4 * start c .args .at) (shown (start c .args .groups .now) (start c .args .group .0) (start c .args .value .now) (start c .args .i)) (start c .args .sheet .now)
+      → line-written c ≡ splice (sheet-width * start c .args .at) (shown (start c .args .groups .now) (start c .args .group .0) (start c .args .value .now) (start c .args .i)) (start c .args .sheet .now)
   line-is c =
       c .before .before .before .put .ensures
-      ∙ ap (λ (b : Bytes). splice (4 * start c .args .at) b (start c .args .sheet .now)) (c .before .before .before .before .line-of .ensures)
+      ∙ ap (λ (b : Bytes). splice (sheet-width * start c .args .at) b (start c .args .sheet .now)) (c .before .before .before .before .line-of .ensures)
 
   kind-is : (c : Known) (u : Term) → Stands (start c) u → c .kind .result ≡ kind-of u
   kind-is c u w = c .kind .ensures ∙ stands-kind _ _ u w
@@ -116,10 +119,10 @@ module _ (t : ℕ) where
   part-kept c = c .write .kept .1 .1 .1 .1 .0
 
   first-wrote : (c : Past) (u : Term) → Stands (begin c) u → is-value u ≡ true
-      → Wrote (begin c .args .groups .now) (begin c .args .group .0) (begin c .args .i + 1) (begin c .args .at + 1) (op1 u) (line-written (parts c .before)) (c .write .result) (part-written c)
+      → Wrote (begin c .args .groups .now) (begin c .args .group .0) (begin c .args .i + 1) (begin c .args .at + 1) (first-operand u) (line-written (parts c .before)) (c .write .result) (part-written c)
   first-wrote c u w v =
       let l = has-parts (parts c) u w in
-      c .write .ensures (op1 u) (at-op1 _ _ u w (first-part u l (object u v .1) .0)) (first-of u v l .value)
+      c .write .ensures (first-operand u) (at-first _ _ u w (first-part u l (object u v .1) .0)) (first-of u v l .value)
 
   -- the node is a pair
   abbrev Both : Type 0
@@ -132,19 +135,19 @@ module _ (t : ℕ) where
   a-pair c u w = sym (kind-is (parts (past c) .before) u w) ∙ c .if2 .left
 
   write-line-of-requires : lts.Need-line-of-requires (claims t) (write-at t) write.Post
-  write-line-of-requires c κs = record-fits (c .before .before .before .before)
+  write-line-of-requires c κs = record-there (c .before .before .before .before)
 
   write-put-requires : lts.Need-put-requires (claims t) (write-at t) write.Post
-  write-put-requires c κs = line-fits (c .before .before .before .before .before)
+  write-put-requires c κs = line-there (c .before .before .before .before .before)
 
   write-kind-requires : lts.Need-kind-requires (claims t) (write-at t) write.Post
-  write-kind-requires c κs = record-fits (c .before .before .before .before .before .before .before .before)
+  write-kind-requires c κs = record-there (c .before .before .before .before .before .before .before .before)
 
   write-end-of-requires : lts.Need-end-of-requires (claims t) (write-at t) write.Post
   write-end-of-requires c κs = here (room (start (c .before)) .at)
 
   write-add-t17 : lts.Need-add-t17 (claims t) (write-at t) write.Post
-  write-add-t17 c = let s = start (c .before .before) in omega (arith, line-fits s, s .good)
+  write-add-t17 c = let s = start (c .before .before) in omega (arith, line-there s, s .good)
 
   write-same-length : lts.Need-same-length (claims t) (write-at t) write.Post
   write-same-length c = line-kept (c .before .before)
@@ -152,20 +155,20 @@ module _ (t : ℕ) where
   write-returns : lts.Need-returns (claims t) (write-at t) write.Post
   write-returns c u w v =
       let k = c .before .before in
-      wrote-alone _ _ _ _ (start k .args .at) u w v _ _ (omega (arith, line-fits (start k))) (line-is k) _ (omega (arith, kind-is k u w, c .before .if1 .taken))
+      wrote-alone _ _ _ _ (start k .args .at) u w v _ _ (omega (arith, line-there (start k))) (line-is k) _ (omega (arith, kind-is k u w, c .before .if1 .taken))
       (c .end-of .ensures u w)
 
   write-add-write : lts.Need-add-write (claims t) (write-at t) write.Post
-  write-add-write c = let s = enter c in omega (arith, record-fits s, s .good)
+  write-add-write c = let s = enter c in omega (arith, record-there s, s .good)
 
   write-add-write-2 : lts.Need-add-write-2 (claims t) (write-at t) write.Post
-  write-add-write-2 c = let s = enter (c .before) in omega (arith, line-fits s, s .good)
+  write-add-write-2 c = let s = enter (c .before) in omega (arith, line-there s, s .good)
 
   write-write-requires : lts.Need-write-requires (claims t) (write-at t) write.Post
   write-write-requires c κs =
       let p = c .before in
       let s = enter p in
-      (omega (arith, s .pre .0, record-fits s), room-first (room s) _ (has-parts p _ (room s .at)) (line-kept (p .before)))
+      (omega (arith, s .pre .0, record-there s), room-first (room s) _ (has-parts p _ (room s .at)) (line-kept (p .before)))
 
   write-same-length-2 : lts.Need-same-length-2 (claims t) (write-at t) write.Post
   write-same-length-2 c = let p = c .before .before .before in part-kept p ∙ line-kept (parts p .before)
@@ -175,7 +178,7 @@ module _ (t : ℕ) where
       let p = c .before .before .before in
       let k = parts p .before in
       let s = start k in
-      wrote-injection _ _ _ _ (s .args .at) u w v _ _ (omega (arith, line-fits s)) (line-is k) (line-kept k) _ _ (first-wrote p u w v) (has-parts (parts p) u w)
+      wrote-injection _ _ _ _ (s .args .at) u w v _ _ (omega (arith, line-there s)) (line-is k) (line-kept k) _ _ (first-wrote p u w v) (has-parts (parts p) u w)
       (λ h. c .if2 .taken (kind-is k u w ∙ h))
 
   write-write-requires-2 : lts.Need-write-requires-2 (claims t) (write-at t) write.Post
@@ -186,7 +189,7 @@ module _ (t : ℕ) where
       let q = room s in
       let x = first-wrote p (q .tree) (q .at) (q .value) in
       let z = room-second q (a-pair b (q .tree) (q .at)) (part-kept p ∙ line-kept (parts p .before)) x in
-      (omega (arith, s .pre .0, record-fits s, x .next, room-one _ _ _ (z .at)), z)
+      (omega (arith, s .pre .0, record-there s, x .next, there _ _ _ (z .at)), z)
 
   write-same-length-3 : lts.Need-same-length-3 (claims t) (write-at t) write.Post
   write-same-length-3 c =
@@ -203,8 +206,8 @@ module _ (t : ℕ) where
       let s = start k in
       let h = a-pair b u w in
       let x = first-wrote p u w v in
-      wrote-pair _ _ _ _ (s .args .at) u w v _ _ (omega (arith, line-fits s)) (line-is k) (line-kept k) _ _ x h (part-kept p) _ _
-      (d .write2 .ensures (op2 u) (at-op2 _ _ u w (p .write .result .next) (pairs u h .two) (x .next)) (second-value u v (pairs u h)))
+      wrote-pair _ _ _ _ (s .args .at) u w v _ _ (omega (arith, line-there s)) (line-is k) (line-kept k) _ _ x h (part-kept p) _ _
+      (d .write2 .ensures (second-operand u) (at-second _ _ u w (p .write .result .next) (pairs u h .two) (x .next)) (second-value u v (pairs u h)))
 
 pub +write-spec : {M : Type 1} → statement M
 +write-spec =

@@ -1,6 +1,7 @@
 -- `sheet::put` meets its contract: four stores are one piece.
 use native.Mathlib.Omega.{arith}
 use Prim.Native.Nat.{_*_}
+use Rattle.rules.specs.Limits.{sheet-width}
 use lib.ListN.{length-set}
 use borrow.Author.Needs.{needs}
 use Rattle.memory.proofs.Laws.{four}
@@ -35,7 +36,7 @@ same-length : tie.Need-same-length
 same-length c = search needs
 
 returns : tie.Need-returns
-returns c = let s = c .before .before in four (4 * s .args .at) (s .args .sheet .now) (s .args .line .kind) (s .args .line .r .0) (s .args .line .ir .0) (s .pre)
+returns c = let s = c .before .before in four (sheet-width * s .args .at) (s .args .sheet .now) (s .args .line .kind) (s .args .line .r .0) (s .args .line .ir .0) (omega arith)
 
 pub put-spec : {M : Type 1} → statement M
 put-spec =

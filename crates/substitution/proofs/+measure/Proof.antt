@@ -11,7 +11,7 @@ use Rattle.rules.specs.Answer.{Bytes}
 use Rattle.rules.specs.Script.{size, depth, arity}
 use Rattle.rules.proofs.TermCode.{term-operands}
 use Rattle.records.specs.Place.{At}
-use Rattle.records.proofs.Stands.{kind-of, room-one, stands-kind, stands-arity}
+use Rattle.records.proofs.Stands.{kind-of, there, stands-kind, stands-arity}
 use Rattle.records.specs.Binders.{binds}
 use Rattle.substitution.specs.Substituted.{value-limit, Sizes}
 use Rattle.substitution.proofs.Counting.{Ahead, ahead, operand-here, operand-sizes, Counted, counted-none, counted-more, counted-bound, counted-all, measured-variable}
@@ -122,10 +122,10 @@ module _ (t : ℕ) where
       counted-more p n _ (level-is (c .before) u v a e f) (c .measure .result) (c .measure .ensures (n .operand) v (operand-here (p .passed) n a) e f)
 
   kind-requires : lts.Need-kind-requires (claims t) (measure-at t) measure.Post Inv-loop μ-loop
-  kind-requires c κs = room-one _ _ _ (sizes (c .before) .at)
+  kind-requires c κs = there _ _ _ (sizes (c .before) .at)
 
   measure-variable-requires : lts.Need-measure-variable-requires (claims t) (measure-at t) measure.Post Inv-loop μ-loop
-  measure-variable-requires c κs = room-one _ _ _ (sizes (c .before .before .before) .at)
+  measure-variable-requires c κs = there _ _ _ (sizes (c .before .before .before) .at)
 
   returns : lts.Need-returns (claims t) (measure-at t) measure.Post Inv-loop μ-loop
   returns c u v a e f =
@@ -136,7 +136,7 @@ module _ (t : ℕ) where
   arity-requires c κs = search needs
 
   add-next : lts.Need-add-next (claims t) (measure-at t) measure.Post Inv-loop μ-loop
-  add-next c = omega (arith, room-one _ _ _ (sizes (c .before .before .before .before) .at), c .before .before .before .before .good)
+  add-next c = omega (arith, there _ _ _ (sizes (c .before .before .before .before) .at), c .before .before .before .before .good)
 
   loop-holds : lts.Need-loop-holds (claims t) (measure-at t) measure.Post Inv-loop μ-loop
   loop-holds c = (omega arith, λ u v a e f. counted-none _ _ u v)
@@ -156,7 +156,7 @@ module _ (t : ℕ) where
       let p = so-far c _ _ (q .at) (q .records-of) (q .depth-of) in
       let n = ahead-of c _ _ (q .at) (q .records-of) (q .depth-of) in
       let z = operand-sizes q (p .passed) n (start c .args .n + c .binders .result) (omega (arith, c .binders .ensures .1)) in
-      (omega (arith, start c .pre .0, p .passed .next-is, room-one _ _ _ (z .at)), z)
+      (omega (arith, start c .pre .0, p .passed .next-is, there _ _ _ (z .at)), z)
 
   add-sum : lts.Need-add-sum (claims t) (measure-at t) measure.Post Inv-loop μ-loop
   add-sum c =

@@ -9,10 +9,11 @@ use borrow.Fn.PlainCycle.{Measures, is, falls, and}
 use lib.ListN.{length}
 use Rattle.calculus.specs.Terms.{Term, subst}
 use Rattle.rules.specs.Answer.{Bytes}
+use Rattle.rules.specs.Limits.{script-width}
 use Rattle.rules.specs.Script.{encode, arity}
 use Rattle.rules.proofs.TermCode.{term-operands, term-head}
 use Rattle.records.specs.Place.{At}
-use Rattle.records.proofs.Stands.{kind-of, room-one, stands-kind, stands-arity}
+use Rattle.records.proofs.Stands.{kind-of, there, stands-kind, stands-arity}
 use Rattle.memory.specs.Splice.{splice}
 use Rattle.records.specs.Binders.{binds}
 use Rattle.substitution.specs.Substituted.{Room}
@@ -41,7 +42,7 @@ write-below t = and 5 write-kinds.ps (falls 5 write-kinds.ps _<_ μ-write t) wri
 
 abbrev Inv-loop : lts.InvT-loop
 Inv-loop script i front mid back n to₀ at k count next₀ end₀ j₀ to next end j =
-    (j ≤ count) × ((e v : Term) → At script i e → front ++ (mid ++ back) ≡ encode v → Copied i n e v (at + 6) to₀ j next end to)
+    (j ≤ count) × ((e v : Term) → At script i e → front ++ (mid ++ back) ≡ encode v → Copied i n e v (at + script-width) to₀ j next end to)
 
 abbrev μ-loop : lts.MeasureT-loop
 μ-loop script i front mid back n to₀ at k count next₀ end₀ j₀ to next end j = count - j
@@ -87,7 +88,7 @@ module _ (t : ℕ) where
   abbrev Given : Start → Term → Type 0
   Given c v = c .args .front .now ++ (c .args .mid .now ++ c .args .back .now) ≡ encode v
 
-  record-fits : (c : Start) → c .args .at + 6 ≤ length (c .args .to .now)
+  record-fits : (c : Start) → c .args .at + script-width ≤ length (c .args .to .now)
   record-fits c = omega (arith, room c .fits, size-from (subst (c .args .n) (room c .value) (room c .tree)))
 
   -- the record is written, and the node is no variable
@@ -117,7 +118,7 @@ module _ (t : ℕ) where
   start c = entry (known c)
 
   module _ (c : Turn) (u v : Term) (a : Stands (start c) u) (e : Given (start c) v) where
-    abbrev so-far : Copied (start c .args .i) (start c .args .n) u v (start c .args .at + 6) (record-written (known c)) (c .before .before .loop .j)
+    abbrev so-far : Copied (start c .args .i) (start c .args .n) u v (start c .args .at + script-width) (record-written (known c)) (c .before .before .loop .j)
         (c .before .before .loop .next) (c .before .before .loop .end) (c .before .before .loop .to)
     so-far = c .before .before .loop .inv .1 u v a e
 
@@ -135,7 +136,7 @@ module _ (t : ℕ) where
   written c = c .write .last .1 .1 .1 .1 .1 .1 .0
 
   so-far-next : (c : Turned) (u v : Term) → Stands (start (c .before .before)) u → Given (start (c .before .before)) v
-      → Copied (start (c .before .before) .args .i) (start (c .before .before) .args .n) u v (start (c .before .before) .args .at + 6)
+      → Copied (start (c .before .before) .args .i) (start (c .before .before) .args .n) u v (start (c .before .before) .args .at + script-width)
       (record-written (known (c .before .before))) (c .before .before .before .before .loop .j + 1) (c .write .result .next) (c .write .result .end) (written c)
   so-far-next c u v a e =
       let k = c .before .before in
@@ -145,7 +146,7 @@ module _ (t : ℕ) where
       (c .write .ensures (n .operand) v (operand-here (p .passed) n a) e) (c .write .kept .1 .1 .1 .1 .1 .1 .0)
 
   kind-requires : lts.Need-kind-requires (claims t) (write-at t) write.Post Inv-loop μ-loop
-  kind-requires c κs = room-one _ _ _ (room (c .before .before .before .before .before) .at)
+  kind-requires c κs = there _ _ _ (room (c .before .before .before .before .before) .at)
 
   write-variable-requires : lts.Need-write-variable-requires (claims t) (write-at t) write.Post Inv-loop μ-loop
   write-variable-requires c κs = (room (c .before .before .before .before .before .before .before .before), sym (c .before .before .kind .ensures) ∙ c .before .if1 .taken)
@@ -159,10 +160,10 @@ module _ (t : ℕ) where
   mul-copy-part : lts.Need-mul-copy-part (claims t) (write-at t) write.Post Inv-loop μ-loop
   mul-copy-part c =
       let st = c .before .before .before .before .before .before .before in
-      omega (arith, room-one _ _ _ (room st .at), st .good)
+      omega (arith, there _ _ _ (room st .at), st .good)
 
   copy-part-requires : lts.Need-copy-part-requires (claims t) (write-at t) write.Post Inv-loop μ-loop
-  copy-part-requires c κs = (omega (arith, room-one _ _ _ (room (c .before .before .before .before .before .before .before .before) .at)), record-fits (c .before .before .before .before .before .before .before .before))
+  copy-part-requires c κs = (omega (arith, there _ _ _ (room (c .before .before .before .before .before .before .before .before) .at)), record-fits (c .before .before .before .before .before .before .before .before))
 
   arity-requires : lts.Need-arity-requires (claims t) (write-at t) write.Post Inv-loop μ-loop
   arity-requires c κs = search needs
@@ -170,7 +171,7 @@ module _ (t : ℕ) where
   add-next : lts.Need-add-next (claims t) (write-at t) write.Post Inv-loop μ-loop
   add-next c =
       let st = c .before .before .before .before .before .before .before .before .before .before .before .before in
-      omega (arith, room-one _ _ _ (room st .at), st .good)
+      omega (arith, there _ _ _ (room st .at), st .good)
 
   add-end : lts.Need-add-end (claims t) (write-at t) write.Post Inv-loop μ-loop
   add-end c =
@@ -197,7 +198,7 @@ module _ (t : ℕ) where
       let n = ahead-of (c .before) _ _ (q .at) (q .pieces) in
       let z = operand-room q p n (st .args .n + c .before .binders .result) (record-kept (known (c .before))) (other-kind (known (c .before)) _ (q .at))
       (level-is (c .before) _ _ (q .at) (q .pieces)) (omega (arith, c .before .binders .ensures .1)) in
-      (omega (arith, st .pre .0, p .passed .next-is, room-one _ _ _ (z .at)), z)
+      (omega (arith, st .pre .0, p .passed .next-is, there _ _ _ (z .at)), z)
 
   add-j : lts.Need-add-j (claims t) (write-at t) write.Post Inv-loop μ-loop
   add-j c =

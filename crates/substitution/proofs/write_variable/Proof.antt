@@ -7,8 +7,9 @@ use borrow.Author.Needs.{needs}
 use borrow.Author.Tests.{eqb-true, eqb-false}
 use lib.Dec.{eqb}
 use lib.ListN.{length}
+use Rattle.rules.specs.Limits.{script-width}
 use Rattle.rules.specs.Script.{size, kind, number}
-use Rattle.records.proofs.Stands.{room-one}
+use Rattle.records.proofs.Stands.{there}
 use Rattle.substitution.specs.Substituted.{Room}
 use Rattle.substitution.proofs.Reading.{term-length}
 use Rattle.substitution.proofs.Writing.{variable-here, variable-else, written-here, written-else}
@@ -23,7 +24,7 @@ abbrev kind-is : (c : tie.Start) → kind (c .args .script .now) (c .args .i) �
 kind-is c = c .pre .1
 
 -- a variable that is not variable n has room for its record
-record-fits : (c : tie.Start) {b : Bool} → b ≡ eqb (number (c .args .script .now) (c .args .i)) (c .args .n) → b ≡ false → c .args .at + 6 ≤ length (c .args .to .now)
+record-fits : (c : tie.Start) {b : Bool} → b ≡ eqb (number (c .args .script .now) (c .args .i)) (c .args .n) → b ≡ false → c .args .at + script-width ≤ length (c .args .to .now)
 record-fits c e h =
     let q = room c in
     let z = variable-else (q .at) (kind-is c) (c .args .n) (q .value) (eqb-false _ _ (sym e ∙ h)) in
@@ -32,10 +33,10 @@ record-fits c e h =
 add-next : tie.Need-add-next
 add-next c =
     let st = c .before .before .before .before .before in
-    omega (arith, room-one _ _ _ (room st .at), st .good)
+    omega (arith, there _ _ _ (room st .at), st .good)
 
 is-variable-requires : tie.Need-is-variable-requires
-is-variable-requires c κs = room-one _ _ _ (room (c .before .before .before .before .before) .at)
+is-variable-requires c κs = there _ _ _ (room (c .before .before .before .before .before) .at)
 
 write-three-requires : tie.Need-write-three-requires
 write-three-requires c κs =
@@ -56,12 +57,12 @@ returns c u v a e =
 mul-copy-part : tie.Need-mul-copy-part
 mul-copy-part c =
     let st = c .before .before .before .before .before .before .before in
-    omega (arith, room-one _ _ _ (room st .at), st .good)
+    omega (arith, there _ _ _ (room st .at), st .good)
 
 copy-part-requires : tie.Need-copy-part-requires
 copy-part-requires c κs =
     let st = c .before .before .before .before .before .before .before .before in
-    (omega (arith, room-one _ _ _ (room st .at)), record-fits st (c .before .before .is-variable .ensures) (c .before .if1 .left))
+    (omega (arith, there _ _ _ (room st .at)), record-fits st (c .before .before .is-variable .ensures) (c .before .if1 .left))
 
 add-end : tie.Need-add-end
 add-end c =

@@ -1,11 +1,10 @@
 -- `syntax::subterm` meets its contract: the part ends where the pending count does, which is within the script.
 use mathlib.Core.Path.{_≡_, sym, ap, _∙_}
 use native.Mathlib.Omega.{arith}
-use Prim.Native.Nat.{ℕ, _*_, _≤_}
+use Prim.Native.Nat.{ℕ, _≤_}
 use mathlib.Core.Option.{Option, some}
-use lib.ListN.{length}
 use Rattle.rules.specs.Answer.{Bytes}
-use Rattle.rules.specs.Script.{slice, subterm, term-end}
+use Rattle.rules.specs.Script.{records, slice, subterm, term-end}
 use Rattle.syntax.specs.Check.{shape-check}
 use Rattle.records.proofs.Ends.{is-short, is-before, end-inside}
 use Rattle.syntax.proofs.Asked.{no-part, whole-part, slice-is}
@@ -53,7 +52,7 @@ end c = c .before .e .given .0 .0
 ends : (c : tie.After-known-told) → term-end (P (start c)) (start c .args .index) ≡ some (end c)
 ends c = let t = ended c .term-end in is-before (t .result) _ (end c) (c .before .e .given .1) (t .ensures)
 
-inside : (c : tie.After-known-told) → (start c .args .index ≤ end c) × (6 * end c ≤ length (P (start c)))
+inside : (c : tie.After-known-told) → (start c .args .index ≤ end c) × (end c ≤ records (P (start c)))
 inside c = end-inside _ _ (end c) (ends c)
 
 shape-check-requires : tie.Need-shape-check-requires

@@ -1,0 +1,33 @@
+-- A term is made of its own record and its operands, so its kind alone tells its form.
+use mathlib.Core.Path.{_≡_, refl, ap, sym, _∙_}
+use Prim.Native.Nat.{ℕ}
+use Rattle.calculus.specs.Terms.{first, second, Term, var, unit, lam, pair, inj, app, proj, case, protect, mu}
+use Rattle.rules.specs.Script.{r, ir, number, make}
+use Rattle.rules.proofs.TermCode.{term-head, two-bytes}
+use Rattle.records.specs.Operands.{first-operand, second-operand, third-operand}
+use Rattle.records.proofs.Stands.{kind-of}
+
+-- the number of a term's own record
+abbrev pub number-of : Term → ℕ
+number-of e = number (term-head e) 0
+
+-- a term of kind k with the fields and the operands of e
+abbrev pub form : ℕ → Term → Term
+form k e = make k (r (term-head e) 0) (ir (term-head e) 0) (number-of e) (first-operand e) (second-operand e) (third-operand e)
+
+made : (e : Term) → e ≡ form (kind-of e) e
+made (var n) = ap var (sym (two-bytes n))
+made (unit k) = refl
+made (lam k i e) = ap (λ n. lam k n e) (sym (two-bytes i))
+made (pair k a b) = refl
+made (inj first k i e) = ap (λ n. inj first k n e) (sym (two-bytes i))
+made (inj second k i e) = ap (λ n. inj second k n e) (sym (two-bytes i))
+made (app w f a) = refl
+made (proj first w e) = refl
+made (proj second w e) = refl
+made (case w i e a b) = ap (λ n. case w n e a b) (sym (two-bytes i))
+made (protect m e) = refl
+made (mu i e) = ap (λ n. mu n e) (sym (two-bytes i))
+
+pub of-kind : (k : ℕ) (e : Term) → kind-of e ≡ k → e ≡ form k e
+of-kind k e h = made e ∙ ap (λ n. form n e) h
