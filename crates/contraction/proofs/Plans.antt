@@ -13,20 +13,21 @@ use Rattle.calculus.specs.Security.{Property, Indirect, Security}
 use Rattle.calculus.specs.Types.{Ty, top}
 use Rattle.calculus.specs.Terms.{first, second, Term, var, unit, lam, pair, inj, app, proj, case, protect, mu, is-value, subst, raise-value}
 use Rattle.calculus.specs.Reduction.{unrolled}
-use Rattle.rules.specs.Answer.{Bytes, byte}
+use Rattle.rules.specs.Answer.{Bytes}
 use Rattle.rules.specs.Limits.{script-width, script-limit}
 use Rattle.rules.specs.Groups.{join, readers}
 use Rattle.rules.specs.Types.{type-r, type-ir, type-at}
 use Rattle.rules.specs.Script.{records, kind, r, ir, number, script-record, encode, size, depth}
 use Rattle.rules.proofs.Prefix.{joined}
-use Rattle.rules.proofs.PrefixLaws.{after-head, record-is}
+use Rattle.rules.proofs.PrefixLaws.{after-head}
 use Rattle.rules.proofs.TermCode.{term-code, term-head, term-head-length, term-operands, term-encode-is, two-bytes}
-use Rattle.rules.proofs.RecordFields.{ir-is}
+use Rattle.records.specs.Kinds as kinds
 use Rattle.records.specs.Place.{At}
 use Rattle.records.specs.Operands.{first-operand}
 use Rattle.records.proofs.Stands.{kind-of, operands, there, stands-kind, at-first}
-use Rattle.redex.specs.Fates.{property-of, is-function, goes, misfit, fate, contractum}
-use Rattle.redex.proofs.Places.{number-of, reader-at, number-at}
+use Rattle.redex.specs.Fates.{property-of, is-function, goes, wrong-kind, fate, contractum}
+use Rattle.records.proofs.Made.{number-of}
+use Rattle.redex.proofs.Places.{reader-at, indirect-at, number-at}
 use Rattle.redex.proofs.Answers.{function-top}
 use Rattle.memory.specs.Splice.{splice}
 use Rattle.substitution.specs.Substituted.{value-limit}
@@ -163,8 +164,11 @@ pub body-size : (i : ℕ) (b : Term) → (size (mu i b) ≡ 1 + size b) × (dept
 unfolding size depth
 body-size i b = (refl, refl)
 
--- a substitution's records are few enough to be counted
-pub few : (v b : Term) → size v ≤ value-limit → size b ≤ script-limit → size (subst 0 v b) ≤ 134217728
+-- a substitution's records are few enough to be counted: each of the body's may be a variable that the value is put for
+abbrev pub contractum-limit : ℕ
+contractum-limit = script-limit * value-limit
+
+pub few : (v b : Term) → size v ≤ value-limit → size b ≤ script-limit → size (subst 0 v b) ≤ contractum-limit
 few v b l h = omega (arith, subst-bound v l b 0)
 
 -- Bytes. A term's own, and those of its operands.
@@ -182,21 +186,6 @@ module _ {s : Bytes} {x : ℕ} {e : Term} (a : At s x e) where
     where
       head-and-rest : length (term-head e ++ joined encode (term-operands e)) ≡ script-width + length (joined encode (term-operands e))
       head-and-rest = simp (length-append, term-head-length)
-
-  pub indirect-at : ir s x ≡ property-of e .ir
-  indirect-at = sym (ir-is s x) ∙ ap (λ b. ir b 0) (record-is term-code s x e (a .rest) (a .stands)) ∙ own-ir e
-    where
-      own-ir : (d : Term) → byte (term-head d) 2 ≡ property-of d .ir
-      own-ir (var n) = refl
-      own-ir (unit k) = refl
-      own-ir (lam k i d) = refl
-      own-ir (pair k b c) = refl
-      own-ir (inj d k i b) = refl
-      own-ir (app w f b) = refl
-      own-ir (proj d w b) = refl
-      own-ir (case w i d b c) = refl
-      own-ir (protect m d) = refl
-      own-ir (mu i d) = refl
 
 -- a raised value: its own record with other groups, and its operands as they are
 pub raised-bytes : (g : Bytes) (v : Term) (m : Indirect) → So (is-value v)
@@ -218,7 +207,7 @@ raised-bytes g (mu i e) m h = absurd (false≢true h)
 -- the unrolled function: two records, the recursion, a variable
 pub rolled-bytes : (g : Bytes) (i : ℕ) (k : Property) (b : Term) (r₁ ir₁ lo hi : ℕ) (mid : Bytes) → r₁ ≡ k .r → ir₁ ≡ k .ir → lo ≡ (i + 1) % 256
     → hi ≡ (i + 1) / 256 → mid ≡ encode (mu i b)
-    → (2 ∷ r₁ ∷ ir₁ ∷ 0 ∷ lo ∷ hi ∷ 6 ∷ r₁ ∷ 0 ∷ 0 ∷ 0 ∷ 0 ∷ []) ++ (mid ++ (0 ∷ 0 ∷ 0 ∷ 0 ∷ 0 ∷ 0 ∷ [])) ≡ encode (unrolled (readers g) i k b)
+    → (kinds.function ∷ r₁ ∷ ir₁ ∷ 0 ∷ lo ∷ hi ∷ kinds.application ∷ r₁ ∷ 0 ∷ 0 ∷ 0 ∷ 0 ∷ []) ++ (mid ++ (kinds.variable ∷ 0 ∷ 0 ∷ 0 ∷ 0 ∷ 0 ∷ [])) ≡ encode (unrolled (readers g) i k b)
 unfolding encode
 rolled-bytes g i k b r₁ ir₁ lo hi mid e1 e2 e3 e4 e5 = let z : i + 1 ≡ suc i = omega arith in rw (e1, e2, e3, e4, e5, z)
 
@@ -233,7 +222,7 @@ pub record-then : (k r₁ ir₁ n start : ℕ) (b w w1 w2 : Bytes) → start + s
 record-then k r₁ ir₁ n start b w w1 w2 l e1 e2 =
     e2 ∙ ap (splice (start + script-width) b) e1 ∙ join-after start (start + script-width) (script-record k r₁ ir₁ n) b w refl l
 
-pub protect-bytes : (m : Indirect) (e : Term) → script-record 10 0 m 0 ++ encode e ≡ encode (protect m e)
+pub protect-bytes : (m : Indirect) (e : Term) → script-record kinds.protect 0 m 0 ++ encode e ≡ encode (protect m e)
 unfolding encode
 protect-bytes m e = refl
 
@@ -242,7 +231,7 @@ pub goes-function : (S : Security) (tab : ℕ → Ty) (i : ℕ) (b : Term) → f
 unfolding fate
 goes-function S tab i b h = by (is-function (tab i)) refl h
   where
-    by : (x : Bool) → is-function (tab i) ≡ x → cond x goes misfit ≡ goes → So (is-function (tab i))
+    by : (x : Bool) → is-function (tab i) ≡ x → cond x goes wrong-kind ≡ goes → So (is-function (tab i))
     by true e h = e
     by false e h = let z : _≡_ {A = ℕ} 0 1 = cc in absurd (omega arith)
 
@@ -268,10 +257,10 @@ is-unrolled Unrolled k = refl
 
 -- a protect record, and a term after it
 pub protect-placed : (m m′ start : ℕ) (e : Term) (b w w1 w2 : Bytes) → m ≡ m′ → b ≡ encode e → start + script-width ≤ length w
-    → w1 ≡ splice start (script-record 10 0 m 0) w → w2 ≡ splice (start + script-width) b w1 → w2 ≡ splice start (encode (protect m′ e)) w
+    → w1 ≡ splice start (script-record kinds.protect 0 m 0) w → w2 ≡ splice (start + script-width) b w1 → w2 ≡ splice start (encode (protect m′ e)) w
 protect-placed m m′ start e b w w1 w2 p h l e1 e2 =
-    record-then 10 0 m 0 start b w w1 w2 l e1 e2
-    ∙ ap (λ x. splice start x w) (ap₂ (λ n x. script-record 10 0 n 0 ++ x) p h ∙ protect-bytes m′ e)
+    record-then kinds.protect 0 m 0 start b w w1 w2 l e1 e2
+    ∙ ap (λ x. splice start x w) (ap₂ (λ n x. script-record kinds.protect 0 n 0 ++ x) p h ∙ protect-bytes m′ e)
 
 -- a raised record, and the operands after it
 pub raise-placed : (g : Bytes) {s : Bytes} {x : ℕ} {v : Term} (a : At s x v) (m k₁ r₁ ir₁ n₁ start : ℕ) (b w w1 w2 : Bytes) → So (is-value v)

@@ -14,11 +14,12 @@ use Rattle.rules.specs.Script.{ir, encode, size, depth}
 use Rattle.records.specs.Place.{At}
 use Rattle.records.proofs.Stands.{operands, at-first}
 use Rattle.redex.specs.Fates.{property-of, fate, contractum}
+use Rattle.redex.proofs.Places.{indirect-at}
 use Rattle.memory.specs.Splice.{splice}
 use Rattle.contraction.specs.declared.Plan.{Plan}
 use Rattle.contraction.specs.declared.Plan.the-variants.{Part, Body, Raised, Unrolled}
 use Rattle.contraction.specs.Plans.{Planned, Ready, Fit, PartRoom, BodyRoom, RaisedRoom, UnrolledRoom}
-use Rattle.contraction.proofs.Plans.{PartPlan, part-plan, BodyPlan, body-plan, LiftPlan, lift-plan, RollPlan, roll-plan, raise-size, protect-size, body-size, unrolled-size, few, operand-there, indirect-at, goes-function, unroll-is, influence-of}
+use Rattle.contraction.proofs.Plans.{PartPlan, part-plan, BodyPlan, body-plan, LiftPlan, lift-plan, RollPlan, roll-plan, raise-size, protect-size, body-size, unrolled-size, few, operand-there, contractum-limit, goes-function, unroll-is, influence-of}
 
 pub planned-as : {s : Bytes} {e : Term} {p p′ : Plan} → p ≡ p′ → Planned s e p → Planned s e p′
 planned-as {s} {e} h q = transport (λ (x : Plan). Planned s e x) h q
@@ -128,7 +129,7 @@ module _ {g t s : Bytes} {at : ℕ} {p : Plan} {w : Bytes} {start : ℕ} (q : Fi
   unrolled-written h w′ k = renamed start w w′ (unroll-of h) k
 
 -- No plan makes more records than can be counted.
-pub contractum-few : (S : Security) (tab : ℕ → Ty) {s : Bytes} {at : ℕ} (p : Plan) (q : Ready s at p) → size (contractum S tab (q .tree)) ≤ 134217729
+pub contractum-few : (S : Security) (tab : ℕ → Ty) {s : Bytes} {at : ℕ} (p : Plan) (q : Ready s at p) → size (contractum S tab (q .tree)) ≤ contractum-limit + 1
 contractum-few S tab (Part x) q =
     let z = part-plan (q .planned) in
     omega (arith, ap size (z .is S tab), protect-size (influence-of S (q .tree)) (z .part) .0, z .small, q .small)

@@ -5,10 +5,12 @@ use lattice::Reader;
 use records::APPLICATION;
 use records::FIRST_INJECTION;
 use records::FIRST_PROJECTION;
+use records::FUNCTION;
 use records::PROTECT;
 use records::RECURSION;
 use records::SCRIPT_WIDTH;
 use records::SECOND_PROJECTION;
+use records::VARIABLE;
 ghost use mathlib.Core.Path.{_≡_};
 ghost use Prim.Native.Nat.{ℕ, _+_, _-_, _/_, _%_, _≤_};
 ghost use lib.ListN.{length};
@@ -167,7 +169,7 @@ fn write_part(script: &[u8], at: usize, x: usize, written: &mut [u8], start: usi
 {
     let end = records::end_of(script, x);
     let influence = records::indirect(script, at + 1);
-    write_record(10, Reader(0), influence, 0, written, start);
+    write_record(PROTECT, Reader(0), influence, 0, written, start);
     memory::copy_part(
         script,
         SCRIPT_WIDTH * x,
@@ -187,7 +189,7 @@ fn write_body(script: &[u8], at: usize, x: usize, y: usize, written: &mut [u8], 
 {
     let end = records::end_of(script, y);
     let influence = records::indirect(script, at + 1);
-    write_record(10, Reader(0), influence, 0, written, start);
+    write_record(PROTECT, Reader(0), influence, 0, written, start);
     let from = SCRIPT_WIDTH * y;
     let to = SCRIPT_WIDTH * end;
     substitution::write(
@@ -245,20 +247,20 @@ fn write_unrolled(types: &[u8], script: &[u8], at: usize, written: &mut [u8], st
     let parameter = named + 1;
     let caller = r.0;
     let front = [
-        2u8,
+        FUNCTION,
         r.0,
         ir.0,
         0,
         low(parameter),
         high(parameter),
-        6,
+        APPLICATION,
         caller,
         0,
         0,
         0,
         0,
     ];
-    let back = [0u8, 0, 0, 0, 0, 0];
+    let back = [VARIABLE, 0, 0, 0, 0, 0];
     let from = SCRIPT_WIDTH * at;
     let to = SCRIPT_WIDTH * end;
     substitution::write(

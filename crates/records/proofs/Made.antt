@@ -1,5 +1,5 @@
 -- A term is made of its own record and its operands, so its kind alone tells its form.
-use mathlib.Core.Path.{_≡_, refl, ap, sym, _∙_}
+use mathlib.Core.Path.{_≡_, refl, ap, sym, subst, _∙_}
 use Prim.Native.Nat.{ℕ}
 use Rattle.calculus.specs.Terms.{first, second, Term, var, unit, lam, pair, inj, app, proj, case, protect, mu}
 use Rattle.rules.specs.Script.{r, ir, number, make}
@@ -29,5 +29,9 @@ made (case w i e a b) = ap (λ n. case w n e a b) (sym (two-bytes i))
 made (protect m e) = refl
 made (mu i e) = ap (λ n. mu n e) (sym (two-bytes i))
 
-pub of-kind : (k : ℕ) (e : Term) → kind-of e ≡ k → e ≡ form k e
+of-kind : (k : ℕ) (e : Term) → kind-of e ≡ k → e ≡ form k e
 of-kind k e h = made e ∙ ap (λ n. form n e) h
+
+-- so what is shown of that form is shown of e
+pub by-kind : (P : Term → Type 0) (k : ℕ) (e : Term) → kind-of e ≡ k → P (form k e) → P e
+by-kind P k e h p = subst P (sym (of-kind k e h)) p

@@ -1,5 +1,5 @@
 -- The answers that are read off records: whether a type is a function, and the fate of a node.
-use mathlib.Core.Path.{_≡_, refl, sym, ap, ap₂, _∙_}
+use mathlib.Core.Path.{_≡_, refl, sym, ap, ap₂, subst, _∙_}
 use mathlib.Core.Bool.{Bool, cond, So, false≢true}
 use mathlib.Core.List.{[], _∷_}
 use Prim.Native.Nat.{ℕ, zero, suc, _+_, _*_, _≤_, _<_}
@@ -17,15 +17,15 @@ use Rattle.rules.specs.Limits.{type-width}
 use Rattle.rules.specs.Groups.{leq, readers}
 use Rattle.rules.specs.Types.{type-count, type-kind, type-r, type-ir, type-at, parse-types, make-type, no-type}
 use Rattle.rules.specs.Script.{kind, r, number}
+use Rattle.records.specs.Kinds as kinds
 use Rattle.records.specs.Place.{At}
-use Rattle.records.proofs.Stands.{kind-of, stands-kind}
+use Rattle.records.proofs.Stands.{kind-of, stands-kind, at-first}
 use Rattle.rules.proofs.TypePlaces.{type-at-outside}
-use Rattle.redex.specs.Fates.{goes, misfit, property-of, is-function, reading-fate, fate}
+use Rattle.redex.specs.Fates.{goes, wrong-kind, property-of, is-function, reading-fate, fate}
 use Rattle.records.specs.Operands.{first-operand}
-use Rattle.redex.specs.Found.{answer, takes-apart}
+use Rattle.redex.specs.Found.{answer, is-destructor, takes-apart}
 use Rattle.redex.proofs.Places.{reader-at, number-at}
-use Rattle.redex.proofs.Forms.{first-position, recursion-turn, reading-is}
-use Rattle.redex.proofs.Searches.{position-at}
+use Rattle.redex.proofs.Forms.{recursion-turn, reading-is}
 
 -- a type is a function by its first byte
 made-function : (k : ℕ) (p : Property) (s t : Ty) → eqb k 3 ≡ is-function (make-type k p s t)
@@ -82,24 +82,23 @@ function-top t i h =
 
 module _ {s : Bytes} {i : ℕ} {e : Term} (a : At s i e) where
   -- of a recursion, by the kind of the type that it names
-  pub recursion-answer : (S : Security) (t : Bytes) (n d : ℕ) (b : Bool) → kind s i ≡ 11 → n ≡ number s i → is-function (type-at t n) ≡ b
-      → answer (cond b goes misfit) i d ≡ answer (fate S (type-at t) e) i d
+  pub recursion-answer : (S : Security) (t : Bytes) (n d : ℕ) (b : Bool) → kind s i ≡ kinds.recursion → n ≡ number s i → is-function (type-at t n) ≡ b
+      → answer (cond b goes wrong-kind) i d ≡ answer (fate S (type-at t) e) i d
   recursion-answer S t n d b h p q =
       ap (λ x. answer x i d)
-      (ap (λ x. cond x goes misfit) (sym q) ∙ ap (λ m. cond (is-function (type-at t m)) goes misfit) (p ∙ number-at a)
+      (ap (λ x. cond x goes wrong-kind) (sym q) ∙ ap (λ m. cond (is-function (type-at t m)) goes wrong-kind) (p ∙ number-at a)
       ∙ sym (recursion-turn S (type-at t) e (sym (stands-kind s i e a) ∙ h) .1))
 
-  -- of a destructor, by its own record and the next
-  pub reading-answer : (g : Bytes) (tab : ℕ → Ty) (d : ℕ) (fits may : Bool) → 6 ≤ kind s i → kind s i ≤ 9
+  -- of a destructor, by its own record and that of the operand after it
+  pub reading-answer : (g : Bytes) (tab : ℕ → Ty) (d : ℕ) (fits may : Bool) → So (is-destructor (kind s i))
       → takes-apart (kind s i) (kind s (i + 1)) ≡ fits → leq g (r s (i + 1)) (r s i) ≡ may
       → answer (reading-fate fits may) i d ≡ answer (fate (readers g) tab e) i d
-  reading-answer g tab d fits may l h p q =
+  reading-answer g tab d fits may h p q =
       let k = stands-kind s i e a in
-      let o = position-at (i + 1) (first-position e (omega (arith, k)) (omega (arith, k))) a refl in
+      let x : So (is-destructor (kind-of e)) = subst (λ n. So (is-destructor n)) k h in
+      let z = reading-is (readers g) tab e x in
+      let o = at-first s i e a (z .0) in
       ap (λ x. answer x i d)
-      (ap (λ x. reading-fate x may) (sym p) ∙ ap (λ x. reading-fate (takes-apart (kind s i) (kind s (i + 1))) x) (sym q)
-      ∙ ap (λ x. reading-fate (takes-apart x (kind s (i + 1))) (leq g (r s (i + 1)) (r s i))) k
-      ∙ ap (λ x. reading-fate (takes-apart (kind-of e) x) (leq g (r s (i + 1)) (r s i))) (stands-kind s (i + 1) (first-operand e) o)
-      ∙ ap (λ x. reading-fate (takes-apart (kind-of e) (kind-of (first-operand e))) (leq g x (r s i))) (reader-at o)
-      ∙ ap (λ x. reading-fate (takes-apart (kind-of e) (kind-of (first-operand e))) (leq g (property-of (first-operand e) .r) x)) (reader-at a)
-      ∙ sym (reading-is (readers g) tab e (omega (arith, k)) (omega (arith, k))))
+      (ap₂ reading-fate (sym p) (sym q)
+      ∙ ap₂ reading-fate (ap₂ takes-apart k (stands-kind s (i + 1) (first-operand e) o)) (ap₂ (leq g) (reader-at o) (reader-at a))
+      ∙ sym (z .1))

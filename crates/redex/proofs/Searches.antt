@@ -2,11 +2,9 @@
 use mathlib.Core.Path.{_≡_, refl, sym, ap, _∙_}
 use mathlib.Core.Logic.{inl, inr}
 use mathlib.Core.List.{[], _∷_}
-use mathlib.Core.Bool.{Bool, true, false, So, _||_, true≢false}
-use Prim.Native.Nat.{ℕ, _+_, _≤_, _<_}
+use mathlib.Core.Bool.{So}
+use Prim.Native.Nat.{ℕ, _+_, _≤_}
 use native.Mathlib.Omega.{arith}
-use lib.Dec.{eqb}
-use borrow.Author.Tests.{eqb-true}
 use types.Run.{OneOf}
 use denote.Enum.Declared.{tagOf}
 use Rattle.calculus.specs.Security.{Security}
@@ -20,7 +18,7 @@ use Rattle.rules.specs.Limits.{depth-limit}
 use Rattle.rules.specs.Script.{size, depth}
 use Rattle.records.specs.Place.{At}
 use Rattle.redex.specs.Contexts.{offset, level}
-use Rattle.redex.specs.Fates.{Fate, goes, barred, misfit, ready, fate, contractum}
+use Rattle.redex.specs.Fates.{Fate, goes, not-permitted, wrong-kind, ready, fate, contractum}
 use Rattle.redex.specs.Found.{Site, Finds, finds-value, finds-redex, finds-denied, finds-stuck, answer}
 use Rattle.redex.specs.declared.Found.{Found}
 use Rattle.redex.specs.declared.Found.the-variants.{Value, Redex, Denied, Stuck}
@@ -46,21 +44,6 @@ finds-step (finds-stuck h) = h
 -- the end of what is reported as a value
 pub found-value : {S : Security} {tab : ℕ → Ty} {i d : ℕ} {e : Term} {n : ℕ} → Finds S tab i d e (Value n) → So (is-value e) × (n ≡ i + size e)
 found-value (finds-value v n) = (v, n)
-
--- the test for an injection
-pub either : (k : ℕ) → (eqb k 4 || eqb k 5) ≡ true → (4 ≤ k) × (k ≤ 5)
-either k h = by (eqb k 4) refl
-  where
-    by : (b : Bool) → eqb k 4 ≡ b → (4 ≤ k) × (k ≤ 5)
-    by true e = let f = eqb-true k 4 e in (omega arith, omega arith)
-    by false e = let f = eqb-true k 5 (rw e at h) in (omega arith, omega arith)
-
-pub neither : (k : ℕ) → (eqb k 4 || eqb k 5) ≡ false → (k ≡ 4 → ⊥) × (k ≡ 5 → ⊥)
-neither k h = (λ e. true≢false (rw e at h), λ e. true≢false (rw e at h))
-
--- the kinds past the application's
-pub past-six : {k j : ℕ} → k ≡ j → 6 < k → 7 ≤ j
-past-six e l = omega arith
 
 -- an operand's place
 pub position-at : {s : Bytes} {i : ℕ} {e x : Term} {n : ℕ} (j : ℕ) → Position e x n → At s i e → j ≡ i + n → At s j x
@@ -111,5 +94,5 @@ module _ (S : Security) (tab : ℕ → Ty) (i d : ℕ) (e : Term) where
     where
       by : (x : Fate) → fate S tab e ≡ x → Finds S tab i d e (answer x i d)
       by goes g = finds-redex (own-site t g)
-      by barred g = finds-denied (turn-step S tab e t ∙ rw g)
-      by misfit g = finds-stuck (turn-step S tab e t ∙ rw g)
+      by not-permitted g = finds-denied (turn-step S tab e t ∙ rw g)
+      by wrong-kind g = finds-stuck (turn-step S tab e t ∙ rw g)

@@ -11,7 +11,7 @@ use Rattle.calculus.proofs.Booleans.{and-left, and-right}
 use Rattle.calculus.proofs.Outcomes.{unfinished, within}
 use Rattle.calculus.proofs.Values.{value-step}
 use Rattle.calculus.proofs.Contexts.{plug-step}
-use Rattle.redex.specs.Fates.{Fate, goes, barred, misfit, is-function, ready, reading-fate, fate, contractum, fated}
+use Rattle.redex.specs.Fates.{Fate, goes, not-permitted, wrong-kind, is-function, ready, reading-fate, fate, contractum, fated}
 use Rattle.redex.specs.Found.{Site}
 
 reading-is : (b : Bool) (e : Term) → reading b e ≡ fated (reading-fate true b) e
@@ -21,8 +21,8 @@ reading-is false e = refl
 
 fated-unfinished : (x : Fate) (e : Term) → So (unfinished (fated x e))
 fated-unfinished goes e = refl
-fated-unfinished barred e = refl
-fated-unfinished misfit e = refl
+fated-unfinished not-permitted e = refl
+fated-unfinished wrong-kind e = refl
 
 module _ (S : Security) (tab : ℕ → Ty) where
   -- the step of e, if it is its turn
@@ -68,7 +68,7 @@ module _ (S : Security) (tab : ℕ → Ty) where
   branch-is w j (protect m e) a b = refl
   branch-is w j (mu i e) a b = refl
 
-  unroll-is : (i : ℕ) (e : Term) (t : Ty) → unroll S i e t ≡ fated (cond (is-function t) goes misfit) (subst zero (unrolled S i (top t) e) e)
+  unroll-is : (i : ℕ) (e : Term) (t : Ty) → unroll S i e t ≡ fated (cond (is-function t) goes wrong-kind) (subst zero (unrolled S i (top t) e) e)
   unfolding unroll
   unroll-is i e (one k) = refl
   unroll-is i e (node sum k s t) = refl

@@ -16,19 +16,20 @@ use Rattle.calculus.specs.Reduction.{
 }
 use Rattle.rules.specs.Answer.{Bytes}
 use Rattle.rules.specs.Script.{script-record, encode, size, depth}
+use Rattle.records.specs.Kinds as kinds
 
 -- the bytes before the hole
 unfoldable pub before : Context → Bytes
 unfolding encode
 before hole = []
-before (app-left w E a) = script-record 6 w 0 0 ++ before E
-before (app-right w v h E) = script-record 6 w 0 0 ++ (encode v ++ before E)
-before (in-proj d w E) = script-record (choose d 7 8) w 0 0 ++ before E
-before (in-inj d k i E) = script-record (choose d 4 5) (k .r) (k .ir) i ++ before E
-before (pair-left k E b) = script-record 3 (k .r) (k .ir) 0 ++ before E
-before (pair-right k v h E) = script-record 3 (k .r) (k .ir) 0 ++ (encode v ++ before E)
-before (in-protect m E) = script-record 10 0 m 0 ++ before E
-before (in-case w i E a b) = script-record 9 w 0 i ++ before E
+before (app-left w E a) = script-record kinds.application w 0 0 ++ before E
+before (app-right w v h E) = script-record kinds.application w 0 0 ++ (encode v ++ before E)
+before (in-proj d w E) = script-record (choose d kinds.first-projection kinds.second-projection) w 0 0 ++ before E
+before (in-inj d k i E) = script-record (choose d kinds.first-injection kinds.second-injection) (k .r) (k .ir) i ++ before E
+before (pair-left k E b) = script-record kinds.pair (k .r) (k .ir) 0 ++ before E
+before (pair-right k v h E) = script-record kinds.pair (k .r) (k .ir) 0 ++ (encode v ++ before E)
+before (in-protect m E) = script-record kinds.protect 0 m 0 ++ before E
+before (in-case w i E a b) = script-record kinds.case w 0 i ++ before E
 
 -- the bytes after it
 unfoldable pub after : Context → Bytes

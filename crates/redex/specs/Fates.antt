@@ -56,26 +56,26 @@ pub data Fate : Type 0 where
   -- it contracts
   goes : Fate
   -- its reader may not
-  barred : Fate
+  not-permitted : Fate
   -- no rule has its kind of operand
-  misfit : Fate
+  wrong-kind : Fate
 
 -- a reading of a value that has the wanted kind or not, by one who may or not: "wrong kind (decided before 2)"
 abbrev pub reading-fate : Bool → Bool → Fate
-reading-fate fits may = cond fits (cond may goes barred) misfit
+reading-fate fits may = cond fits (cond may goes not-permitted) wrong-kind
 
 unfoldable pub fate : Security → (ℕ → Ty) → Term → Fate
 unfolding built-by
-fate S tab (var n) = misfit
-fate S tab (unit k) = misfit
-fate S tab (lam k i e) = misfit
-fate S tab (pair k a b) = misfit
-fate S tab (inj d k i e) = misfit
+fate S tab (var n) = wrong-kind
+fate S tab (unit k) = wrong-kind
+fate S tab (lam k i e) = wrong-kind
+fate S tab (pair k a b) = wrong-kind
+fate S tab (inj d k i e) = wrong-kind
 fate S tab (app w f a) = reading-fate (built-by function f) (S .permits (property-of f) w)
 fate S tab (proj d w e) = reading-fate (built-by product e) (S .permits (property-of e) w)
 fate S tab (case w i e a b) = reading-fate (built-by sum e) (S .permits (property-of e) w)
 fate S tab (protect m e) = goes
-fate S tab (mu i e) = cond (is-function (tab i)) goes misfit
+fate S tab (mu i e) = cond (is-function (tab i)) goes wrong-kind
 
 -- Table 1's right sides. What no left side of table 1 fits is its own contractum.
 unfoldable pub contractum : Security → (ℕ → Ty) → Term → Term
@@ -95,5 +95,5 @@ contractum S tab (mu i e) = subst zero (unrolled S i (top (tab i)) e) e
 -- the step of a node whose own turn it is
 abbrev pub fated : Fate → Term → Outcome
 fated goes e = moved e
-fated barred e = denied
-fated misfit e = stuck
+fated not-permitted e = denied
+fated wrong-kind e = stuck

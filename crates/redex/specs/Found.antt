@@ -1,6 +1,6 @@
 -- What the search for the redex of a term reports.
 use mathlib.Core.Path.{_≡_}
-use mathlib.Core.Bool.{Bool, false, cond, So, _||_}
+use mathlib.Core.Bool.{Bool, false, cond, So, not, _&&_, _||_}
 use Prim.Native.Nat.{ℕ, _+_, _≤_}
 use lib.Dec.{eqb}
 use Rattle.calculus.specs.Security.{Security}
@@ -9,10 +9,11 @@ use Rattle.calculus.specs.Terms.{Term, is-value}
 use Rattle.calculus.specs.Reduction.{Context, plug, denied, stuck, step}
 use Rattle.rules.specs.Answer.{Bytes}
 use Rattle.rules.specs.Limits.{depth-limit}
-use Rattle.rules.specs.Script.{size, depth}
+use Rattle.rules.specs.Script.{signature-of, size, depth}
+use Rattle.records.specs.Kinds as kinds
 use Rattle.records.specs.Place.{At}
 use Rattle.redex.specs.Contexts.{offset, level}
-use Rattle.redex.specs.Fates.{Fate, goes, barred, misfit, ready, fate}
+use Rattle.redex.specs.Fates.{Fate, goes, not-permitted, wrong-kind, ready, fate}
 use Rattle.redex.specs.declared.Found.{Found}
 use Rattle.redex.specs.declared.Found.the-variants.{Value, Redex, Denied, Stuck}
 
@@ -43,11 +44,20 @@ pub data Finds (S : Security) (tab : ℕ → Ty) (i d : ℕ) (e : Term) : Found 
 -- the answer of the node at record i, once it is its own turn
 abbrev pub answer : Fate → ℕ → ℕ → Found
 answer goes i d = Redex i d
-answer barred i d = Denied
-answer misfit i d = Stuck
+answer not-permitted i d = Denied
+answer wrong-kind i d = Stuck
+
+-- A destructor reads what it takes apart, and makes nothing of its own: its record names a reader and no indirect ones.
+unfoldable pub is-destructor : ℕ → Bool
+unfolding signature-of
+is-destructor kind = signature-of kind .r && not (signature-of kind .ir)
+
+abbrev pub is-injection : ℕ → Bool
+is-injection kind = eqb kind kinds.first-injection || eqb kind kinds.second-injection
 
 -- Does a destructor of this kind take apart a value of that kind: an application a function, a projection a pair, a case an injection?
 abbrev pub takes-apart : ℕ → ℕ → Bool
 takes-apart destructor value =
-    cond (eqb destructor 6) (eqb value 2)
-    (cond (eqb destructor 7 || eqb destructor 8) (eqb value 3) (cond (eqb destructor 9) (eqb value 4 || eqb value 5) false))
+    cond (eqb destructor kinds.application) (eqb value kinds.function)
+    (cond (eqb destructor kinds.first-projection || eqb destructor kinds.second-projection) (eqb value kinds.pair)
+    (cond (eqb destructor kinds.case) (is-injection value) false))

@@ -14,16 +14,18 @@ use records::UNIT;
 use records::VARIABLE;
 use types::TYPE_WIDTH;
 ghost use mathlib.Core.Path.{_≡_};
-ghost use Prim.Native.Nat.{ℕ, _+_, _≤_, _<_};
+ghost use mathlib.Core.Bool.{So};
+ghost use Prim.Native.Nat.{ℕ, _+_, _<_};
 ghost use Rattle.calculus.specs.Security.{Security};
 ghost use Rattle.calculus.specs.Types.{Ty};
 ghost use Rattle.calculus.specs.Terms.{Term};
 ghost use Rattle.rules.specs.Groups.{leq, readers};
 ghost use Rattle.rules.specs.Types.{type-at};
 ghost use Rattle.rules.specs.Script.{records, kind, r};
+ghost use Rattle.records.specs.Kinds as kinds;
 ghost use Rattle.records.specs.Place.{At};
 ghost use Rattle.redex.specs.Fates.{is-function, fate};
-ghost use Rattle.redex.specs.Found.{Shallow, Finds, answer, takes-apart};
+ghost use Rattle.redex.specs.Found.{Shallow, Finds, answer, is-destructor, takes-apart};
 
 // What the search for the redex reports: a value and the record after it; the redex and the number of records around it; or why no
 // step moves the term, a reader that may not (end 2) or a wrong kind (end 3).
@@ -70,8 +72,8 @@ fn may_read(groups: &[u8], script: &[u8], at: usize) -> bool
 // The answer of the destructor at record `at`, whose evaluated operands are values: the kind is asked before the reader.
 fn reading(groups: &[u8], script: &[u8], at: usize, depth: usize) -> Found
     requires { ⌜ at + 1 < records (now script) ⌝ }
-    ensures { λ a. ⌜ ((tab : ℕ → Ty) (e : Term) → At (now (script .entry)) at e → 6 ≤ kind (now (script .entry)) at
-        → kind (now (script .entry)) at ≤ 9 → a ≡ answer (fate (readers (now (groups .entry))) tab e) at depth) ⌝ }
+    ensures { λ a. ⌜ ((tab : ℕ → Ty) (e : Term) → At (now (script .entry)) at e
+        → So (is-destructor (kind (now (script .entry)) at)) → a ≡ answer (fate (readers (now (groups .entry))) tab e) at depth) ⌝ }
 {
     let destructor = records::kind(script, at);
     let value = records::kind(script, at + 1);
@@ -87,7 +89,7 @@ fn reading(groups: &[u8], script: &[u8], at: usize, depth: usize) -> Found
 // The answer of the recursion at record `at`.
 fn unrolling(types: &[u8], script: &[u8], at: usize, depth: usize) -> Found
     requires { ⌜ at < records (now script) ⌝ }
-    ensures { λ a. ⌜ ((S : Security) (e : Term) → At (now (script .entry)) at e → kind (now (script .entry)) at ≡ 11
+    ensures { λ a. ⌜ ((S : Security) (e : Term) → At (now (script .entry)) at e → kind (now (script .entry)) at ≡ kinds.recursion
         → a ≡ answer (fate S (type-at (now (types .entry))) e) at depth) ⌝ }
 {
     let named = records::index(records::number(script, at));

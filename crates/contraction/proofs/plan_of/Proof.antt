@@ -4,6 +4,7 @@ use Prim.Native.Nat.{_+_, _<_}
 use native.Mathlib.Omega.{arith}
 use Rattle.rules.specs.Answer.{Bytes}
 use Rattle.rules.specs.Script.{records, size}
+use Rattle.records.specs.Kinds as kinds
 use Rattle.records.specs.Place.{At}
 use Rattle.records.specs.Operands.{first-operand}
 use Rattle.records.proofs.Stands.{kind-of, there, stands-kind, here}
@@ -44,17 +45,17 @@ choice c = destructs (ended c)
 own-kind : (c : tie.After-kind) (q : F (start c)) → c .kind .result ≡ kind-of (q .tree)
 own-kind c q = let s = start c in c .kind .ensures ∙ stands-kind (P s) (s .args .at) (q .tree) (q .stands)
 
-not-11 : (c : tie.Else1) (q : F (start (c .before))) → kind-of (q .tree) ≡ 11 → ⊥
-not-11 c q z = c .if1 .left (own-kind (c .before) q ∙ z)
+not-recursion : (c : tie.Else1) (q : F (start (c .before))) → kind-of (q .tree) ≡ kinds.recursion → ⊥
+not-recursion c q z = c .if1 .left (own-kind (c .before) q ∙ z)
 
-not-10 : (c : tie.Else2) (q : F (entry c)) → kind-of (q .tree) ≡ 10 → ⊥
-not-10 c q z = c .if2 .left (own-kind (seen c) q ∙ z)
+not-protect : (c : tie.Else2) (q : F (entry c)) → kind-of (q .tree) ≡ kinds.protect → ⊥
+not-protect c q z = c .if2 .left (own-kind (seen c) q ∙ z)
 
 taken : (c : tie.Else2) (q : F (entry c)) → At (P (entry c)) (entry c .args .at + 1) (first-operand (q .tree))
-taken c q = let s = entry c in taken-at (P s) (s .args .at) (q .stands) (q .left) (not-11 (c .before) q) (not-10 c q)
+taken c q = let s = entry c in taken-at (P s) (s .args .at) (q .stands) (q .left) (not-recursion (c .before) q) (not-protect c q)
 
 inner : (c : tie.Else2) (q : F (entry c)) → At (P (entry c)) (entry c .args .at + 2) (first-operand (first-operand (q .tree)))
-inner c q = let s = entry c in inner-at (P s) (s .args .at) (q .stands) (q .left) (not-11 (c .before) q) (not-10 c q)
+inner c q = let s = entry c in inner-at (P s) (s .args .at) (q .stands) (q .left) (not-recursion (c .before) q) (not-protect c q)
 
 next : (c : tie.After-end-of) (q : F (entry (destructs c)))
     → c .end-of .result ≡ entry (destructs c) .args .at + 2 + size (first-operand (first-operand (q .tree)))
@@ -68,8 +69,8 @@ case-of c q =
     let s = entry d in
     let k = own-kind (seen d) q in
     cased (P s) (s .args .at) (e .end-of .result) (q .left) (q .stands) (inner d q) (next e q)
-    (not-11 (d .before) q)
-    (not-10 d q)
+    (not-recursion (d .before) q)
+    (not-protect d q)
     (λ z. e .before .if3 .left (k ∙ z))
     (λ z. c .before .if4 .left (k ∙ z))
     (λ z. c .if5 .left (k ∙ z))

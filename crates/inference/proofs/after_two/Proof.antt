@@ -1,6 +1,7 @@
 -- `inference::after_two` meets its contract: a node of two operands that is no pair is an application.
 use mathlib.Core.Path.{_≡_, refl, sym, ap, _∙_}
 use Prim.Native.Nat.{ℕ, _≤_}
+use native.Mathlib.Omega.{arith}
 use lib.ListN.{length}
 use Rattle.calculus.specs.Types.{function}
 use Rattle.calculus.specs.Terms.{Term, app}

@@ -36,21 +36,21 @@ may-read-requires : tie.Need-may-read-requires
 may-read-requires c κs = search needs
 
 returns : tie.Need-returns
-returns c tab e a l h =
+returns c tab e a h =
     let g = start (c .before .before .before) in
-    reading-answer a (g .args .groups .now) tab (g .args .depth) true true l h
+    reading-answer a (g .args .groups .now) tab (g .args .depth) true true h
     (fits (c .before .before .before) ∙ c .before .before .if1 .taken) (sym (c .before .may-read .ensures) ∙ c .if2 .taken)
 
 returns-2 : tie.Need-returns-2
-returns-2 c tab e a l h =
+returns-2 c tab e a h =
     let g = start (c .before .before .before) in
-    reading-answer a (g .args .groups .now) tab (g .args .depth) true false l h
+    reading-answer a (g .args .groups .now) tab (g .args .depth) true false h
     (fits (c .before .before .before) ∙ c .before .before .if1 .taken) (sym (c .before .may-read .ensures) ∙ c .if2 .left)
 
 returns-3 : tie.Need-returns-3
-returns-3 c tab e a l h =
+returns-3 c tab e a h =
     let g = start (c .before) in
-    reading-answer a (g .args .groups .now) tab (g .args .depth) false _ l h (fits (c .before) ∙ c .if1 .left) refl
+    reading-answer a (g .args .groups .now) tab (g .args .depth) false _ h (fits (c .before) ∙ c .if1 .left) refl
 
 pub reading-spec : {M : Type 1} → statement M
 reading-spec =

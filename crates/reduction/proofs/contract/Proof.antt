@@ -24,6 +24,7 @@ use Rattle.contraction.specs.Plans.{Fires, Ready, Measures}
 use Rattle.reduction.specs.Steps.{Placing, told}
 use Rattle.reduction.specs.declared.Stepped.the-variants.{Moved}
 use Rattle.contraction.proofs.Redexes.{left-side}
+use Rattle.contraction.proofs.Plans.{contractum-limit}
 use Rattle.contraction.proofs.Rooms.{contractum-few}
 use Rattle.reduction.proofs.Splices.{redex-at, redex-small, redex-shallow, new-size, end-inside, exceeds-is}
 use Rattle.reduction.proofs.Ends.{ends-moved, ends-too-big}
@@ -100,7 +101,7 @@ ready c =
 counts : (c : tie.After-measure) → Measures (part (measured c)) (c .measure .result)
 counts c = let s = measured c in c .measure .ensures (ready (c .before)) (S s) (tab s)
 
-few : (c : tie.After-measure) → c .measure .result .records ≤ 134217729
+few : (c : tie.After-measure) → c .measure .result .records ≤ contractum-limit + 1
 few c =
     let s = measured c in
     omega (arith, counts c .records, contractum-few (S s) (tab s) (c .before .plan-of .result) (ready (c .before)))
