@@ -23,12 +23,12 @@ use Rattle.demands.proofs.ThirdDemand.{third-demand}
 use Rattle.evaluation.specs.declared.Halt.{Halt}
 use Rattle.evaluation.specs.declared.RunAnswer.{RunAnswer}
 use Rattle.evaluation.specs.declared.RunAnswer.the-variants as answer
-use Rattle.evaluation.specs.Runs.{Told, Ends, refused-run, run-reported, Demanded}
+use Rattle.evaluation.specs.Runs.{Told, Ends, refused-run, said-run, Demanded}
 
 -- the answer and both buffers are those of o
 abbrev pub Says : Bytes → Bytes → Answer Ran → RunAnswer → Bytes → Bytes → Type 0
 Says first scratch o a first′ scratch′ =
-    (run-reported a ≡ run-report o) × (first′ ≡ first-after o first) × (scratch′ ≡ scratch-after o scratch)
+    (said-run a ≡ run-report o) × (first′ ≡ first-after o first) × (scratch′ ≡ scratch-after o scratch)
 
 module _ (g t s : Bytes) (budget : ℕ) (first scratch : Bytes) where
   abbrev rooms : List ℕ
@@ -71,7 +71,7 @@ module _ (g t s : Bytes) (budget : ℕ) (first scratch : Bytes) where
           ∙ ap (λ (n : ℕ). accepted (record { end = x .end; steps = x .steps; count = n })) (t .records)
 
   -- an answer that reports a run is that run's
-  ended : (a : RunAnswer) (x : Ran) → run-reported a ≡ run-report (accepted x) → a ≡ answer.Ended (x .end) (x .steps) (size (x .last))
+  ended : (a : RunAnswer) (x : Ran) → said-run a ≡ run-report (accepted x) → a ≡ answer.Ended (x .end) (x .steps) (size (x .last))
   unfolding run-report
   ended (answer.Ended n k c) x h =
       let e = accepted-inj h in

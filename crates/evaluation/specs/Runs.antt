@@ -66,14 +66,14 @@ refused-run checked.Passed = Ended 0 0 0
 refused-run (checked.Refused question place) = Refused question place
 
 -- "A run reports end, steps made and record count."
-abbrev pub run-reported : RunAnswer → Answer Report
-run-reported (Ended end steps count) = accepted (record { end = end; steps = steps; count = count })
-run-reported (Refused question place) = refused question place
+abbrev pub said-run : RunAnswer → Answer Report
+said-run (Ended end steps count) = accepted (record { end = end; steps = steps; count = count })
+said-run (Refused question place) = refused question place
 
 -- Demand 3, and that the run in it is the one that this answer reports: it isn't refused, and its end is neither 2 nor 3.
 pub record Demanded (g t s : Bytes) (type : Ty) (budget : ℕ) (first scratch : Bytes) (a : RunAnswer) (first′ scratch′ : Bytes) : Type 0 where
   pub demand : Demand3 g t s type budget first scratch
-  pub reports : run-reported a ≡ run-report (accepted (demand .ran))
+  pub reports : said-run a ≡ run-report (accepted (demand .ran))
   pub first-is : first′ ≡ first-after (accepted (demand .ran)) first
   pub scratch-is : scratch′ ≡ scratch-after (accepted (demand .ran)) scratch
   pub ended : a ≡ Ended (demand .ran .end) (demand .ran .steps) (size (demand .ran .last))

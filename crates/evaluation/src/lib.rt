@@ -13,7 +13,7 @@ ghost use Rattle.rules.specs.Types.{type-at};
 ghost use Rattle.rules.specs.Run.{run};
 ghost use Rattle.rules.specs.Reach.{Accepted};
 ghost use Rattle.rules.specs.Calls.{running, run-report, first-after, scratch-after};
-ghost use Rattle.evaluation.specs.Runs.{front, Loaded, Halted, Ends, number-of, spent-on, refused-run, run-reported};
+ghost use Rattle.evaluation.specs.Runs.{front, Loaded, Halted, Ends, number-of, spent-on, refused-run, said-run};
 ghost use Rattle.evaluation.specs.Runs.{Demanded};
 
 // How a run of a term ends: the end's number, the steps made and the records of the last term.
@@ -143,7 +143,7 @@ pub fn run(
     first: &mut [u8],
     scratch: &mut [u8],
 ) -> RunAnswer
-    ensures { λ a. ⌜ (run-reported a
+    ensures { λ a. ⌜ (said-run a
         ≡ run-report (running (now (groups .entry)) (now (types .entry)) (now (script .entry)) budget
         (length (now (first .entry))) (length (now (scratch .entry)))))
         × (now (first .exit) ≡ first-after

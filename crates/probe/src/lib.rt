@@ -9,7 +9,7 @@ ghost use Rattle.rules.specs.Strip.{strip-script, strip-types};
 ghost use Rattle.rules.specs.Calls.{fill-front, groups-check, types-check, at-or-below, stepping, step-report, written-after};
 ghost use Rattle.answer.specs.Said.{said};
 ghost use Rattle.types_table.specs.Ordered.{answered};
-ghost use Rattle.reduction.specs.Steps.{reported};
+ghost use Rattle.reduction.specs.Steps.{said-step};
 ghost use Rattle.packing.specs.Packed.{packed, passed, yes-or-no, step-ended, Bounded, Step-counted};
 use answer::Checked;
 use reduction::StepAnswer;
@@ -66,8 +66,8 @@ pub extern "C" fn probe_at_or_below(groups: &[u8], types: &[u8], i: u64, j: u64)
 
 // A step: end * 65,536 + records.
 fn stepped(a: StepAnswer) -> u64
-    requires { ⌜ Step-counted (reported a) ⌝ }
-    ensures { λ n. ⌜ n ≡ packed (step-ended (reported a)) ⌝ }
+    requires { ⌜ Step-counted (said-step a) ⌝ }
+    ensures { λ n. ⌜ n ≡ packed (step-ended (said-step a)) ⌝ }
 {
     match a {
         StepAnswer::Ended(end, count) => packing::end_and_count(end, count),

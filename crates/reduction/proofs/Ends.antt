@@ -29,7 +29,7 @@ use Rattle.redex.specs.declared.Found.{Found}
 use Rattle.redex.specs.declared.Found.the-variants.{Value, Redex, Denied, Stuck}
 use Rattle.redex.proofs.Found.{the-type}
 use Rattle.redex.proofs.Searches.{finds-step}
-use Rattle.reduction.specs.Steps.{Startable, told, as-step, refused-step, reported}
+use Rattle.reduction.specs.Steps.{Startable, told, as-step, refused-step, said-step}
 
 module _ {S : Security} {tab : ℕ → Ty} {e : Term} where
   pub ends-value : (room : ℕ) (f : Found) → OneOf (0 ∷ []) (tagOf the-type f) → Finds S tab 0 0 e f → step-in S tab room e ≡ at-value
@@ -66,7 +66,7 @@ module _ (S : Security) (tab : ℕ → Ty) (e : Term) where
   ends-too-big room e′ h k = rw (h, k)
 
 -- the report of a step that was made
-pub made-report : (s : Bytes) (x : End) → reported (as-step (records s) (told x)) ≡ step-report s (accepted x)
+pub made-report : (s : Bytes) (x : End) → said-step (as-step (records s) (told x)) ≡ step-report s (accepted x)
 made-report s at-value = refl
 made-report s (moves e) = refl
 made-report s may-not = refl
@@ -75,7 +75,7 @@ made-report s too-big = refl
 
 -- a refusal, and the buffer as it was
 abbrev pub Keeps : Bytes → Bytes → Checked → Answer End → Type 0
-Keeps s old x o = (reported (refused-step x) ≡ step-report s o) × (old ≡ written-after o old)
+Keeps s old x o = (said-step (refused-step x) ≡ step-report s o) × (old ≡ written-after o old)
 
 pub refused-keeps : (g t s old : Bytes) (room : ℕ) (x : Checked) → No x → said x ≡ script-check [] g t s → Keeps s old x (stepping g t s room)
 unfolding stepping

@@ -66,6 +66,6 @@ refused-step checked.Passed = Ended 0 0
 refused-step (checked.Refused question place) = Refused question place
 
 -- what a step of bytes reports
-abbrev pub reported : StepAnswer → Answer StepReport
-reported (Ended end count) = accepted (record { end = end; count = count })
-reported (Refused question place) = refused question place
+abbrev pub said-step : StepAnswer → Answer StepReport
+said-step (Ended end count) = accepted (record { end = end; count = count })
+said-step (Refused question place) = refused question place

@@ -16,7 +16,7 @@ ghost use Rattle.rules.specs.Script.{encode, term, depth};
 ghost use Rattle.rules.specs.Step.{step-in};
 ghost use Rattle.rules.specs.Calls.{step-report, stepping, front-after, written-after};
 ghost use Rattle.memory.specs.Splice.{splice};
-ghost use Rattle.reduction.specs.Steps.{told, Startable, Sited, Placing, as-step, refused-step, reported};
+ghost use Rattle.reduction.specs.Steps.{told, Startable, Sited, Placing, as-step, refused-step, said-step};
 
 // What a step of a term reports: an end without a move (0, 2, 3 or 4), or the records of the new term.
 pub enum Stepped {
@@ -137,7 +137,7 @@ fn ended(x: Stepped, own: usize) -> StepAnswer
 
 // A step: questions 2 to 19, in order, and then one step of the script's term. The written buffer may be shorter than the script.
 pub fn step(groups: &[u8], types: &[u8], script: &[u8], written: &mut [u8]) -> StepAnswer
-    ensures { λ a. ⌜ (reported a
+    ensures { λ a. ⌜ (said-step a
         ≡ step-report (now (script .entry))
         (stepping (now (groups .entry)) (now (types .entry)) (now (script .entry)) (length (now (written .entry)))))
         × (now (written .exit)

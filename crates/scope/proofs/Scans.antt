@@ -11,7 +11,7 @@ use lib.ListN.{length, getD}
 use Rattle.rules.specs.Answer.{Answer, accepted, refused, _>>=_, first-from, refused-at, each}
 use Rattle.scope.specs.declared.Walked.{Walked}
 use Rattle.scope.specs.declared.Walked.the-variants.{Past, Stopped}
-use Rattle.scope.specs.Stops.{walked, finished}
+use Rattle.scope.specs.Said.{said-walk, said-asked}
 use Rattle.scope.specs.Walk.{scan}
 use Rattle.scope.proofs.Walked.{the-type}
 
@@ -26,10 +26,10 @@ pub past-then : (a : Answer ℕ) (j : ℕ) (k : ℕ → Answer ℕ) → a ≡ ac
 past-then a j k e = ap (λ x. then x k) e
 
 -- the answer taken apart
-pub is-past : (x : Walked) (a : Answer ℕ) (j : ℕ) → x ≡ Past j → walked x ≡ a → a ≡ accepted j
-is-past x a j p h = sym h ∙ ap walked p
+pub is-past : (x : Walked) (a : Answer ℕ) (j : ℕ) → x ≡ Past j → said-walk x ≡ a → a ≡ accepted j
+is-past x a j p h = sym h ∙ ap said-walk p
 
-pub stopped-then : (x : Walked) (a : Answer ℕ) (k : ℕ → Answer ℕ) → OneOf (1 ∷ []) (tagOf the-type x) → walked x ≡ a → walked x ≡ then a k
+pub stopped-then : (x : Walked) (a : Answer ℕ) (k : ℕ → Answer ℕ) → OneOf (1 ∷ []) (tagOf the-type x) → said-walk x ≡ a → said-walk x ≡ then a k
 stopped-then (Past i) a k t h = absurd (omega arith)
 stopped-then (Stopped q p) a k t h = past-refused q p a k h
   where
@@ -95,11 +95,11 @@ module _ (q : ℕ) (ok : ℕ → ℕ → Bool) where
       go true p ih = ap finish (scan-yes i n ns p) ∙ ih ∙ rw (first ∙ p, first-from)
       go false p ih = ap finish (scan-no i n ns p) ∙ rw (first ∙ p, first-from)
 
-  said-finish : (w : Walked) → finished w ≡ finish (walked w)
+  said-finish : (w : Walked) → said-asked w ≡ finish (said-walk w)
   said-finish (Past i) = refl
   said-finish (Stopped question place) = refl
 
-  pub scan-each : (w : Walked) (ns : List ℕ) (n : ℕ) → walked w ≡ scan q ok 0 ns → n ≡ length ns → finished w ≡ each q n (λ k. ok k (getD ns k 0))
+  pub scan-each : (w : Walked) (ns : List ℕ) (n : ℕ) → said-walk w ≡ scan q ok 0 ns → n ≡ length ns → said-asked w ≡ each q n (λ k. ok k (getD ns k 0))
   scan-each w ns n h l =
       said-finish w ∙ ap finish h ∙ scan-each-from (λ k. ok k (getD ns k 0)) ns 0 (λ k. ap (λ x. ok (0 + k) (getD ns x 0)) (zero-add k))
       ∙ ap (λ x. each q x (λ k. ok k (getD ns k 0))) (sym l)

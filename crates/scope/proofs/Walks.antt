@@ -4,7 +4,6 @@ use mathlib.Core.Bool.{Bool, true, false, cond}
 use mathlib.Core.List.{List, [], _∷_, _++_, append-assoc, append-nil}
 use Prim.Native.Nat.{ℕ, suc, _+_, _*_, _<_}
 use native.Mathlib.Omega.{arith}
-use lib.Dec.{eqb}
 use borrow.Author.Tests.{eq-eqb, ne-eqb}
 use types.Run.{OneOf}
 use denote.Enum.Declared.{tagOf}
@@ -22,17 +21,17 @@ use Rattle.records.specs.Binders.{binds}
 use Rattle.records.proofs.Stands.{kind-of, operands, start-records}
 use Rattle.scope.specs.declared.Walked.{Walked}
 use Rattle.scope.specs.declared.Walked.the-variants.{Past}
-use Rattle.scope.specs.Stops.{walked, finished}
-use Rattle.scope.specs.Walk.{scan, passes, deeper, bound, increment}
+use Rattle.scope.specs.Said.{said-walk, said-asked}
+use Rattle.scope.specs.Walk.{asks-depth, scan, passes, deeper, bound, increment}
 use Rattle.scope.proofs.Walked.{the-type}
 use Rattle.scope.proofs.Scans.{then, past-then, is-past, stopped-then, scan-yes, scan-no, scan-nothing, scan-append, scan-end, scan-each}
 
 -- what question 18 picks, and what question 19 does
-pub at-18 : {A : Type 0} (q : ℕ) (a b : A) → q ≡ 18 → a ≡ cond (eqb q 18) a b
-at-18 q a b h = sym (ap (λ c. cond c a b) (eq-eqb q 18 h))
+pub at-depth : {A : Type 0} (q : ℕ) (a b : A) → q ≡ 18 → a ≡ cond (asks-depth q) a b
+at-depth q a b h = sym (ap (λ c. cond c a b) (eq-eqb q 18 h))
 
-pub at-19 : {A : Type 0} (q : ℕ) (a b : A) → (q ≡ 18 → ⊥) → b ≡ cond (eqb q 18) a b
-at-19 q a b h = sym (ap (λ c. cond c a b) (ne-eqb q 18 h))
+pub at-scope : {A : Type 0} (q : ℕ) (a b : A) → (q ≡ 18 → ⊥) → b ≡ cond (asks-depth q) a b
+at-scope q a b h = sym (ap (λ c. cond c a b) (ne-eqb q 18 h))
 
 -- the numbers of the records of `es`, the operands from the j-th on of a record of kind k and number n
 abbrev numbers : (q k n j : ℕ) → List Term → List ℕ
@@ -52,16 +51,16 @@ counts-are : (q n : ℕ) (e : Term) → counts (deeper q) bound n e ≡ n ∷ nu
 unfolding counts binds
 counts-are q n (var m) = refl
 counts-are q n (unit k) = refl
-counts-are q n (lam k i e) = rw (under (eqb q 18) n, append-nil)
-counts-are q n (pair k a b) = rw (free (eqb q 18) n, append-nil)
-counts-are q n (inj first k i e) = rw (free (eqb q 18) n, append-nil)
-counts-are q n (inj second k i e) = rw (free (eqb q 18) n, append-nil)
-counts-are q n (app w a b) = rw (free (eqb q 18) n, append-nil)
-counts-are q n (proj first w e) = rw (free (eqb q 18) n, append-nil)
-counts-are q n (proj second w e) = rw (free (eqb q 18) n, append-nil)
-counts-are q n (case w i e a b) = rw (free (eqb q 18) n, under (eqb q 18) n, append-nil)
-counts-are q n (protect m e) = rw (free (eqb q 18) n, append-nil)
-counts-are q n (mu i e) = rw (under (eqb q 18) n, append-nil)
+counts-are q n (lam k i e) = rw (under (asks-depth q) n, append-nil)
+counts-are q n (pair k a b) = rw (free (asks-depth q) n, append-nil)
+counts-are q n (inj first k i e) = rw (free (asks-depth q) n, append-nil)
+counts-are q n (inj second k i e) = rw (free (asks-depth q) n, append-nil)
+counts-are q n (app w a b) = rw (free (asks-depth q) n, append-nil)
+counts-are q n (proj first w e) = rw (free (asks-depth q) n, append-nil)
+counts-are q n (proj second w e) = rw (free (asks-depth q) n, append-nil)
+counts-are q n (case w i e a b) = rw (free (asks-depth q) n, under (asks-depth q) n, append-nil)
+counts-are q n (protect m e) = rw (free (asks-depth q) n, append-nil)
+counts-are q n (mu i e) = rw (under (asks-depth q) n, append-nil)
 
 -- the scan of the term u at record i, whose record has number n
 abbrev pub scanned : (q : ℕ) (s : Bytes) (i n : ℕ) (u : Term) → Answer ℕ
@@ -124,14 +123,14 @@ module _ {q : ℕ} {s : Bytes} {i n : ℕ} {u : Term} {j next : ℕ} (p : Reache
         }
 
     -- what the walk over that operand, whose number is m, says
-    module _ (m : ℕ) (m-is : m ≡ n + increment q (kind-of u) j) (x : Walked) (h : walked x ≡ scanned q s next m (a .operand)) where
+    module _ (m : ℕ) (m-is : m ≡ n + increment q (kind-of u) j) (x : Walked) (h : said-walk x ≡ scanned q s next m (a .operand)) where
       onward : scanned q s i n u ≡ then (scanned q s next m (a .operand)) (λ k. scan q (passes q s) k (numbers q (kind-of u) n (suc j) (a .later)))
       onward =
           p .goes-on ∙ ap (λ l. scan q (passes q s) next (numbers q (kind-of u) n j l)) (a .is)
           ∙ scan-append q (passes q s) next (counts (deeper q) bound (n + increment q (kind-of u) j) (a .operand)) (numbers q (kind-of u) n (suc j) (a .later))
           ∙ ap (λ y. then (scanned q s next y (a .operand)) (λ k. scan q (passes q s) k (numbers q (kind-of u) n (suc j) (a .later)))) (sym m-is)
 
-      pub stop : OneOf (1 ∷ []) (tagOf the-type x) → walked x ≡ scanned q s i n u
+      pub stop : OneOf (1 ∷ []) (tagOf the-type x) → said-walk x ≡ scanned q s i n u
       stop t = stopped-then x _ _ t h ∙ sym onward
 
       pub pass : (k : ℕ) → x ≡ Past k → Reached q s i n u (j + 1) k
@@ -153,6 +152,6 @@ module _ {q : ℕ} {s : Bytes} {i n : ℕ} {u : Term} {j next : ℕ} (p : Reache
           }
 
 -- a walk over the whole script asks each record
-pub whole : (q : ℕ) (s : Bytes) (n : ℕ) (x : Walked) → encode (term s) ≡ s → walked x ≡ scanned q s 0 n (term s)
-    → finished x ≡ each q (records s) (λ k. passes q s k (getD (counts (deeper q) bound n (term s)) k 0))
+pub whole : (q : ℕ) (s : Bytes) (n : ℕ) (x : Walked) → encode (term s) ≡ s → said-walk x ≡ scanned q s 0 n (term s)
+    → said-asked x ≡ each q (records s) (λ k. passes q s k (getD (counts (deeper q) bound n (term s)) k 0))
 whole q s n x h w = scan-each q (passes q s) x _ (records s) w (start-records s h ∙ sym (counts-length (deeper q) bound n (term s)))

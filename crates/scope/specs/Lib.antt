@@ -1,2 +1,2 @@
-pub mod Stops
+pub mod Said
 pub mod Walk

@@ -6,6 +6,7 @@ use lib.Dec.{eqb, leb, ltb}
 use Rattle.rules.specs.Answer.{Bytes, Answer, accepted, refused, _⇒_}
 use Rattle.rules.specs.Limits.{depth-limit}
 use Rattle.rules.specs.Script.{kind, number}
+use Rattle.records.specs.Kinds as kinds
 use Rattle.records.specs.Binders.{binds}
 
 -- question q of the records from i on, whose numbers are given; accepted with the record after the last
@@ -13,13 +14,17 @@ unfoldable pub scan : ℕ → (ℕ → ℕ → Bool) → ℕ → List ℕ → An
 scan q ok i [] = accepted i
 scan q ok i (n ∷ ns) = elim (ok i n) [ true ↦ scan q ok (suc i) ns | false ↦ refused q i ]
 
+-- Is it question 18? Else it is 19.
+abbrev pub asks-depth : ℕ → Bool
+asks-depth q = eqb q 18
+
 -- question 18 of a record at depth n, and question 19 of record i under n binders
 abbrev pub passes : ℕ → Bytes → ℕ → ℕ → Bool
-passes q s i n = cond (eqb q 18) (leb n depth-limit) (eqb (kind s i) 0 ⇒ ltb (number s i) n)
+passes q s i n = cond (asks-depth q) (leb n depth-limit) (eqb (kind s i) kinds.variable ⇒ ltb (number s i) n)
 
 -- the number of an operand, where its record's is n: one deeper at question 18, in the same scope at question 19
 abbrev pub deeper : ℕ → ℕ → ℕ
-deeper q n = cond (eqb q 18) (suc n) n
+deeper q n = cond (asks-depth q) (suc n) n
 
 -- and of one that a binder stands over
 abbrev pub bound : ℕ → ℕ
@@ -27,4 +32,4 @@ bound n = suc n
 
 -- by how much the number of operand j, counted from 0, exceeds that of its record, which has this kind
 abbrev pub increment : ℕ → ℕ → ℕ → ℕ
-increment q kind j = cond (eqb q 18) 1 (binds kind j)
+increment q kind j = cond (asks-depth q) 1 (binds kind j)

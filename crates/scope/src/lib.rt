@@ -7,7 +7,7 @@ ghost use Rattle.calculus.specs.Terms.{Term};
 ghost use Rattle.rules.specs.Script.{records, encode, term, counts, q18, q19};
 ghost use Rattle.answer.specs.Said.{said};
 ghost use Rattle.records.specs.Place.{At, Here};
-ghost use Rattle.scope.specs.Stops.{walked, finished};
+ghost use Rattle.scope.specs.Said.{said-walk, said-asked};
 ghost use Rattle.scope.specs.Walk.{scan, passes, deeper, bound, increment};
 
 pub const DEPTH_LIMIT: usize = 256;
@@ -20,7 +20,7 @@ enum Walked {
 
 // A walk's answer to its question.
 fn answered(w: Walked) -> Checked
-    ensures { λ a. ⌜ said a ≡ finished w ⌝ }
+    ensures { λ a. ⌜ said a ≡ said-asked w ⌝ }
 {
     match w {
         Walked::Past(_) => Checked::Passed,
@@ -58,7 +58,7 @@ fn increment(question: u8, kind: u8, j: usize) -> usize
 fn walk(script: &[u8], question: u8, i: usize, n: usize) -> Walked
     requires { ⌜ Here (now script) i × (n ≤ i + 1) ⌝ }
     ensures { λ a. ⌜ ((e : Term) → At (now (script .entry)) i e
-        → walked a ≡ scan question (passes question (now (script .entry))) i (counts (deeper question) bound n e)) ⌝ }
+        → said-walk a ≡ scan question (passes question (now (script .entry))) i (counts (deeper question) bound n e)) ⌝ }
 {
     if !passes(script, question, i, n) {
         return Walked::Stopped(question, i);

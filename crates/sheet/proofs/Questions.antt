@@ -23,7 +23,7 @@ use Rattle.answer.proofs.Passed.{No}
 use Rattle.memory.specs.Splice.{splice}
 use Rattle.memory.proofs.Laws.{splice-front}
 use Rattle.sheet.specs.Value.{lines}
-use Rattle.sheet.specs.Said.{reported, refusal, before-26}
+use Rattle.sheet.specs.Said.{said-sheet, refused-sheet, before-26}
 use Rattle.sheet.specs.declared.Sheet.{Sheet}
 use Rattle.sheet.specs.declared.Sheet.the-variants as the
 use Rattle.sheet.proofs.Sheets.{sheet-length}
@@ -58,7 +58,7 @@ sheeting-is g t s group room = sym (regroup (script-check [] g t s) (q25 0 group
 
 -- the answer and the buffer, from the call's
 pub record Paged (o : Answer Bytes) (old : Bytes) (a : Sheet) (new : Bytes) : Type 0 where
-  pub answer : reported a ≡ sheet-records o
+  pub answer : said-sheet a ≡ sheet-records o
   pub after : new ≡ sheet-after o old
 
 no-sheet : (o : Answer Bytes) (old : Bytes) (q p : ℕ) → o ≡ refused q p → Paged o old (the.Refused q p) old
@@ -75,7 +75,7 @@ module _ (g t s : Bytes) (group : ℕ) (old : Bytes) where
   abbrev call : Answer Bytes
   call = sheeting g t s group (length old)
 
-  pub stopped : (x : Checked) → No x → said x ≡ before-26 g t s group → Paged call old (refusal x) old
+  pub stopped : (x : Checked) → No x → said x ≡ before-26 g t s group → Paged call old (refused-sheet x) old
   stopped Passed k e = absurd (omega arith)
   stopped (Refused q p) k e =
       no-sheet call old q p (sheeting-is g t s group (length old) ∙ ap (λ a. _>>_ a (from-26 g s group (length old))) (sym e))

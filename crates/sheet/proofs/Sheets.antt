@@ -15,8 +15,10 @@ use Rattle.rules.specs.Sheet.{sheet, sheet-record}
 use Rattle.rules.proofs.PrefixLaws.{record-is}
 use Rattle.rules.proofs.RecordFields.{kind-is, r-is, ir-is}
 use Rattle.rules.proofs.TermCode.{term-code, term-head}
+use Rattle.records.specs.Kinds as kinds
 use Rattle.records.specs.Place.{At}
 use Rattle.records.specs.Operands.{first-operand, second-operand}
+use Rattle.records.proofs.Made.{by-kind}
 use Rattle.records.proofs.Stands.{kind-of, at-first, at-second}
 use Rattle.memory.specs.Splice.{splice}
 use Rattle.sheet.specs.Shown.{shown, shown-kind}
@@ -80,7 +82,7 @@ shown-at g group s i e w =
     ∙ ap (λ (b : Bytes). shown g group b 0) (record-is term-code s i e (w .rest) (w .stands))
 
 -- the sheet of a value by the kind of its record
-pub sheet-alone : (g : Bytes) (group : ℕ) (e : Term) → is-value e ≡ true → kind-of e ≤ 2 → (shown g group (term-head e) 0 ≡ sheet g group e) × (lines e ≡ 1)
+pub sheet-alone : (g : Bytes) (group : ℕ) (e : Term) → is-value e ≡ true → kind-of e ≤ kinds.function → (shown g group (term-head e) 0 ≡ sheet g group e) × (lines e ≡ 1)
 unfolding sheet shown shown-kind is-value lines
 sheet-alone g group (var n) v l = absurd (false≢true v)
 sheet-alone g group (unit k) v l = (refl, refl)
@@ -94,7 +96,7 @@ sheet-alone g group (case w i e a b) v l = absurd (false≢true v)
 sheet-alone g group (protect m e) v l = absurd (false≢true v)
 sheet-alone g group (mu i e) v l = absurd (false≢true v)
 
-pub sheet-injection : (g : Bytes) (group : ℕ) (e : Term) → 2 < kind-of e → kind-of e ≤ 5 → (kind-of e ≡ 3 → ⊥)
+pub sheet-injection : (g : Bytes) (group : ℕ) (e : Term) → kinds.function < kind-of e → kind-of e ≤ kinds.second-injection → (kind-of e ≡ kinds.pair → ⊥)
     → shown g group (term-head e) 0 ++ sheet g group (first-operand e) ≡ sheet g group e
 unfolding sheet shown shown-kind
 sheet-injection g group (var n) l m h = absurd (omega arith)
@@ -110,24 +112,14 @@ sheet-injection g group (case w i e a b) l m h = absurd (omega arith)
 sheet-injection g group (protect n e) l m h = absurd (omega arith)
 sheet-injection g group (mu i e) l m h = absurd (omega arith)
 
-pub sheet-pair : (g : Bytes) (group : ℕ) (e : Term) → kind-of e ≡ 3
+pub sheet-pair : (g : Bytes) (group : ℕ) (e : Term) → kind-of e ≡ kinds.pair
     → shown g group (term-head e) 0 ++ (sheet g group (first-operand e) ++ sheet g group (second-operand e)) ≡ sheet g group e
 unfolding sheet shown shown-kind
-sheet-pair g group (var n) h = absurd (omega arith)
-sheet-pair g group (unit k) h = absurd (omega arith)
-sheet-pair g group (lam k i e) h = absurd (omega arith)
-sheet-pair g group (pair k a b) h = refl
-sheet-pair g group (inj first k i e) h = absurd (omega arith)
-sheet-pair g group (inj second k i e) h = absurd (omega arith)
-sheet-pair g group (app w f a) h = absurd (omega arith)
-sheet-pair g group (proj first w e) h = absurd (omega arith)
-sheet-pair g group (proj second w e) h = absurd (omega arith)
-sheet-pair g group (case w i e a b) h = absurd (omega arith)
-sheet-pair g group (protect n e) h = absurd (omega arith)
-sheet-pair g group (mu i e) h = absurd (omega arith)
+sheet-pair g group e h =
+    by-kind (λ x. shown g group (term-head x) 0 ++ (sheet g group (first-operand x) ++ sheet g group (second-operand x)) ≡ sheet g group x) kinds.pair e h refl
 
 -- a value's record is of an object, and takes a line of the sheet
-pub object : (e : Term) → is-value e ≡ true → (1 ≤ kind-of e) × (kind-of e ≤ 5) × (1 ≤ lines e)
+pub object : (e : Term) → is-value e ≡ true → (kinds.unit ≤ kind-of e) × (kind-of e ≤ kinds.second-injection) × (1 ≤ lines e)
 unfolding is-value lines
 object (var n) v = absurd (false≢true v)
 object (unit k) v = (omega arith, omega arith, omega arith)
@@ -146,7 +138,7 @@ pub record First (e : Term) : Type 0 where
   pub value : is-value (first-operand e) ≡ true
   pub lesser : 1 + lines (first-operand e) ≤ lines e
 
-pub first-of : (e : Term) → is-value e ≡ true → 2 < kind-of e → First e
+pub first-of : (e : Term) → is-value e ≡ true → kinds.function < kind-of e → First e
 unfolding is-value lines
 first-of (var n) v l = absurd (false≢true v)
 first-of (unit k) v l = absurd (omega arith)
@@ -165,7 +157,7 @@ second-value e v p = and-eq-true-iff (is-value (first-operand e)) (is-value (sec
 -- The sheet of a node, once its record is written, and after it the sheets of its parts.
 module _ (g : Bytes) (group : ℕ) (s : Bytes) (i n : ℕ) (e : Term) (w : At s i e) (v : is-value e ≡ true) (b b1 : Bytes) (fits : sheet-width * n ≤ length b)
     (put : b1 ≡ splice (sheet-width * n) (shown g group s i) b) where
-  pub wrote-alone : (end : ℕ) → kind-of e ≤ 2 → end ≡ i + size e → Wrote g group i n e b (record { next = end; line = n + 1 }) b1
+  pub wrote-alone : (end : ℕ) → kind-of e ≤ kinds.function → end ≡ i + size e → Wrote g group i n e b (record { next = end; line = n + 1 }) b1
   wrote-alone end l h =
       let a = sheet-alone g group e v l in
       record {
@@ -180,7 +172,7 @@ module _ (g : Bytes) (group : ℕ) (s : Bytes) (i n : ℕ) (e : Term) (w : At s 
         join-next (sheet-width * n) (sheet-width * (n + 1)) (shown g group s i) (sheet g group (first-operand e)) b b1 b2 fits (omega (arith, shown-length g group s i)) put kept
         (one .wrote)
 
-    pub wrote-injection : 2 < kind-of e → (kind-of e ≡ 3 → ⊥) → Wrote g group i n e b x b2
+    pub wrote-injection : kinds.function < kind-of e → (kind-of e ≡ kinds.pair → ⊥) → Wrote g group i n e b x b2
     wrote-injection l h =
         let m = object e v .1 in
         let p = injects e l m h in
@@ -191,7 +183,7 @@ module _ (g : Bytes) (group : ℕ) (s : Bytes) (i n : ℕ) (e : Term) (w : At s 
               ∙ ap (λ y. splice (sheet-width * n) y b) (ap (λ y. y ++ sheet g group (first-operand e)) (shown-at g group s i e w) ∙ sheet-injection g group e l m h);
         }
 
-    pub wrote-pair : kind-of e ≡ 3 → length b2 ≡ length b1 → (y : Reached) (b3 : Bytes) → Wrote g group (x .next) (x .line) (second-operand e) b2 y b3
+    pub wrote-pair : kind-of e ≡ kinds.pair → length b2 ≡ length b1 → (y : Reached) (b3 : Bytes) → Wrote g group (x .next) (x .line) (second-operand e) b2 y b3
         → Wrote g group i n e b y b3
     wrote-pair h kept2 y b3 other-one =
         let p = pairs e h in
@@ -208,7 +200,7 @@ module _ (g : Bytes) (group : ℕ) (s : Bytes) (i n : ℕ) (e : Term) (w : At s 
         }
 
 -- what writing a part is given
-pub room-first : {s : Bytes} {i : ℕ} {w : Bytes} {n : ℕ} (q : Room s i w n) (w1 : Bytes) → 2 < kind-of (q .tree) → length w1 ≡ length w → Room s (i + 1) w1 (n + 1)
+pub room-first : {s : Bytes} {i : ℕ} {w : Bytes} {n : ℕ} (q : Room s i w n) (w1 : Bytes) → kinds.function < kind-of (q .tree) → length w1 ≡ length w → Room s (i + 1) w1 (n + 1)
 room-first {s} {i} q w1 l k =
     let e = q .tree in
     let f = first-of e (q .value) l in
@@ -219,7 +211,7 @@ room-first {s} {i} q w1 l k =
       fits = omega (arith, q .fits, f .lesser);
     }
 
-pub room-second : {g : Bytes} {group : ℕ} {s : Bytes} {i : ℕ} {w : Bytes} {n : ℕ} (q : Room s i w n) {w1 w2 : Bytes} {x : Reached} → kind-of (q .tree) ≡ 3
+pub room-second : {g : Bytes} {group : ℕ} {s : Bytes} {i : ℕ} {w : Bytes} {n : ℕ} (q : Room s i w n) {w1 w2 : Bytes} {x : Reached} → kind-of (q .tree) ≡ kinds.pair
     → length w2 ≡ length w → Wrote g group (i + 1) (n + 1) (first-operand (q .tree)) w1 x w2 → Room s (x .next) w2 (x .line)
 room-second {s = s} {i = i} q {x = x} h k m =
     let e = q .tree in

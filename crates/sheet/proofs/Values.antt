@@ -9,7 +9,9 @@ use denote.Enum.Declared.{tagOf}
 use Rattle.calculus.specs.Security.{Property}
 use Rattle.calculus.specs.Terms.{Side, first, second, choose, Term, var, unit, lam, pair, inj, app, proj, case, protect, mu, is-value}
 use Rattle.rules.specs.Script.{size}
+use Rattle.records.specs.Kinds as kinds
 use Rattle.records.specs.Operands.{first-operand, second-operand}
+use Rattle.records.proofs.Made.{by-kind}
 use Rattle.records.proofs.Stands.{kind-of, operands}
 use Rattle.sheet.specs.Value.{lines, looked}
 use Rattle.sheet.specs.declared.Looked.{Looked}
@@ -18,11 +20,11 @@ use Rattle.sheet.proofs.Looked.{the-type}
 
 -- a term as a walk over values sees it
 pub data View : Term → Type 0 where
-  other : {e : Term} → is-value e ≡ false → (1 ≤ kind-of e → 5 < kind-of e) → View e
+  other : {e : Term} → is-value e ≡ false → (kinds.unit ≤ kind-of e → kinds.second-injection < kind-of e) → View e
   a-unit : {k : Property} → View (unit k)
   a-function : {k : Property} {i : ℕ} {e : Term} → View (lam k i e)
   a-pair : {k : Property} {a b : Term} → View (pair k a b)
-  injection : {d : Side} {k : Property} {i : ℕ} {e : Term} → 4 ≤ choose d 4 5 → choose d 4 5 ≤ 5 → View (inj d k i e)
+  injection : {d : Side} {k : Property} {i : ℕ} {e : Term} → kinds.first-injection ≤ choose d kinds.first-injection kinds.second-injection → choose d kinds.first-injection kinds.second-injection ≤ kinds.second-injection → View (inj d k i e)
 
 pub view : (e : Term) → View e
 unfolding is-value
@@ -89,11 +91,11 @@ pub is-other : (x : Looked) → OneOf (1 ∷ []) (tagOf the-type x) → x ≡ Ot
 is-other Other k = refl
 is-other (Value j m) k = absurd (omega arith)
 
--- objects are of the kinds 1 to 5
-pub no-object : (e : Term) → (1 ≤ kind-of e → 5 < kind-of e) → is-value e ≡ false
+-- objects are of the kinds from the unit to the second injection
+pub no-object : (e : Term) → (kinds.unit ≤ kind-of e → kinds.second-injection < kind-of e) → is-value e ≡ false
 no-object e h = go e (view e) h
   where
-    go : (e : Term) → View e → (1 ≤ kind-of e → 5 < kind-of e) → is-value e ≡ false
+    go : (e : Term) → View e → (kinds.unit ≤ kind-of e → kinds.second-injection < kind-of e) → is-value e ≡ false
     go e (other v k) h = v
     go e a-unit h = absurd (omega (arith, h (omega arith)))
     go e a-function h = absurd (omega (arith, h (omega arith)))
@@ -101,11 +103,11 @@ no-object e h = go e (view e) h
     go e (injection l m) h = absurd (omega (arith, h (omega arith)))
 
 -- units and functions, whatever the body
-pub no-parts : (e : Term) → 1 ≤ kind-of e → kind-of e ≤ 2 → (is-value e ≡ true) × (lines e ≡ 1)
+pub no-parts : (e : Term) → kinds.unit ≤ kind-of e → kind-of e ≤ kinds.function → (is-value e ≡ true) × (lines e ≡ 1)
 unfolding is-value lines
 no-parts e l m = go e (view e) l m
   where
-    go : (e : Term) → View e → 1 ≤ kind-of e → kind-of e ≤ 2 → (is-value e ≡ true) × (lines e ≡ 1)
+    go : (e : Term) → View e → kinds.unit ≤ kind-of e → kind-of e ≤ kinds.function → (is-value e ≡ true) × (lines e ≡ 1)
     go e (other v k) l m = absurd (omega (arith, k l))
     go e a-unit l m = (refl, refl)
     go e a-function l m = (refl, refl)
@@ -126,34 +128,27 @@ pub record Pairs (e : Term) : Type 0 where
   pub sized : size e ≡ 1 + (size (first-operand e) + size (second-operand e))
   pub counted : lines e ≡ 1 + (lines (first-operand e) + lines (second-operand e))
 
-pub injects : (e : Term) → 2 < kind-of e → kind-of e ≤ 5 → (kind-of e ≡ 3 → ⊥) → Injects e
+pub injects : (e : Term) → kinds.function < kind-of e → kind-of e ≤ kinds.second-injection → (kind-of e ≡ kinds.pair → ⊥) → Injects e
 unfolding is-value lines size
 injects e l m n = go e (view e) l m n
   where
-    go : (e : Term) → View e → 2 < kind-of e → kind-of e ≤ 5 → (kind-of e ≡ 3 → ⊥) → Injects e
+    go : (e : Term) → View e → kinds.function < kind-of e → kind-of e ≤ kinds.second-injection → (kind-of e ≡ kinds.pair → ⊥) → Injects e
     go e (other v k) l m n = absurd (omega (arith, k (omega arith)))
     go e a-unit l m n = absurd (omega arith)
     go e a-function l m n = absurd (omega arith)
     go e a-pair l m n = absurd (n refl)
     go e (injection p q) l m n = record { one = omega arith; value = refl; sized = refl; counted = refl }
 
-pub pairs : (e : Term) → kind-of e ≡ 3 → Pairs e
+pub pairs : (e : Term) → kind-of e ≡ kinds.pair → Pairs e
 unfolding is-value lines size
-pairs e h = go e (view e) h
-  where
-    go : (e : Term) → View e → kind-of e ≡ 3 → Pairs e
-    go e (other v k) h = absurd (omega (arith, k (omega arith)))
-    go e a-unit h = absurd (omega arith)
-    go e a-function h = absurd (omega arith)
-    go e a-pair h = record { two = omega arith; value = refl; sized = refl; counted = refl }
-    go e (injection p q) h = absurd (omega arith)
+pairs e h = by-kind Pairs kinds.pair e h (record { two = omega arith; value = refl; sized = refl; counted = refl })
 
 -- both have a first operand, without which the node is no value
-pub first-part : (e : Term) → 2 < kind-of e → kind-of e ≤ 5 → (1 ≤ operands e) × (is-value (first-operand e) ≡ false → is-value e ≡ false)
+pub first-part : (e : Term) → kinds.function < kind-of e → kind-of e ≤ kinds.second-injection → (1 ≤ operands e) × (is-value (first-operand e) ≡ false → is-value e ≡ false)
 unfolding is-value
 first-part e l m = go e (view e) l m
   where
-    go : (e : Term) → View e → 2 < kind-of e → kind-of e ≤ 5 → (1 ≤ operands e) × (is-value (first-operand e) ≡ false → is-value e ≡ false)
+    go : (e : Term) → View e → kinds.function < kind-of e → kind-of e ≤ kinds.second-injection → (1 ≤ operands e) × (is-value (first-operand e) ≡ false → is-value e ≡ false)
     go e (other v k) l m = absurd (omega (arith, k (omega arith)))
     go e a-unit l m = absurd (omega arith)
     go e a-function l m = absurd (omega arith)

@@ -10,14 +10,14 @@ use Rattle.sheet.specs.declared.Sheet.{Sheet}
 use Rattle.sheet.specs.declared.Sheet.the-variants.{Written, Refused}
 
 -- the sheet's record count, or the question and the place
-abbrev pub reported : Sheet → Answer ℕ
-reported (Written count) = accepted count
-reported (Refused question place) = refused question place
+abbrev pub said-sheet : Sheet → Answer ℕ
+said-sheet (Written count) = accepted count
+said-sheet (Refused question place) = refused question place
 
 -- a refusal, passed on
-abbrev pub refusal : Checked → Sheet
-refusal checked.Passed = Written 0
-refusal (checked.Refused question place) = Refused question place
+abbrev pub refused-sheet : Checked → Sheet
+refused-sheet checked.Passed = Written 0
+refused-sheet (checked.Refused question place) = Refused question place
 
 -- questions 2 to 19 and 25
 unfoldable pub before-26 : Bytes → Bytes → Bytes → ℕ → Answer (Unit {0})

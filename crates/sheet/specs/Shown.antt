@@ -6,11 +6,14 @@ use lib.Dec.{eqb}
 use Rattle.rules.specs.Answer.{Bytes}
 use Rattle.rules.specs.Script.{kind, r, ir}
 use Rattle.rules.specs.Sheet.{sheet-record}
+use Rattle.records.specs.Kinds as kinds
 use Rattle.sheet.specs.declared.Line.{Line}
 
--- function, pair, first, second; else unit
+-- the sheet's kinds: 4 a function, 3 a pair, 1 and 2 a first and a second injection, 0 a unit
 unfoldable pub shown-kind : ℕ → ℕ
-shown-kind kind = cond (eqb kind 2) 4 (cond (eqb kind 3) 3 (cond (eqb kind 4) 1 (cond (eqb kind 5) 2 0)))
+shown-kind kind =
+    cond (eqb kind kinds.function) 4
+    (cond (eqb kind kinds.pair) 3 (cond (eqb kind kinds.first-injection) 1 (cond (eqb kind kinds.second-injection) 2 0)))
 
 -- the object at record i, for a reader group
 unfoldable pub shown : Bytes → ℕ → Bytes → ℕ → Bytes

@@ -21,7 +21,7 @@ ghost use Rattle.records.specs.Place.{At, Here};
 ghost use Rattle.memory.specs.Splice.{splice};
 ghost use Rattle.sheet.specs.Shown.{shown-kind, shown, bytes-of};
 ghost use Rattle.sheet.specs.Value.{looked, Room, Wrote};
-ghost use Rattle.sheet.specs.Said.{reported, refusal, before-26};
+ghost use Rattle.sheet.specs.Said.{said-sheet, refused-sheet, before-26};
 
 pub const SHEET_WIDTH: usize = 4;
 
@@ -183,7 +183,7 @@ fn asked(groups: &[u8], types: &[u8], value: &[u8], group: u64) -> Checked
 
 // A refusal, as the answer of a sheet.
 fn refused(a: Checked) -> Sheet
-    ensures { λ x. ⌜ x ≡ refusal a ⌝ }
+    ensures { λ x. ⌜ x ≡ refused-sheet a ⌝ }
 {
     match a {
         Checked::Passed => Sheet::Written(0),
@@ -194,7 +194,7 @@ fn refused(a: Checked) -> Sheet
 // The sheet of a value for a reader group, written to the front of `sheet`: questions 2 to 19, 25, 26 and 27. The count of records
 // is known before the first is written, so that a refusal writes nothing.
 pub fn page(groups: &[u8], types: &[u8], value: &[u8], group: u64, sheet: &mut [u8]) -> Sheet
-    ensures { λ a. ⌜ (reported a
+    ensures { λ a. ⌜ (said-sheet a
         ≡ sheet-records (sheeting (now (groups .entry)) (now (types .entry)) (now (value .entry)) group
         (length (now (sheet .entry)))))
         × (now (sheet .exit) ≡ sheet-after

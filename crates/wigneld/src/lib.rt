@@ -12,8 +12,8 @@ ghost use Rattle.rules.specs.Calls.{running, run-report, first-after, scratch-a
 ghost use Rattle.rules.specs.Reach.{Accepted};
 ghost use Rattle.typing.specs.Said.{said};
 ghost use Rattle.typing.specs.Judged.{Judged};
-ghost use Rattle.evaluation.specs.Runs.{run-reported};
-ghost use Rattle.sheet.specs.Said.{reported};
+ghost use Rattle.evaluation.specs.Runs.{said-run};
+ghost use Rattle.sheet.specs.Said.{said-sheet};
 ghost use Rattle.packing.specs.Packed.{packed, unpacked, run-ended, steps-after, Bounded, Run-counted};
 ghost use Rattle.wigneld.specs.Exported.{steps-told, Demanded};
 use evaluation::RunAnswer;
@@ -55,9 +55,9 @@ pub extern "C" fn wigneld_check(
 
 // A run's end and record count, with its steps written apart, or the refusal, with nothing written.
 fn ran(a: RunAnswer, steps: &mut [u8]) -> u64
-    requires { ⌜ Run-counted (run-reported a) ⌝ }
-    ensures { λ n. ⌜ (n ≡ packed (run-ended (run-reported a)))
-        × (now (steps .exit) ≡ steps-told (run-reported a) (now (steps .entry))) ⌝ }
+    requires { ⌜ Run-counted (said-run a) ⌝ }
+    ensures { λ n. ⌜ (n ≡ packed (run-ended (said-run a)))
+        × (now (steps .exit) ≡ steps-told (said-run a) (now (steps .entry))) ⌝ }
 {
     match a {
         RunAnswer::Ended(end, made, count) => {
@@ -101,8 +101,8 @@ pub extern "C" fn wigneld_run(
 
 // A sheet's record count, or the refusal.
 fn shown(a: Sheet) -> u64
-    requires { ⌜ Bounded (reported a) ⌝ }
-    ensures { λ n. ⌜ n ≡ packed (reported a) ⌝ }
+    requires { ⌜ Bounded (said-sheet a) ⌝ }
+    ensures { λ n. ⌜ n ≡ packed (said-sheet a) ⌝ }
 {
     match a {
         Sheet::Written(count) => count as u64,

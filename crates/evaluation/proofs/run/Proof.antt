@@ -15,7 +15,7 @@ use Rattle.rules.specs.Calls.{script-check, running, run-report, first-after, s
 use Rattle.demands.proofs.Checked.{script-passed}
 use Rattle.evaluation.specs.declared.RunAnswer.{RunAnswer}
 use Rattle.reduction.specs.Steps.{Startable}
-use Rattle.evaluation.specs.Runs.{front, Loaded, run-reported, Demanded}
+use Rattle.evaluation.specs.Runs.{front, Loaded, said-run, Demanded}
 use Rattle.answer.proofs.Passed.{accepts}
 use Rattle.reduction.proofs.Ends.{startable}
 use Rattle.evaluation.proofs.Buffers.{copied-script, loaded}
@@ -54,7 +54,7 @@ script-octets c k = omega (arith, c .before .before .shared-slice-known3 .given 
 -- the whole answer, from its first three parts
 abbrev Full : tie.Start → RunAnswer → Bytes → Bytes → Type 0
 Full s a first′ scratch′ =
-    (run-reported a ≡ run-report (answer s))
+    (said-run a ≡ run-report (answer s))
     × (first′ ≡ first-after (answer s) (F s))
     × (scratch′ ≡ scratch-after (answer s) (W s))
     × ((type : Ty) → Accepted (G s) (T s) (P s) type → length (P s) ≤ length (F s) → length (P s) ≤ length (W s)

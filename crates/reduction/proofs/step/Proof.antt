@@ -13,14 +13,14 @@ use Rattle.rules.specs.Step.{End, step-in}
 use Rattle.rules.specs.Calls.{step-report, script-check, stepping, written-after}
 use Rattle.answer.proofs.Passed.{accepts}
 use Rattle.reduction.specs.declared.StepAnswer.{StepAnswer}
-use Rattle.reduction.specs.Steps.{as-step, reported}
+use Rattle.reduction.specs.Steps.{as-step, said-step}
 use Rattle.reduction.proofs.Ends.{made-report, refused-keeps, passed-step, startable}
 use Rattle.reduction.proofs.step.Statement.{statement}
 use Rattle.reduction.proofs.step.Tie as tie
 
 -- the answer and the buffer, from the answer to the questions
 abbrev Says : (s : tie.Start) → Answer End → StepAnswer → Bytes → Type 0
-Says s o a w = (reported a ≡ step-report (s .args .script .now) o) × (w ≡ written-after o (s .args .written .now))
+Says s o a w = (said-step a ≡ step-report (s .args .script .now) o) × (w ≡ written-after o (s .args .written .now))
 
 abbrev answer : tie.Start → Answer End
 answer s = stepping (s .args .groups .now) (s .args .types .now) (s .args .script .now) (length (s .args .written .now))
@@ -79,7 +79,7 @@ returns-2 c =
     let s = start d in
     let h = passed-step (s .args .groups .now) (s .args .types .now) (s .args .script .now) (length (s .args .written .now)) (yes d) in
     let a = c .ended .ensures ∙ ap (λ n. as-step n (x .step-term .result)) (x .before .before .record-count .ensures) in (
-      ap reported (a ∙ ap (as-step (records (s .args .script .now))) (x .step-term .ensures .0))
+      ap said-step (a ∙ ap (as-step (records (s .args .script .now))) (x .step-term .ensures .0))
           ∙ made-report (s .args .script .now) (end s)
           ∙ sym (ap (step-report (s .args .script .now)) h),
       x .step-term .ensures .1 ∙ sym (ap (λ (o : Answer End). written-after o (s .args .written .now)) h),

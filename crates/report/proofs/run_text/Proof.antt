@@ -10,7 +10,7 @@ use Rattle.rules.specs.Run.{Ran}
 use Rattle.rules.specs.Script.{encode}
 use Rattle.rules.specs.Calls.{running}
 use Rattle.rules.specs.Report.{run-line}
-use Rattle.evaluation.specs.Runs.{run-reported}
+use Rattle.evaluation.specs.Runs.{said-run}
 use Rattle.text.specs.Written.{Written}
 use Rattle.text.proofs.Placed.{then, keeps}
 use Rattle.lines.proofs.Lines.{run-length}
@@ -55,7 +55,7 @@ abbrev first-of : tie.After-known-told → Bytes
 first-of c = c .before .before .before .before .before .run .last .1 .1 .1 .1 .0
 
 run-of : (c : tie.After-known-told) → Ended (answer (start c)) (end-of c) (steps-of c) (records-of c)
-run-of c = ended (answer (start c)) (end-of c) (steps-of c) (records-of c) (sym (ap run-reported (c .before .a .given .1)) ∙ c .before .before .before .before .before .run .ensures .0)
+run-of c = ended (answer (start c)) (end-of c) (steps-of c) (records-of c) (sym (ap said-run (c .before .a .given .1)) ∙ c .before .before .before .before .before .run .ensures .0)
 
 few : (c : tie.After-known-told) → records-of c ≤ script-limit
 few c =
@@ -126,7 +126,7 @@ returns-2 c =
     let a = c .before .before .before .before .before .a2 .given in
     let r = c .before .before .refusal-line in
     subst (λ (b : Bytes). Written (s .args .at) b (s .args .out .now) (r .result) (r .last .1 .1 .0))
-    (sym (run-refused (s .args .groups .now) (s .args .types .now) (answer s) (a .0 .0) (a .0 .1 .0) (sym (ap run-reported (a .1)) ∙ c .before .before .before .before .before .before .before .before .before .run .ensures .0)))
+    (sym (run-refused (s .args .groups .now) (s .args .types .now) (answer s) (a .0 .0) (a .0 .1 .0) (sym (ap said-run (a .1)) ∙ c .before .before .before .before .before .before .before .before .before .run .ensures .0)))
     (r .ensures)
 
 pub run-text-spec : {M : Type 1} → statement M

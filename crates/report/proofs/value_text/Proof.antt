@@ -10,7 +10,7 @@ use Rattle.rules.specs.Script.{encode}
 use Rattle.rules.specs.Run.{Ran}
 use Rattle.rules.specs.Calls.{sheeting, sheet-records}
 use Rattle.rules.specs.Report.{sheet-lines, sheet-text, value-text}
-use Rattle.sheet.specs.Said.{reported}
+use Rattle.sheet.specs.Said.{said-sheet}
 use Rattle.text.specs.Written.{Written}
 use Rattle.text.proofs.Placed.{nothing}
 use Rattle.report.specs.Room.{value-room}
@@ -57,7 +57,7 @@ abbrev page-of : tie.After-known-told → Bytes
 page-of c = c .before .before .before .before .page .last .1 .1 .1 .1 .0
 
 counted : (c : tie.After-known-told) → accepted (count-of c) ≡ sheet-records (answer (start c))
-counted c = sym (ap reported (c .before .a .given .1)) ∙ c .before .before .before .before .page .ensures .0
+counted c = sym (ap said-sheet (c .before .a .given .1)) ∙ c .before .before .before .before .page .ensures .0
 
 -- the counted records lie in its buffer,
 within : (c : tie.After-known-told) → sheet-width * count-of c ≤ report-sheet
@@ -113,7 +113,7 @@ returns-3 c =
     let s = c .before .before .before .before .before .before .before .before .before .before .before .before .before .before .before in
     let a = c .before .before .before .before .before .a2 .given in
     let r = c .before .before .refusal-line in
-    let e = sheet-refusal (answer s) (a .0 .0) (a .0 .1 .0) (sym (ap reported (a .1)) ∙ c .before .before .before .before .before .before .before .before .page .ensures .0) in λ x e1 h.
+    let e = sheet-refusal (answer s) (a .0 .0) (a .0 .1 .0) (sym (ap said-sheet (a .1)) ∙ c .before .before .before .before .before .before .before .before .page .ensures .0) in λ x e1 h.
     subst (λ (b : Bytes). Written (s .args .at) b (s .args .out .now) (r .result) (r .last .1 .1 .0)) (e ∙ sym (text-of s x e1 (omega arith) h)) (r .ensures)
 
 pub value-text-spec : {M : Type 1} → statement M

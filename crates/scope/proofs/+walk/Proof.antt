@@ -12,7 +12,7 @@ use Rattle.calculus.specs.Terms.{Term}
 use Rattle.rules.specs.Script.{arity}
 use Rattle.records.specs.Place.{At}
 use Rattle.records.proofs.Stands.{operands, kind-of, here, there, stands-kind, stands-arity}
-use Rattle.scope.specs.Stops.{walked}
+use Rattle.scope.specs.Said.{said-walk}
 use Rattle.scope.specs.Walk.{passes, increment}
 use Rattle.scope.proofs.Walks.{scanned, refuse, Reached, reach, Ahead, ahead, end, operand-at, stop, pass}
 use Rattle.scope.proofs.walk.Reads as walk
@@ -111,7 +111,7 @@ module _ (t : ℕ) where
         ∙ ap (λ k. increment (start c .args .question) k (c .before .before .loop .j)) (known c .before .kind .ensures ∙ stands-kind _ _ _ w))
 
   operand-scan : (c : Turned) (u : Term) (w : Stands (start (c .before)) u)
-      → walked (c .walk .result)
+      → said-walk (c .walk .result)
       ≡ scanned (start (c .before) .args .question) (start (c .before) .args .script .now) (c .before .before .before .loop .next) (number (c .before))
       (ahead-of (c .before) u w .operand)
   operand-scan c u w = c .walk .ensures _ (operand-at _ (ahead-of (c .before) u w))

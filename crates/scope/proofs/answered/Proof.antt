@@ -1,6 +1,6 @@
 -- `scope::answered` meets its contract: by the variant.
 use mathlib.Core.Path.{sym, ap}
-use Rattle.scope.specs.Stops.{finished}
+use Rattle.scope.specs.Said.{said-asked}
 use borrow.Author.Needs.{needs}
 use Rattle.scope.proofs.answered.Statement.{statement}
 use Rattle.scope.proofs.answered.Tie as tie
@@ -15,7 +15,7 @@ returns : tie.Need-returns
 returns c = search needs
 
 returns-2 : tie.Need-returns-2
-returns-2 c = sym (ap finished (c .before .w .given .1))
+returns-2 c = sym (ap said-asked (c .before .w .given .1))
 
 pub answered-spec : {M : Type 1} → statement M
 answered-spec = tie.close (tie.spec enum-told enum-known-w returns returns-2)

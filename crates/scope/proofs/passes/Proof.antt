@@ -3,12 +3,13 @@ use mathlib.Core.Path.{ap₂, _∙_}
 use lib.Dec.{eqb, ltb}
 use borrow.Author.Needs.{needs}
 use Rattle.rules.specs.Answer.{_⇒_}
-use Rattle.scope.proofs.Walks.{at-18, at-19}
+use Rattle.records.specs.Kinds as kinds
+use Rattle.scope.proofs.Walks.{at-depth, at-scope}
 use Rattle.scope.proofs.passes.Statement.{statement}
 use Rattle.scope.proofs.passes.Tie as tie
 
 returns : tie.Need-returns
-returns c = at-18 _ _ _ (c .if1 .taken)
+returns c = at-depth _ _ _ (c .if1 .taken)
 
 kind-requires : tie.Need-kind-requires
 kind-requires c κs = search needs
@@ -28,8 +29,8 @@ returns-2 c =
     let n = x .before in
     let k = n .before in
     let a = k .before .before .before .args in
-    c .below-if .ensures ∙ ap₂ (λ k m. eqb k 0 ⇒ ltb m (a .n)) (k .kind .ensures) (x .index .ensures .0 ∙ n .number .ensures)
-    ∙ at-19 _ _ _ (k .before .if1 .left)
+    c .below-if .ensures ∙ ap₂ (λ k m. eqb k kinds.variable ⇒ ltb m (a .n)) (k .kind .ensures) (x .index .ensures .0 ∙ n .number .ensures)
+    ∙ at-scope _ _ _ (k .before .if1 .left)
 
 pub passes-spec : {M : Type 1} → statement M
 passes-spec =

@@ -9,6 +9,7 @@ use borrow.Fn.PlainCycle.{Measures, is, falls, and}
 use lib.ListN.{length}
 use Rattle.calculus.specs.Terms.{Term}
 use Rattle.rules.specs.Script.{records}
+use Rattle.records.specs.Kinds as kinds
 use Rattle.records.specs.Place.{At}
 use Rattle.records.specs.Operands.{first-operand, second-operand}
 use Rattle.records.proofs.Stands.{kind-of, here, there, stands-kind, at-first, at-second}
@@ -66,10 +67,10 @@ module _ (t : ℕ) where
   abbrev enter : Parts → Start
   enter c = start (known c)
 
-  has-parts : (c : Parts) (u : Term) → Stands (enter c) u → 2 < kind-of u
+  has-parts : (c : Parts) (u : Term) → Stands (enter c) u → kinds.function < kind-of u
   has-parts c u w = omega (arith, kind-is (known c) u w, c .if3 .left)
 
-  is-object : (c : Parts) (u : Term) → Stands (enter c) u → kind-of u ≤ 5
+  is-object : (c : Parts) (u : Term) → Stands (enter c) u → kind-of u ≤ kinds.second-injection
   is-object c u w = omega (arith, kind-is (known c) u w, c .before .if2 .left)
 
   first-at : (c : Parts) (u : Term) → Stands (enter c) u → At (enter c .args .value .now) (enter c .args .i + 1) (first-operand u)
@@ -101,7 +102,7 @@ module _ (t : ℕ) where
   abbrev Both : Type 0
   Both = lts.Else4 (claims t) (look-at t) look.Post
 
-  a-pair : (c : Both) (u : Term) → Stands (begin (c .before)) u → kind-of u ≡ 3
+  a-pair : (c : Both) (u : Term) → Stands (begin (c .before)) u → kind-of u ≡ kinds.pair
   a-pair c u w = sym (kind-is (known (parts (c .before))) u w) ∙ c .if4 .left
 
   second-at : (c : Both) (u : Term) → Stands (begin (c .before)) u → At (begin (c .before) .args .value .now) (next (c .before)) (second-operand u)

@@ -11,6 +11,7 @@ use Rattle.calculus.specs.Terms.{Term, is-value}
 use Rattle.rules.specs.Answer.{Bytes}
 use Rattle.rules.specs.Limits.{sheet-width}
 use Rattle.rules.specs.Script.{records}
+use Rattle.records.specs.Kinds as kinds
 use Rattle.records.specs.Place.{At}
 use Rattle.records.specs.Operands.{first-operand, second-operand}
 use Rattle.records.proofs.Stands.{kind-of, here, there, stands-kind, at-first, at-second}
@@ -99,7 +100,7 @@ module _ (t : ℕ) where
   abbrev enter : Parts → Start
   enter c = start (c .before)
 
-  has-parts : (c : Parts) (u : Term) → Stands (enter c) u → 2 < kind-of u
+  has-parts : (c : Parts) (u : Term) → Stands (enter c) u → kinds.function < kind-of u
   has-parts c u w = omega (arith, kind-is (c .before) u w, c .if1 .left)
 
   -- the first part is written
@@ -131,7 +132,7 @@ module _ (t : ℕ) where
   abbrev past : Both → Past
   past c = c .before .before .before
 
-  a-pair : (c : Both) (u : Term) → Stands (begin (past c)) u → kind-of u ≡ 3
+  a-pair : (c : Both) (u : Term) → Stands (begin (past c)) u → kind-of u ≡ kinds.pair
   a-pair c u w = sym (kind-is (parts (past c) .before) u w) ∙ c .if2 .left
 
   write-line-of-requires : lts.Need-line-of-requires (claims t) (write-at t) write.Post

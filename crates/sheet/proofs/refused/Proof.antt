@@ -1,6 +1,6 @@
 -- `sheet::refused` meets its contract.
 use mathlib.Core.Path.{sym, ap}
-use Rattle.sheet.specs.Said.{refusal}
+use Rattle.sheet.specs.Said.{refused-sheet}
 use borrow.Author.Needs.{needs}
 use Rattle.sheet.proofs.refused.Statement.{statement}
 use Rattle.sheet.proofs.refused.Tie as tie
@@ -15,7 +15,7 @@ returns : tie.Need-returns
 returns c = search needs
 
 returns-2 : tie.Need-returns-2
-returns-2 c = sym (ap refusal (c .before .a .given .1))
+returns-2 c = sym (ap refused-sheet (c .before .a .given .1))
 
 pub refused-spec : {M : Type 1} → statement M
 refused-spec = tie.close (tie.spec enum-told enum-known-a returns returns-2)

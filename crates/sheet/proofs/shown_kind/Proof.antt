@@ -1,6 +1,7 @@
 -- `sheet::shown_kind` meets its contract.
 use mathlib.Core.Path.{sym, ap}
 use borrow.Author.Tests.{ne-eqb}
+use Rattle.records.specs.Kinds as kinds
 use Rattle.sheet.specs.Shown.{shown-kind}
 use Rattle.sheet.proofs.shown_kind.Statement.{statement}
 use Rattle.sheet.proofs.shown_kind.Tie as tie
@@ -26,7 +27,7 @@ unfolding shown-kind
 returns-5 c =
     let k = c .before .args .kind in
     let n = c .match .rest in
-    rw (ne-eqb k 2 (n .0 .0 .0 .1), ne-eqb k 3 (n .0 .0 .1), ne-eqb k 4 (n .0 .1), ne-eqb k 5 (n .1))
+    rw (ne-eqb k kinds.function (n .0 .0 .0 .1), ne-eqb k kinds.pair (n .0 .0 .1), ne-eqb k kinds.first-injection (n .0 .1), ne-eqb k kinds.second-injection (n .1))
 
 pub shown-kind-spec : {M : Type 1} → statement M
 shown-kind-spec = tie.close (tie.spec returns returns-2 returns-3 returns-4 returns-5)

@@ -5,11 +5,11 @@ use Rattle.scope.specs.declared.Walked.{Walked}
 use Rattle.scope.specs.declared.Walked.the-variants.{Past, Stopped}
 
 -- the record after a walk, or the question and the record that stopped it
-abbrev pub walked : Walked → Answer ℕ
-walked (Past i) = accepted i
-walked (Stopped question place) = refused question place
+abbrev pub said-walk : Walked → Answer ℕ
+said-walk (Past i) = accepted i
+said-walk (Stopped question place) = refused question place
 
 -- a walk's answer to its question
-abbrev pub finished : Walked → Answer (Unit {0})
-finished (Past i) = accepted tt
-finished (Stopped question place) = refused question place
+abbrev pub said-asked : Walked → Answer (Unit {0})
+said-asked (Past i) = accepted tt
+said-asked (Stopped question place) = refused question place
