@@ -26,8 +26,8 @@ use Rattle.records.specs.Place.{At}
 use Rattle.records.specs.Operands.{first-operand}
 use Rattle.records.proofs.Stands.{kind-of, operands, there, stands-kind, at-first}
 use Rattle.redex.specs.Fates.{property-of, is-function, goes, wrong-kind, fate, contractum}
-use Rattle.records.proofs.Made.{number-of}
-use Rattle.redex.proofs.Places.{reader-at, indirect-at, number-at}
+use Rattle.records.proofs.Made.{number-of, number-at}
+use Rattle.redex.proofs.Places.{reader-at, indirect-at}
 use Rattle.redex.proofs.Answers.{function-top}
 use Rattle.memory.specs.Splice.{splice}
 use Rattle.substitution.specs.Substituted.{value-limit}

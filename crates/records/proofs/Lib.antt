@@ -2,3 +2,4 @@ pub mod Table
 pub mod Ends
 pub mod Stands
 pub mod Made
+pub mod Passing

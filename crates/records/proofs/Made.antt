@@ -2,8 +2,14 @@
 use mathlib.Core.Path.{_≡_, refl, ap, sym, subst, _∙_}
 use Prim.Native.Nat.{ℕ}
 use Rattle.calculus.specs.Terms.{first, second, Term, var, unit, lam, pair, inj, app, proj, case, protect, mu}
+use Rattle.rules.specs.Answer.{Bytes}
+use Rattle.rules.specs.Limits.{script-width}
 use Rattle.rules.specs.Script.{r, ir, number, make}
-use Rattle.rules.proofs.TermCode.{term-head, two-bytes}
+use Rattle.rules.proofs.Prefix.{record-at}
+use Rattle.rules.proofs.PrefixLaws.{record-is}
+use Rattle.rules.proofs.RecordFields.{number-is}
+use Rattle.rules.proofs.TermCode.{term-head, term-code, two-bytes}
+use Rattle.records.specs.Place.{At}
 use Rattle.records.specs.Operands.{first-operand, second-operand, third-operand}
 use Rattle.records.proofs.Stands.{kind-of}
 
@@ -35,3 +41,10 @@ of-kind k e h = made e ∙ ap (λ n. form n e) h
 -- so what is shown of that form is shown of e
 pub by-kind : (P : Term → Type 0) (k : ℕ) (e : Term) → kind-of e ≡ k → P (form k e) → P e
 by-kind P k e h p = subst P (sym (of-kind k e h)) p
+
+-- its own record, and the number in it
+pub own-record : {s : Bytes} {i : ℕ} {e : Term} → At s i e → record-at script-width s i ≡ term-head e
+own-record {s} {i} {e} a = record-is term-code s i e (a .rest) (a .stands)
+
+pub number-at : {s : Bytes} {i : ℕ} {e : Term} → At s i e → number s i ≡ number-of e
+number-at {s} {i} a = sym (number-is s i) ∙ ap (λ b. number b 0) (own-record a)

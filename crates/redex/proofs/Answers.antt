@@ -24,7 +24,8 @@ use Rattle.rules.proofs.TypePlaces.{type-at-outside}
 use Rattle.redex.specs.Fates.{goes, wrong-kind, property-of, is-function, reading-fate, fate}
 use Rattle.records.specs.Operands.{first-operand}
 use Rattle.redex.specs.Found.{answer, is-destructor, takes-apart}
-use Rattle.redex.proofs.Places.{reader-at, number-at}
+use Rattle.records.proofs.Made.{number-at}
+use Rattle.redex.proofs.Places.{reader-at}
 use Rattle.redex.proofs.Forms.{recursion-turn, reading-is}
 
 -- a type is a function by its first byte
@@ -35,7 +36,7 @@ made-function (suc (suc zero)) p s t = refl
 made-function (suc (suc (suc zero))) p s t = refl
 made-function (suc (suc (suc (suc k)))) p s t = ne-eqb (suc (suc (suc (suc k)))) 3 (λ e. omega arith)
 
-first-function : (b : Bytes) → 4 ≤ length b → eqb (byte b 0) 3 ≡ is-function (getD (parse-types b) 0 no-type)
+first-function : (b : Bytes) → type-width ≤ length b → eqb (byte b 0) 3 ≡ is-function (getD (parse-types b) 0 no-type)
 unfolding parse-types
 first-function [] l = absurd (omega arith)
 first-function (k ∷ []) l = absurd (omega arith)
@@ -43,7 +44,7 @@ first-function (k ∷ r ∷ []) l = absurd (omega arith)
 first-function (k ∷ r ∷ ir ∷ []) l = absurd (omega arith)
 first-function (k ∷ r ∷ ir ∷ z ∷ b) l = made-function k _ _ _
 
-pub function-at : (t : Bytes) (i : ℕ) → type-width * i + 4 ≤ length t → eqb (type-kind t i) 3 ≡ is-function (type-at t i)
+pub function-at : (t : Bytes) (i : ℕ) → i < type-count t → eqb (type-kind t i) 3 ≡ is-function (type-at t i)
 unfolding type-at
 function-at t i l =
     let z : type-width * i + 0 ≡ type-width * i = omega arith in

@@ -9,14 +9,12 @@ use Rattle.calculus.specs.Terms.{Term, var, unit, lam, pair, inj, app, proj, ca
 use Rattle.calculus.specs.Reduction.{Context, plug}
 use Rattle.rules.specs.Answer.{Bytes}
 use Rattle.rules.specs.Limits.{script-width}
-use Rattle.rules.specs.Script.{r, ir, number, encode}
-use Rattle.rules.proofs.Prefix.{record-at}
+use Rattle.rules.specs.Script.{r, ir, encode}
 use Rattle.rules.proofs.Parts.{past}
-use Rattle.rules.proofs.PrefixLaws.{record-is}
-use Rattle.rules.proofs.TermCode.{term-head, term-code}
-use Rattle.rules.proofs.RecordFields.{r-is, ir-is, number-is}
+use Rattle.rules.proofs.TermCode.{term-head}
+use Rattle.rules.proofs.RecordFields.{r-is, ir-is}
 use Rattle.records.specs.Place.{At}
-use Rattle.records.proofs.Made.{number-of}
+use Rattle.records.proofs.Made.{own-record}
 use Rattle.redex.specs.Contexts.{before, after, offset}
 use Rattle.redex.specs.Fates.{property-of}
 use Rattle.redex.specs.Found.{Site}
@@ -36,17 +34,11 @@ own-groups (protect m e) = (refl, refl)
 own-groups (mu i e) = (refl, refl)
 
 module _ {s : Bytes} {i : ℕ} {e : Term} (a : At s i e) where
-  own-record : record-at script-width s i ≡ term-head e
-  own-record = record-is term-code s i e (a .rest) (a .stands)
-
   pub reader-at : r s i ≡ property-of e .r
-  reader-at = sym (r-is s i) ∙ ap (λ b. r b 0) own-record ∙ own-groups e .0
+  reader-at = sym (r-is s i) ∙ ap (λ b. r b 0) (own-record a) ∙ own-groups e .0
 
   pub indirect-at : ir s i ≡ property-of e .ir
-  indirect-at = sym (ir-is s i) ∙ ap (λ b. ir b 0) own-record ∙ own-groups e .1
-
-  pub number-at : number s i ≡ number-of e
-  number-at = sym (number-is s i) ∙ ap (λ b. number b 0) own-record
+  indirect-at = sym (ir-is s i) ∙ ap (λ b. ir b 0) (own-record a) ∙ own-groups e .1
 
 -- what stands in the hole of a context
 pub hole-at : {s : Bytes} {i : ℕ} {e : Term} (E : Context) (x : Term) → At s i e → e ≡ plug E x → At s (i + offset E) x

@@ -12,7 +12,6 @@ use records::SECOND_INJECTION;
 use records::SECOND_PROJECTION;
 use records::UNIT;
 use records::VARIABLE;
-use types::TYPE_WIDTH;
 ghost use mathlib.Core.Path.{_≡_};
 ghost use mathlib.Core.Bool.{So};
 ghost use Prim.Native.Nat.{ℕ, _+_, _<_};
@@ -40,10 +39,10 @@ pub enum Found {
 fn unrolls(types: &[u8], i: usize) -> bool
     ensures { λ a. ⌜ a ≡ is-function (type-at (now (types .entry)) i) ⌝ }
 {
-    if types.len() / TYPE_WIDTH <= i {
+    if types::type_count(types) <= i {
         return false;
     }
-    types[TYPE_WIDTH * i] == types::FUNCTION
+    types::kind_at(types, i) == types::FUNCTION
 }
 
 // Does a destructor of this kind take apart a value of that kind?

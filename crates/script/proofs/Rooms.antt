@@ -23,7 +23,7 @@ and-true false b c = refl
 
 pub asked-alone : (s : Bytes) → ask 13 0 (whole-records s) ≡ q13 [] s
 unfolding first-from
-asked-alone s = ap (ask 13 0) (and-true (eqb (length s % 6) 0) (leb 1 (records s)) (leb (records s) 8192))
+asked-alone s = ap (ask 13 0) (and-true (eqb (length s % script-width) 0) (leb 1 (records s)) (leb (records s) script-limit))
 
 both : (d e : Bool) → (d && e) ≡ is-none {A = ℕ} (elim (not d) [ true ↦ some 0 | false ↦ elim (not e) [ true ↦ some 1 | false ↦ none ] ])
 both true true = refl
@@ -41,8 +41,8 @@ pub asked-in-run : (s : Bytes) (first scratch : ℕ) → ask 13 0 (whole-records
 unfolding first-from
 asked-in-run s first scratch =
     ap (ask 13 0)
-    (and-more (eqb (length s % 6) 0) (leb 1 (records s)) (leb (records s) 8192) (leb (length s) first && leb (length s) scratch)
-    ∙ ap (λ x. eqb (length s % 6) 0 && (leb 1 (records s) && (leb (records s) 8192 && x))) (both (leb (length s) first) (leb (length s) scratch)))
+    (and-more (eqb (length s % script-width) 0) (leb 1 (records s)) (leb (records s) script-limit) (leb (length s) first && leb (length s) scratch)
+    ∙ ap (λ x. eqb (length s % script-width) 0 && (leb 1 (records s) && (leb (records s) script-limit && x))) (both (leb (length s) first) (leb (length s) scratch)))
 
 and-left : (a b : Bool) → (a && b) ≡ true → a ≡ true
 and-left true b e = refl

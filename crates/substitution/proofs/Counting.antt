@@ -13,61 +13,14 @@ use Rattle.rules.proofs.Prefix.{total}
 use Rattle.rules.proofs.Parts.{total-append}
 use Rattle.rules.proofs.TermCode.{term-operands, term-size-is}
 use Rattle.records.specs.Place.{At}
+use Rattle.records.specs.Kinds as kinds
+use Rattle.records.proofs.Passing.{Passed, Ahead, started, passed-more, operand-here, split-at, whole}
 use Rattle.records.proofs.Stands.{kind-of, stands-kind}
 use Rattle.records.specs.Binders.{binds}
 use Rattle.substitution.specs.Substituted.{value-limit, Sizes, Measured}
 use Rattle.substitution.specs.declared.Extent.{Extent}
 use Rattle.substitution.proofs.Nodes.{greatest, greatest-append, View, variable, node, view, under, under-append, subst-var, subst-size, subst-depth, operand-size, operand-depth, greatest-records, under-bound}
-use Rattle.substitution.proofs.Reading.{operand, number-at}
-
--- the first j operands of e, which stands at record i, are passed
-pub record Passed (i : ℕ) (e : Term) (j next : ℕ) : Type 0 where
-  pub before : List Term
-  pub after : List Term
-  pub split : term-operands e ≡ before ++ after
-  pub count : length before ≡ j
-  pub next-is : next ≡ suc i + total size before
-
--- one operand more
-pub record Ahead {i : ℕ} {e : Term} {j next : ℕ} (p : Passed i e j next) : Type 0 where
-  pub operand : Term
-  pub later : List Term
-  pub is : p .after ≡ operand ∷ later
-
-abbrev pub started : (i : ℕ) (e : Term) → Passed i e 0 (i + 1)
-started i e = record { before = []; after = term-operands e; split = refl; count = refl; next-is = omega arith }
-
-pub ahead : {i : ℕ} {e : Term} {j next : ℕ} (p : Passed i e j next) → j < length (term-operands e) → Ahead p
-ahead p h = some (p .after) refl (omega (arith, p .count, ap length (p .split), length-append (p .before) (p .after)))
-  where
-    some : (l : List Term) → p .after ≡ l → 1 ≤ length l → Ahead p
-    some [] is g = absurd (omega arith)
-    some (d ∷ l) is g = record { operand = d; later = l; is = is }
-
-module _ {i : ℕ} {e : Term} {j next : ℕ} (p : Passed i e j next) where
-  pub split-at : (a : Ahead p) → term-operands e ≡ p .before ++ a .operand ∷ a .later
-  split-at a = p .split ∙ ap (λ l. p .before ++ l) (a .is)
-
-  -- the operand stands where the walk is
-  abbrev pub operand-here : (a : Ahead p) {s : Bytes} → At s i e → At s next (a .operand)
-  operand-here a h = operand h (p .before) (a .operand) (a .later) next (split-at a) (p .next-is)
-
-  abbrev pub passed-more : (a : Ahead p) (next′ : ℕ) → next′ ≡ next + size (a .operand) → Passed i e (j + 1) next′
-  passed-more a next′ h = record {
-    before = p .before ++ a .operand ∷ [];
-    after = a .later;
-    split = split-at a ∙ sym (append-assoc (p .before) (a .operand ∷ []) (a .later));
-    count = omega (arith, p .count, length-append (p .before) (a .operand ∷ []));
-    next-is = omega (arith, p .next-is, total-append size (p .before) (a .operand ∷ []));
-  }
-
-  -- all are passed
-  pub whole : j ≡ length (term-operands e) → p .before ≡ term-operands e
-  whole h = none (p .after) refl (omega (arith, p .count, ap length (p .split), length-append (p .before) (p .after)))
-    where
-      none : (l : List Term) → p .after ≡ l → length l ≡ 0 → p .before ≡ term-operands e
-      none [] is g = sym (append-nil (p .before)) ∙ ap (λ l. p .before ++ l) (sym is) ∙ sym (p .split)
-      none (d ∷ l) is g = absurd (omega arith)
+use Rattle.substitution.proofs.Reading.{variable-at}
 
 -- the operands passed, with v for the node's variable n, and one more
 pub under-more : (k n : ℕ) (v : Term) (before : List Term) (j : ℕ) (d : Term) (level : ℕ) → length before ≡ j → level ≡ n + binds k j
@@ -106,7 +59,7 @@ module _ {i n : ℕ} {e v : Term} {j next sum below : ℕ} (p : Counted i n e v 
         omega (arith, p .sum-is, p .below-is, greatest-records (under (kind-of e) n v 0 (q .before))),
       )
 
-  pub counted-all : (kind-of e ≡ 0 → ⊥) → j ≡ length (term-operands e) → Measured i n e v (record { next = next; records = sum; depth = below + 1 })
+  pub counted-all : (kind-of e ≡ kinds.variable → ⊥) → j ≡ length (term-operands e) → Measured i n e v (record { next = next; records = sum; depth = below + 1 })
   counted-all h l =
       let q = p .passed in
       let w = whole q l in
@@ -132,7 +85,7 @@ operand-sizes q p a level l = record {
 }
 
 -- a variable
-pub measured-variable : (s : Bytes) (i n : ℕ) (e v : Term) → At s i e → kind s i ≡ 0 → (records deep : ℕ) → records ≡ size v → deep ≡ depth v → (x : Extent)
+pub measured-variable : (s : Bytes) (i n : ℕ) (e v : Term) → At s i e → kind s i ≡ kinds.variable → (records deep : ℕ) → records ≡ size v → deep ≡ depth v → (x : Extent)
     → x .next ≡ i + 1 → x .records ≡ cond (eqb (number s i) n) records 1 → x .depth ≡ cond (eqb (number s i) n) deep 1 → Measured i n e v x
 unfolding size depth
 measured-variable s i n e v a k records deep hr hd x e1 e2 e3 = go e (view e) a
@@ -144,7 +97,7 @@ measured-variable s i n e v a k records deep hr hd x e1 e2 e3 = go e (view e) a
     go : (e : Term) → View e → At s i e → Measured i n e v x
     go e (variable m) a =
         let y = by (eqb m n) m in
-        let z = number-at a in
+        let z = variable-at a in
         record {
           next = e1;
           records = e2 ∙ ap (λ l. cond (eqb l n) records 1) z ∙ y .0 ∙ ap size (sym (subst-var n v m));

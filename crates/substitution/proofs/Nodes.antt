@@ -13,6 +13,7 @@ use Rattle.rules.specs.Script.{encode, size, depth}
 use Rattle.rules.proofs.Prefix.{All, joined, total}
 use Rattle.rules.proofs.Parts.{all-of, total-append}
 use Rattle.rules.proofs.TermCode.{term-operands, term-head, term-induction, term-size-is, term-encode-is}
+use Rattle.records.specs.Kinds as kinds
 use Rattle.records.proofs.Stands.{kind-of}
 use Rattle.records.specs.Binders.{binds}
 use Rattle.substitution.specs.Substituted.{value-limit}
@@ -41,7 +42,7 @@ term-depth-is (mu i e) = omega arith
 -- a variable, or a node of another kind
 pub data View : Term → Type 0 where
   variable : (m : ℕ) → View (var m)
-  node : {e : Term} → (kind-of e ≡ 0 → ⊥) → View e
+  node : {e : Term} → (kind-of e ≡ kinds.variable → ⊥) → View e
 
 positive : (k : ℕ) → suc k ≡ 0 → ⊥
 positive k h = omega arith
@@ -76,7 +77,7 @@ pub record Node (n : ℕ) (v e : Term) : Type 0 where
   pub head : term-head (subst n v e) ≡ term-head e
   pub operands : term-operands (subst n v e) ≡ under (kind-of e) n v 0 (term-operands e)
 
-pub subst-node : (n : ℕ) (v e : Term) → (kind-of e ≡ 0 → ⊥) → Node n v e
+pub subst-node : (n : ℕ) (v e : Term) → (kind-of e ≡ kinds.variable → ⊥) → Node n v e
 unfolding subst binds
 subst-node n v (var m) h = absurd (h refl)
 subst-node n v (unit k) h = record { head = refl; operands = refl }
@@ -95,7 +96,7 @@ pub subst-var : (n : ℕ) (v : Term) (m : ℕ) → subst n v (var m) ≡ cond (e
 unfolding subst
 subst-var n v m = refl
 
-module _ (n : ℕ) (v e : Term) (h : kind-of e ≡ 0 → ⊥) where
+module _ (n : ℕ) (v e : Term) (h : kind-of e ≡ kinds.variable → ⊥) where
   pub subst-size : size (subst n v e) ≡ suc (total size (under (kind-of e) n v 0 (term-operands e)))
   subst-size = term-size-is (subst n v e) ∙ ap (λ es. suc (total size es)) (subst-node n v e h .operands)
 

@@ -15,14 +15,17 @@ use Rattle.rules.proofs.PrefixLaws.{joined-length}
 use Rattle.rules.proofs.TermCode.{term-operands, term-head, term-head-length, term-size-is, term-code}
 use Rattle.records.specs.Place.{At}
 use Rattle.memory.specs.Splice.{splice}
+use Rattle.records.specs.Kinds as kinds
+use Rattle.records.proofs.Made.{own-record}
+use Rattle.records.proofs.Passing.{Passed, Ahead, started, split-at, operand-here, passed-more, whole}
 use Rattle.records.proofs.Stands.{kind-of, stands-kind}
 use Rattle.records.specs.Binders.{binds}
 use Rattle.substitution.specs.Substituted.{Room, Written}
 use Rattle.substitution.specs.declared.Wrote.{Wrote}
 use Rattle.memory.proofs.Laws.{splice-none, join-next}
 use Rattle.substitution.proofs.Nodes.{View, variable, node, view, under, under-append, subst-var, subst-size, subst-encode, operand-depth}
-use Rattle.substitution.proofs.Reading.{head-at, number-at, term-length}
-use Rattle.substitution.proofs.Counting.{Passed, Ahead, started, split-at, operand-here, passed-more, whole, under-more}
+use Rattle.substitution.proofs.Reading.{variable-at, term-length}
+use Rattle.substitution.proofs.Counting.{under-more}
 
 -- The operands passed, with v for the node's variable n, stand in the buffer from byte `start` on.
 pub record Copied (i n : ℕ) (e v : Term) (start : ℕ) (w : Bytes) (j next end : ℕ) (w′ : Bytes) : Type 0 where
@@ -53,7 +56,7 @@ module _ {i n : ℕ} {e v : Term} {start : ℕ} {w : Bytes} {j next end : ℕ} {
       }
 
   -- with the record in front of them
-  pub copied-all : (at : ℕ) (w₀ : Bytes) → (kind-of e ≡ 0 → ⊥) → j ≡ length (term-operands e) → at ≤ length w₀ → start ≡ at + script-width → w ≡ splice at (term-head e) w₀
+  pub copied-all : (at : ℕ) (w₀ : Bytes) → (kind-of e ≡ kinds.variable → ⊥) → j ≡ length (term-operands e) → at ≤ length w₀ → start ≡ at + script-width → w ≡ splice at (term-head e) w₀
       → length w ≡ length w₀ → Written i n e v at w₀ (record { next = next; end = end }) w′
   copied-all at w₀ h l r z hw lw =
       let q = p .passed in
@@ -68,7 +71,7 @@ module _ {i n : ℕ} {e v : Term} {start : ℕ} {w : Bytes} {j next end : ℕ} {
       }
 
 -- an operand's room is part of its node's
-pub room-for : (n : ℕ) (e v : Term) (before : List Term) (d : Term) (later : List Term) (j level : ℕ) → (kind-of e ≡ 0 → ⊥)
+pub room-for : (n : ℕ) (e v : Term) (before : List Term) (d : Term) (later : List Term) (j level : ℕ) → (kind-of e ≡ kinds.variable → ⊥)
     → term-operands e ≡ before ++ d ∷ later → length before ≡ j → level ≡ n + binds (kind-of e) j
     → suc (total size (under (kind-of e) n v 0 before) + size (subst level v d)) ≤ size (subst n v e)
 room-for n e v before d later j level h s c l =
@@ -87,7 +90,7 @@ room-for n e v before d later j level h s c l =
 
 -- what writing an operand is given
 abbrev pub operand-room : {s : Bytes} {i : ℕ} {f m b : Bytes} {n : ℕ} {w₀ : Bytes} {at : ℕ} (q : Room s i f m b n w₀ at) {j next end : ℕ} {w w′ : Bytes}
-    (p : Copied i n (q .tree) (q .value) (at + script-width) w j next end w′) (a : Ahead (p .passed)) (level : ℕ) → length w ≡ length w₀ → (kind-of (q .tree) ≡ 0 → ⊥)
+    (p : Copied i n (q .tree) (q .value) (at + script-width) w j next end w′) (a : Ahead (p .passed)) (level : ℕ) → length w ≡ length w₀ → (kind-of (q .tree) ≡ kinds.variable → ⊥)
     → level ≡ n + binds (kind-of (q .tree)) j → level ≤ n + 1 → Room s next f m b level w′ end
 operand-room {n = n} q {j = j} p a level k h l g =
     let o = p .passed in
@@ -113,7 +116,7 @@ module _ {s : Bytes} {i : ℕ} {e : Term} (a : At s i e) (k : kind s i ≡ 0) (n
   variable-here h = go e (view e) a
     where
       go : (e : Term) → View e → At s i e → (subst n v e ≡ v) × (size e ≡ 1)
-      go e (variable m) a = (subst-var n v m ∙ rw (eq-eqb m n (sym (number-at a) ∙ h)), refl)
+      go e (variable m) a = (subst-var n v m ∙ rw (eq-eqb m n (sym (variable-at a) ∙ h)), refl)
       go e (node g) a = absurd (g (sym (stands-kind _ _ _ a) ∙ k))
 
   pub variable-else : (number s i ≡ n → ⊥) → (subst n v e ≡ e) × (encode e ≡ term-head e) × (size e ≡ 1)
@@ -121,7 +124,7 @@ module _ {s : Bytes} {i : ℕ} {e : Term} (a : At s i e) (k : kind s i ≡ 0) (n
   variable-else h = go e (view e) a
     where
       go : (e : Term) → View e → At s i e → (subst n v e ≡ e) × (encode e ≡ term-head e) × (size e ≡ 1)
-      go e (variable m) a = (subst-var n v m ∙ rw (ne-eqb m n (λ z. h (number-at a ∙ z))), refl, refl)
+      go e (variable m) a = (subst-var n v m ∙ rw (ne-eqb m n (λ z. h (variable-at a ∙ z))), refl, refl)
       go e (node g) a = absurd (g (sym (stands-kind _ _ _ a) ∙ k))
 
   pub written-here : (b : Bytes) (start : ℕ) (w w′ : Bytes) (end : ℕ) → number s i ≡ n → b ≡ encode v → end ≡ start + length b → w′ ≡ splice start b w
@@ -141,5 +144,5 @@ module _ {s : Bytes} {i : ℕ} {e : Term} (a : At s i e) (k : kind s i ≡ 0) (n
       record {
         next = omega (arith, z .2);
         end = omega (arith, z .2, ap size (z .0));
-        wrote = hw ∙ ap (λ y. splice start y w) (head-at a ∙ sym (z .1) ∙ ap encode (sym (z .0)));
+        wrote = hw ∙ ap (λ y. splice start y w) (own-record a ∙ sym (z .1) ∙ ap encode (sym (z .0)));
       }

@@ -11,6 +11,7 @@ ghost use lib.ListN.{length};
 ghost use Rattle.calculus.specs.Terms.{Term};
 ghost use Rattle.rules.specs.Limits.{script-width};
 ghost use Rattle.rules.specs.Script.{records as record-count, kind, number, encode, size, depth};
+ghost use Rattle.records.specs.Kinds as kinds;
 ghost use Rattle.records.specs.Place.{At};
 ghost use Rattle.memory.specs.Splice.{splice};
 ghost use Rattle.records.specs.Binders.{binds};
@@ -131,7 +132,7 @@ fn write_variable(
     to: &mut [u8],
     at: usize,
 ) -> Wrote
-    requires { ⌜ Room (now script) i (now front) (now mid) (now back) n (now to) at × (kind (now script) i ≡ 0) ⌝ }
+    requires { ⌜ Room (now script) i (now front) (now mid) (now back) n (now to) at × (kind (now script) i ≡ kinds.variable) ⌝ }
     ensures { λ x. ⌜ ((e v : Term) → At (now (script .entry)) i e
         → now (front .entry) ++ (now (mid .entry) ++ now (back .entry)) ≡ encode v
         → Written i n e v at (now (to .entry)) x (now (to .exit))) ⌝ }

@@ -9,6 +9,7 @@ use Rattle.calculus.specs.Types.{Ty}
 use Rattle.calculus.specs.Terms.{Term}
 use Rattle.calculus.specs.Reduction.{plug, moved, step}
 use Rattle.rules.specs.Answer.{Bytes}
+use Rattle.rules.specs.Limits.{script-limit}
 use Rattle.rules.specs.Groups.{readers}
 use Rattle.rules.specs.Types.{type-at}
 use Rattle.rules.specs.Script.{records, encode, term, size}
@@ -112,7 +113,7 @@ end c = let q = ended c .pre in c .end-of .ensures (q .site .redex) (redex-at (q
 inside : (c : tie.After-end-of) → c .end-of .result ≤ records (P (ended c))
 inside c = let q = ended c .pre in end-inside (q .start) (q .site) (c .end-of .result) (end c)
 
-bytes : (s : tie.Start) → records (P s) ≤ 8192
+bytes : (s : tie.Start) → records (P s) ≤ script-limit
 bytes s = omega (arith, s .pre .start .small, start-records (P s) (s .pre .start .encoded))
 
 -- the new term's records

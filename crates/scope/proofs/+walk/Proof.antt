@@ -11,10 +11,11 @@ use lib.ListN.{length}
 use Rattle.calculus.specs.Terms.{Term}
 use Rattle.rules.specs.Script.{arity}
 use Rattle.records.specs.Place.{At}
+use Rattle.records.proofs.Passing.{Ahead, ahead, operand-here}
 use Rattle.records.proofs.Stands.{operands, kind-of, here, there, stands-kind, stands-arity}
 use Rattle.scope.specs.Said.{said-walk}
 use Rattle.scope.specs.Walk.{passes, increment}
-use Rattle.scope.proofs.Walks.{scanned, refuse, Reached, reach, Ahead, ahead, end, operand-at, stop, pass}
+use Rattle.scope.proofs.Walks.{scanned, refuse, Reached, reach, end, stop, pass}
 use Rattle.scope.proofs.walk.Reads as walk
 use Rattle.scope.proofs.walk.Kinds as walk-kinds
 use Rattle.scope.proofs.+walk.Lts-walk as lts
@@ -101,8 +102,8 @@ module _ (t : ℕ) where
         (c .before .before .loop .j) (c .before .before .loop .next)
     so-far = c .before .before .loop .inv .1 u w
 
-    ahead-of : Ahead so-far
-    ahead-of = ahead so-far (omega (arith, c .before .loop-test .taken, arity-is (known c) u w))
+    ahead-of : Ahead (so-far .passed)
+    ahead-of = ahead (so-far .passed) (omega (arith, c .before .loop-test .taken, arity-is (known c) u w))
 
     number-is : number c ≡ start c .args .n + increment (start c .args .question) (kind-of u) (c .before .before .loop .j)
     number-is =
@@ -114,7 +115,7 @@ module _ (t : ℕ) where
       → said-walk (c .walk .result)
       ≡ scanned (start (c .before) .args .question) (start (c .before) .args .script .now) (c .before .before .before .loop .next) (number (c .before))
       (ahead-of (c .before) u w .operand)
-  operand-scan c u w = c .walk .ensures _ (operand-at _ (ahead-of (c .before) u w))
+  operand-scan c u w = c .walk .ensures _ (operand-here _ (ahead-of (c .before) u w) w)
 
   passes-requires : lts.Need-passes-requires (claims t) (walk-at t) walk.Post Inv-loop μ-loop
   passes-requires c κs = there _ _ _ (given (c .before))
@@ -134,7 +135,7 @@ module _ (t : ℕ) where
   add-next c = omega (arith, there _ _ _ (given (entry c)), entry c .good)
 
   loop-holds : lts.Need-loop-holds (claims t) (walk-at t) walk.Post Inv-loop μ-loop
-  loop-holds c = (omega arith, λ u w. reach _ _ _ _ u w (passed c))
+  loop-holds c = (omega arith, λ u w. reach _ _ _ _ u (passed c))
 
   increment-requires : lts.Need-increment-requires (claims t) (walk-at t) walk.Post Inv-loop μ-loop
   increment-requires c κs = search needs
@@ -146,8 +147,8 @@ module _ (t : ℕ) where
   walk-requires c κs =
       let s = start c in
       let p = so-far c _ (given s) in (
-        omega (arith, there _ _ _ (given s), s .pre .0, p .after),
-        (here (operand-at p (ahead-of c _ (given s))), omega (arith, p .after, s .pre .1 .1, c .increment .ensures .1)),
+        omega (arith, there _ _ _ (given s), s .pre .0, p .passed .next-is),
+        (here (operand-here (p .passed) (ahead-of c _ (given s)) (given s)), omega (arith, p .passed .next-is, s .pre .1 .1, c .increment .ensures .1)),
       )
 
   enum-known-a : lts.Need-enum-known-a (claims t) (walk-at t) walk.Post Inv-loop μ-loop

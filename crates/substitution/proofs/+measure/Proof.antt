@@ -11,10 +11,12 @@ use Rattle.rules.specs.Answer.{Bytes}
 use Rattle.rules.specs.Script.{size, depth, arity}
 use Rattle.rules.proofs.TermCode.{term-operands}
 use Rattle.records.specs.Place.{At}
+use Rattle.records.specs.Kinds as kinds
+use Rattle.records.proofs.Passing.{Ahead, ahead, operand-here}
 use Rattle.records.proofs.Stands.{kind-of, there, stands-kind, stands-arity}
 use Rattle.records.specs.Binders.{binds}
 use Rattle.substitution.specs.Substituted.{value-limit, Sizes}
-use Rattle.substitution.proofs.Counting.{Ahead, ahead, operand-here, operand-sizes, Counted, counted-none, counted-more, counted-bound, counted-all, measured-variable}
+use Rattle.substitution.proofs.Counting.{operand-sizes, Counted, counted-none, counted-more, counted-bound, counted-all, measured-variable}
 use Rattle.substitution.proofs.measure.Reads as measure
 use Rattle.substitution.proofs.measure.Kinds as measure-kinds
 use Rattle.substitution.proofs.+measure.Lts-measure as lts
@@ -86,7 +88,7 @@ module _ (t : ℕ) where
   abbrev entry : Known → Start
   entry c = c .before .before .before .before
 
-  other-kind : (c : Known) (u : Term) → Stands (entry c) u → kind-of u ≡ 0 → ⊥
+  other-kind : (c : Known) (u : Term) → Stands (entry c) u → kind-of u ≡ kinds.variable → ⊥
   other-kind c u a h = c .before .if1 .left (c .before .before .kind .ensures ∙ stands-kind _ _ _ a ∙ h)
 
   count-is : (c : Known) (u : Term) → Stands (entry c) u → c .arity .result ≡ length (term-operands u)

@@ -13,12 +13,14 @@ use Rattle.rules.specs.Limits.{script-width}
 use Rattle.rules.specs.Script.{encode, arity}
 use Rattle.rules.proofs.TermCode.{term-operands, term-head}
 use Rattle.records.specs.Place.{At}
+use Rattle.records.specs.Kinds as kinds
+use Rattle.records.proofs.Made.{own-record}
+use Rattle.records.proofs.Passing.{Ahead, ahead, operand-here}
 use Rattle.records.proofs.Stands.{kind-of, there, stands-kind, stands-arity}
 use Rattle.memory.specs.Splice.{splice}
 use Rattle.records.specs.Binders.{binds}
 use Rattle.substitution.specs.Substituted.{Room}
-use Rattle.substitution.proofs.Reading.{head-at, size-from}
-use Rattle.substitution.proofs.Counting.{Ahead, ahead, operand-here}
+use Rattle.substitution.proofs.Reading.{size-from}
 use Rattle.substitution.proofs.Writing.{Copied, copied-none, copied-more, copied-all, operand-room}
 use Rattle.substitution.proofs.write.Reads as write
 use Rattle.substitution.proofs.write.Kinds as write-kinds
@@ -102,9 +104,9 @@ module _ (t : ℕ) where
   record-kept c = c .before .before .before .copy-part .kept .1 .1 .1 .0
 
   record-is : (c : Known) (u : Term) → Stands (entry c) u → record-written c ≡ splice (entry c .args .at) (term-head u) (entry c .args .to .now)
-  record-is c u a = c .before .before .before .copy-part .ensures ∙ ap (λ (b : Bytes). splice (entry c .args .at) b (entry c .args .to .now)) (head-at a)
+  record-is c u a = c .before .before .before .copy-part .ensures ∙ ap (λ (b : Bytes). splice (entry c .args .at) b (entry c .args .to .now)) (own-record a)
 
-  other-kind : (c : Known) (u : Term) → Stands (entry c) u → kind-of u ≡ 0 → ⊥
+  other-kind : (c : Known) (u : Term) → Stands (entry c) u → kind-of u ≡ kinds.variable → ⊥
   other-kind c u a h = c .before .before .before .before .before .if1 .left (c .before .before .before .before .before .before .kind .ensures ∙ stands-kind _ _ _ a ∙ h)
 
   count-is : (c : Known) (u : Term) → Stands (entry c) u → c .arity .result ≡ length (term-operands u)
