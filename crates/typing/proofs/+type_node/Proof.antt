@@ -186,7 +186,7 @@ module _ (t : ℕ) where
   is-zero c v = sym (count (c .before) v) ∙ c .if1 .taken
 
   kind-requires : lts.Need-kind-requires (claims t) (node-at t) node.Post
-  kind-requires c κs = let v = given (c .before .before .before .before) in long (v .tree) (v .is)
+  kind-requires c κs = let v = given (c .before .before .before .before) in omega (arith, long (v .tree) (v .is))
 
   arity-requires : lts.Need-arity-requires (claims t) (node-at t) node.Post
   arity-requires c κs = search needs
