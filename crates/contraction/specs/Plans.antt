@@ -41,7 +41,7 @@ pub data Planned (s : Bytes) : Term → Plan → Type 0 where
   lifted : {m : Indirect} {v : Term} → So (is-value v) → Planned s (protect m v) Raised
   unrolled-one : {i : ℕ} {b : Term} → Planned s (mu i b) Unrolled
 
--- a planned redex, within the limits
+-- a redex with its plan stands at record `at`, within the limits
 pub record Ready (s : Bytes) (at : ℕ) (p : Plan) : Type 0 where
   pub tree : Term
   pub stands : At s at tree
@@ -49,12 +49,12 @@ pub record Ready (s : Bytes) (at : ℕ) (p : Plan) : Type 0 where
   pub small : size tree ≤ script-limit
   pub shallow : depth tree ≤ depth-limit
 
--- m counts e
+-- m tells the records and the depth of e
 pub record Measures (e : Term) (m : Size) : Type 0 where
   pub records : m .records ≡ size e
   pub deep : m .depth ≡ depth e
 
--- a body and a value, of one script
+-- a body at record x and a value at record y of one script, within the limits
 pub record Both (s : Bytes) (x y : ℕ) : Type 0 where
   pub body : Term
   pub value : Term
@@ -64,6 +64,7 @@ pub record Both (s : Bytes) (x y : ℕ) : Type 0 where
   pub shallow-body : depth body ≤ depth-limit
   pub shallow-value : depth value ≤ depth-limit
 
+-- a recursion stands at record `at`, within the limits
 pub record Recursive (s : Bytes) (at : ℕ) : Type 0 where
   pub type : ℕ
   pub body : Term
@@ -105,7 +106,7 @@ pub record UnrolledRoom (t s : Bytes) (at : ℕ) (w : Bytes) (start : ℕ) : Typ
   pub groups : Bytes
   pub fits : start + script-width * size (subst 0 (unrolled (readers groups) type (top (type-at t type)) body) body) ≤ length w
 
--- a planned redex whose contractum has room
+-- a redex with its plan stands at record `at`, and w has room for its contractum from byte `start` on
 pub record Fit (g t s : Bytes) (at : ℕ) (p : Plan) (w : Bytes) (start : ℕ) : Type 0 where
   pub ready : Ready s at p
   pub contracts : fate (readers g) (type-at t) (ready .tree) ≡ goes

@@ -42,25 +42,25 @@ spent-on (found.Redex place around) = 1
 spent-on found.Denied = 1
 spent-on found.Stuck = 1
 
--- a run's end, steps and record count
+-- a tells the run's end, steps and record count
 pub record Told (x : Ran) (a : Halt) : Type 0 where
   pub end : a .end ≡ x .end
   pub steps : a .steps ≡ x .steps
   pub records : a .records ≡ size (x .last)
 
--- and its last term at the front of a buffer
+-- a tells the run, whose last term stands at the front of a buffer
 pub record Halted (x : Ran) (room : ℕ) (a : Halt) (first′ : Bytes) : Type 0 where
   pub told : Told x a
   pub holds : take (script-width * a .records) first′ ≡ encode (x .last)
   pub fits : script-width * a .records ≤ room
 
--- and both buffers as a run leaves them
+-- a tells the run, which leaves both buffers as the rules say
 pub record Ends (x : Ran) (first scratch : Bytes) (a : Halt) (first′ scratch′ : Bytes) : Type 0 where
   pub told : Told x a
   pub first-is : first′ ≡ first-after (accepted x) first
   pub scratch-is : scratch′ ≡ scratch-after (accepted x) scratch
 
--- a refusal, passed on
+-- a refused script as a run's answer
 abbrev pub refused-run : Checked → RunAnswer
 refused-run checked.Passed = Ended 0 0 0
 refused-run (checked.Refused question place) = Refused question place

@@ -38,11 +38,11 @@ made (mu i e) = ap (λ n. mu n e) (sym (two-bytes i))
 of-kind : (k : ℕ) (e : Term) → kind-of e ≡ k → e ≡ form k e
 of-kind k e h = made e ∙ ap (λ n. form n e) h
 
--- so what is shown of that form is shown of e
+-- what is shown of the form that e's kind tells is shown of e
 pub by-kind : (P : Term → Type 0) (k : ℕ) (e : Term) → kind-of e ≡ k → P (form k e) → P e
 by-kind P k e h p = subst P (sym (of-kind k e h)) p
 
--- its own record, and the number in it
+-- the own record of a term that stands at record i, and the number in it
 pub own-record : {s : Bytes} {i : ℕ} {e : Term} → At s i e → record-at script-width s i ≡ term-head e
 own-record {s} {i} {e} a = record-is term-code s i e (a .rest) (a .stands)
 

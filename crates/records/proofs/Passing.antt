@@ -22,7 +22,7 @@ pub record Passed (i : ℕ) (e : Term) (j next : ℕ) : Type 0 where
   pub count : length before ≡ j
   pub next-is : next ≡ suc i + total size before
 
--- one operand more
+-- an operand is still to come
 pub record Ahead {i : ℕ} {e : Term} {j next : ℕ} (p : Passed i e j next) : Type 0 where
   pub operand : Term
   pub later : List Term
@@ -59,7 +59,7 @@ module _ {i : ℕ} {e : Term} {j next : ℕ} (p : Passed i e j next) where
     next-is = omega (arith, p .next-is, total-append size (p .before) (a .operand ∷ []));
   }
 
-  -- all are passed
+  -- all operands are passed
   pub none-left : j ≡ length (term-operands e) → p .after ≡ []
   none-left h = none (p .after) refl (omega (arith, p .count, ap length (p .split), length-append (p .before) (p .after)))
     where

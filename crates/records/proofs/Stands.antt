@@ -40,7 +40,7 @@ room s i e w =
           term-code e,
     )
 
--- its records are, and so its first one is there
+-- a term's records are within its script, and so its first record is there
 pub inside : (s : Bytes) (i : ℕ) (e : Term) → At s i e → i + size e ≤ records s
 inside s i e w = omega (arith, room s i e w)
 

@@ -4,7 +4,7 @@ use Prim.Native.Nat.{ℕ, zero, suc}
 use lib.Dec.{eqb}
 use Rattle.records.specs.Kinds as kinds
 
--- how many stand over operand j, counted from 0, of a record of this kind
+-- how many binders stand over operand j, counted from 0, of a record of this kind
 unfoldable pub binds : ℕ → ℕ → ℕ
 binds kind zero = cond (eqb kind kinds.function || eqb kind kinds.recursion) 1 0
 binds kind (suc j) = cond (eqb kind kinds.case) 1 0

@@ -68,7 +68,7 @@ second-position (case u i e a b) v h l w = absurd (omega arith)
 second-position (protect m e) v h l w = absurd (omega arith)
 second-position (mu i e) v h l w = absurd (omega arith)
 
--- values
+-- the kinds of values
 pub unit-value : (e : Term) → kind-of e ≡ kinds.unit → So (is-value e) × (size e ≡ 1)
 unfolding is-value size
 unit-value e h = by-kind (λ x. So (is-value x) × (size x ≡ 1)) kinds.unit e h (refl, refl)
@@ -95,7 +95,7 @@ injection-value (case w i e a b) h v = absurd (false≢true h)
 injection-value (protect m e) h v = absurd (false≢true h)
 injection-value (mu i e) h v = absurd (false≢true h)
 
--- whose own turn it is
+-- nodes whose own turn it is, and their fate
 pub variable-turn : (S : Security) (tab : ℕ → Ty) (e : Term) → kind-of e ≡ kinds.variable → So (ready e) × (fate S tab e ≡ wrong-kind)
 unfolding ready fate
 variable-turn S tab e h = by-kind (λ x. So (ready x) × (fate S tab x ≡ wrong-kind)) kinds.variable e h (refl, refl)

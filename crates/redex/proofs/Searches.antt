@@ -76,7 +76,7 @@ module _ (S : Security) (tab : ℕ → Ty) (i d : ℕ) (e : Term) where
         goes = s .goes;
       }
 
-  -- it is reported of the whole term as it is
+  -- what is reported of the operand is reported of the whole term, as it is, unless it is a value
   pub lift : {x : Term} {n : ℕ} {a : Found} (j : ℕ) → j ≡ i + n → Position e x n → Finds S tab j (d + 1) x a → Other a → Finds S tab i d e a
   lift j h p (finds-value v n) k = not-value k
   lift j h p (finds-redex s) k = finds-redex (lift-site j h p s)

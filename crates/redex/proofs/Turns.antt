@@ -89,7 +89,7 @@ module _ (S : Security) (tab : ℕ → Ty) where
   turn-step (protect m e) h = rw (value-step S tab e h)
   turn-step (mu i e) h = unroll-is i e (tab i)
 
-  -- the same of a term around it
+  -- the step of a term around a node whose own turn it is
   pub plug-turn : (E : Context) (e : Term) → So (ready e) → step S tab (plug E e) ≡ within (plug E) (fires e)
   plug-turn E e h = plug-step S tab E e (fires e) (fated-unfinished (fate S tab e) (contractum S tab e)) (turn-step e h)
 

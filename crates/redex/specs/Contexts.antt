@@ -31,7 +31,7 @@ before (pair-right k v h E) = script-record kinds.pair (k .r) (k .ir) 0 ++ (enco
 before (in-protect m E) = script-record kinds.protect 0 m 0 ++ before E
 before (in-case w i E a b) = script-record kinds.case w 0 i ++ before E
 
--- the bytes after it
+-- the bytes after the hole
 unfoldable pub after : Context → Bytes
 unfolding encode
 after hole = []
@@ -57,7 +57,7 @@ offset (pair-right k v h E) = 1 + (size v + offset E)
 offset (in-protect m E) = 1 + offset E
 offset (in-case w i E a b) = 1 + offset E
 
--- the records before and after it
+-- the records before and after the hole
 unfoldable pub beside : Context → ℕ
 unfolding size
 beside hole = 0
@@ -70,7 +70,7 @@ beside (pair-right k v h E) = 1 + (size v + beside E)
 beside (in-protect m E) = 1 + beside E
 beside (in-case w i E a b) = 1 + (beside E + (size a + size b))
 
--- the records around it: each is one level of depth
+-- the records around the hole: each is one level of depth
 unfoldable pub level : Context → ℕ
 level hole = 0
 level (app-left w E a) = 1 + level E
@@ -82,7 +82,7 @@ level (pair-right k v h E) = 1 + level E
 level (in-protect m E) = 1 + level E
 level (in-case w i E a b) = 1 + level E
 
--- the depth of the deepest record before or after it, 0 where there is none
+-- the depth of the deepest record before or after the hole, 0 where there is none
 unfoldable pub depth-beside : Context → ℕ
 unfolding depth
 depth-beside hole = 0

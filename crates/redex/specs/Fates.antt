@@ -34,11 +34,12 @@ side-of (case w i e a b) = first
 side-of (protect m e) = first
 side-of (mu i e) = first
 
+-- Is it a function type?
 abbrev pub is-function : Ty → Bool
 is-function (one k) = false
 is-function (node f k s t) = same function f
 
--- Is it the node's own turn: no value, and its evaluated operands are values?
+-- Is it a node's own turn to reduce: no value, and its evaluated operands are values?
 unfoldable pub ready : Term → Bool
 unfolding is-value
 ready (var n) = true
@@ -52,18 +53,20 @@ ready (case w i e a b) = is-value e
 ready (protect m e) = is-value e
 ready (mu i e) = true
 
+-- what becomes of a node whose own turn it is
 pub data Fate : Type 0 where
-  -- it contracts
+  -- the node contracts
   goes : Fate
-  -- its reader may not
+  -- the node's group may not read the operand
   not-permitted : Fate
-  -- no rule has its kind of operand
+  -- no rule has the operand's kind, or the node is a free variable
   wrong-kind : Fate
 
--- a reading of a value that has the wanted kind or not, by one who may or not: "wrong kind (decided before 2)"
+-- the fate of a destructor whose operand has the wanted kind or not, and which may read it or not: "wrong kind (decided before 2)"
 abbrev pub reading-fate : Bool → Bool → Fate
 reading-fate fits may = cond fits (cond may goes not-permitted) wrong-kind
 
+-- the fate of a node by its own kind
 unfoldable pub fate : Security → (ℕ → Ty) → Term → Fate
 unfolding built-by
 fate S tab (var n) = wrong-kind

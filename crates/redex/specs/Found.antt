@@ -33,9 +33,9 @@ pub record Site (S : Security) (tab : ℕ → Ty) (i d : ℕ) (e : Term) (place 
   pub turn : So (ready redex)
   pub goes : fate S tab redex ≡ goes
 
--- what an answer says of e
+-- what the search's answer says of the term e at record i, with d records around it
 pub data Finds (S : Security) (tab : ℕ → Ty) (i d : ℕ) (e : Term) : Found → Type 0 where
-  -- a value, and the record after it
+  -- e is a value, and the record after it is told
   finds-value : {end : ℕ} → So (is-value e) → end ≡ i + size e → Finds S tab i d e (Value end)
   finds-redex : {place around : ℕ} → Site S tab i d e place around → Finds S tab i d e (Redex place around)
   finds-denied : step S tab e ≡ denied → Finds S tab i d e Denied
@@ -52,6 +52,7 @@ unfoldable pub is-destructor : ℕ → Bool
 unfolding signature-of
 is-destructor kind = signature-of kind .r && not (signature-of kind .ir)
 
+-- Is it the kind of an injection, the first or the second?
 abbrev pub is-injection : ℕ → Bool
 is-injection kind = eqb kind kinds.first-injection || eqb kind kinds.second-injection
 

@@ -29,13 +29,14 @@ pub record Startable (t s : Bytes) : Type 0 where
   pub shallow : depth (term s) ≤ depth-limit
   pub table : type-count t ≤ table-limit
 
--- its redex stands at record `at` with `around` records around it
+-- The term can be stepped: its redex stands at record `at` with `around` records around it, and the buffer has `room` bytes.
 pub record Sited (g t s : Bytes) (at around : ℕ) (w : Bytes) (room : ℕ) : Type 0 where
   pub start : Startable t s
   pub site : Site (readers g) (type-at t) 0 0 (term s) at around
   pub fits : room ≤ length w
 
--- and has this plan, end and measure, and there is room for the new term
+-- The new term can be written: the redex at record `at` has this plan, ends before record `end`, its contractum has `count` records, and
+-- the buffer has room for the whole.
 pub record Placing (g t s : Bytes) (at : ℕ) (p : Plan) (end count : ℕ) (w : Bytes) : Type 0 where
   pub start : Startable t s
   pub around : ℕ
@@ -47,7 +48,7 @@ pub record Placing (g t s : Bytes) (at : ℕ) (p : Plan) (end count : ℕ) (w : 
   pub count-is : count ≡ size (contractum (readers g) (type-at t) (site .redex))
   pub fits : script-width * size whole ≤ length w
 
--- what a step of a term reports of its end
+-- a step's end, as the crate tells it
 abbrev pub told : End → Stepped
 told at-value = Stopped 0
 told (moves e) = Moved (size e)
@@ -60,12 +61,12 @@ abbrev pub as-step : ℕ → Stepped → StepAnswer
 as-step own (Stopped end) = Ended end own
 as-step own (Moved count) = Ended 1 count
 
--- a refusal, passed on
+-- a refused script as a step's answer
 abbrev pub refused-step : Checked → StepAnswer
 refused-step checked.Passed = Ended 0 0
 refused-step (checked.Refused question place) = Refused question place
 
--- what a step of bytes reports
+-- "A step reports its end and a record count."
 abbrev pub said-step : StepAnswer → Answer StepReport
 said-step (Ended end count) = accepted (record { end = end; count = count })
 said-step (Refused question place) = refused question place

@@ -4,7 +4,7 @@ use Rattle.rules.specs.Answer.{Answer, accepted, refused}
 use Rattle.scope.specs.declared.Walked.{Walked}
 use Rattle.scope.specs.declared.Walked.the-variants.{Past, Stopped}
 
--- the record after a walk, or the question and the record that stopped it
+-- the record after a walk over a term, or the question and the record that stopped it
 abbrev pub said-walk : Walked → Answer ℕ
 said-walk (Past i) = accepted i
 said-walk (Stopped question place) = refused question place

@@ -26,7 +26,7 @@ passes q s i n = cond (asks-depth q) (leb n depth-limit) (eqb (kind s i) kinds.v
 abbrev pub deeper : ℕ → ℕ → ℕ
 deeper q n = cond (asks-depth q) (suc n) n
 
--- and of one that a binder stands over
+-- the number of an operand that a binder stands over, where its record's is n: one more at both questions
 abbrev pub bound : ℕ → ℕ
 bound n = suc n
 

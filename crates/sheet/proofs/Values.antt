@@ -143,7 +143,7 @@ pub pairs : (e : Term) → kind-of e ≡ kinds.pair → Pairs e
 unfolding is-value lines size
 pairs e h = by-kind Pairs kinds.pair e h (record { two = omega arith; value = refl; sized = refl; counted = refl })
 
--- both have a first operand, without which the node is no value
+-- a pair and an injection have a first operand, and are no values unless it is one
 pub first-part : (e : Term) → kinds.function < kind-of e → kind-of e ≤ kinds.second-injection → (1 ≤ operands e) × (is-value (first-operand e) ≡ false → is-value e ≡ false)
 unfolding is-value
 first-part e l m = go e (view e) l m

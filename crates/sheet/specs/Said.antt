@@ -1,4 +1,4 @@
--- The document's numbers of the crate's answers.
+-- What the crate's answers say in the words of the rules.
 use mathlib.Core.List.{[]}
 use Prim.Native.Nat.{ℕ}
 use Rattle.rules.specs.Answer.{Bytes, Answer, accepted, refused, _>>_}
@@ -14,7 +14,7 @@ abbrev pub said-sheet : Sheet → Answer ℕ
 said-sheet (Written count) = accepted count
 said-sheet (Refused question place) = refused question place
 
--- a refusal, passed on
+-- a refused script as a sheet's answer
 abbrev pub refused-sheet : Checked → Sheet
 refused-sheet checked.Passed = Written 0
 refused-sheet (checked.Refused question place) = Refused question place

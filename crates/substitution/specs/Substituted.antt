@@ -34,13 +34,14 @@ pub record Measured (i n : ℕ) (e v : Term) (x : Extent) : Type 0 where
   pub records : x .records ≡ size (subst n v e)
   pub deep : x .depth ≡ depth (subst n v e)
 
--- the term at record i alone
+-- a term stands at record i, within the limits
 pub record Within (s : Bytes) (i : ℕ) : Type 0 where
   pub tree : Term
   pub at : At s i tree
   pub shallow : depth tree ≤ depth-limit
   pub small : size tree ≤ script-limit
 
+-- x tells the record after e, which stands at record i, and the records and the depth of e
 pub record Extends (i : ℕ) (e : Term) (x : Extent) : Type 0 where
   pub next : x .next ≡ i + size e
   pub records : x .records ≡ size e
