@@ -33,7 +33,7 @@ use Rattle.memory.specs.Splice.{splice}
 use Rattle.substitution.specs.Substituted.{value-limit}
 use Rattle.substitution.proofs.Nodes.{subst-bound}
 use Rattle.memory.proofs.Laws.{join-after}
-use Rattle.substitution.proofs.Reading.{term-length, size-from}
+use Rattle.substitution.proofs.Reading.{term-length}
 use Rattle.contraction.specs.declared.Plan.{Plan}
 use Rattle.contraction.specs.declared.Plan.the-variants.{Part, Body, Raised, Unrolled}
 use Rattle.contraction.specs.declared.Size.{Size}

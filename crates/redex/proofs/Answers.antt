@@ -21,7 +21,7 @@ use Rattle.records.specs.Kinds as kinds
 use Rattle.records.specs.Place.{At}
 use Rattle.records.proofs.Stands.{kind-of, stands-kind, at-first}
 use Rattle.rules.proofs.TypePlaces.{type-at-outside}
-use Rattle.redex.specs.Fates.{goes, wrong-kind, property-of, is-function, reading-fate, fate}
+use Rattle.redex.specs.Fates.{goes, wrong-kind, is-function, reading-fate, fate}
 use Rattle.records.specs.Operands.{first-operand}
 use Rattle.redex.specs.Found.{answer, is-destructor, takes-apart}
 use Rattle.records.proofs.Made.{number-at}

@@ -1,11 +1,11 @@
 -- A node from its operands, as a walk passes them one after the other, counted.
 use mathlib.Core.Path.{_≡_, refl, sym, ap, _∙_}
 use mathlib.Core.Bool.{Bool, true, false, cond}
-use mathlib.Core.List.{List, [], _∷_, _++_, append-assoc, append-nil}
+use mathlib.Core.List.{List, [], _∷_, _++_}
 use Prim.Native.Nat.{ℕ, suc, _+_, _*_, _≤_, _<_, max}
 use native.Mathlib.Omega.{arith}
 use lib.Dec.{eqb}
-use lib.ListN.{length, length-append}
+use lib.ListN.{length}
 use Rattle.calculus.specs.Terms.{Term, var, subst}
 use Rattle.rules.specs.Answer.{Bytes}
 use Rattle.rules.specs.Script.{size, depth, kind, number}

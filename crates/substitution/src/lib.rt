@@ -9,12 +9,10 @@ ghost use Prim.Native.Nat.{_+_, _*_, _≤_, _<_, max};
 ghost use lib.Dec.{eqb};
 ghost use lib.ListN.{length};
 ghost use Rattle.calculus.specs.Terms.{Term};
-ghost use Rattle.rules.specs.Limits.{script-width};
 ghost use Rattle.rules.specs.Script.{records as record-count, kind, number, encode, size, depth};
 ghost use Rattle.records.specs.Kinds as kinds;
 ghost use Rattle.records.specs.Place.{At};
 ghost use Rattle.memory.specs.Splice.{splice};
-ghost use Rattle.records.specs.Binders.{binds};
 ghost use Rattle.substitution.specs.Substituted.{Sizes, Measured, Within, Extends, Room, Written};
 
 // The record after a term, and the records and the depth of what it becomes.

@@ -19,7 +19,7 @@ use Rattle.records.proofs.Stands.{kind-of, there, stands-kind, here}
 use Rattle.redex.proofs.Forms.{Evaluates, first-position, Second, second-position, unit-value, function-value, pair-value, injection-value}
 use Rattle.redex.proofs.Forms.{variable-turn, recursion-turn, protect-turn, application-turn, destructor-turn, application-reads}
 use Rattle.redex.proofs.Searches.{found-value, position-at, position-shallow, lift, fired}
-use Prim.Native.Nat.{ℕ, _+_, _-_, _≤_, _<_}
+use Prim.Native.Nat.{ℕ, _+_, _-_, _<_}
 use borrow.Fn.Kinds.{In}
 use borrow.Fn.PlainCycle.{Measures, is, falls, and}
 use Rattle.redex.proofs.find.Reads as find
