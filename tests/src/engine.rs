@@ -33,6 +33,7 @@ mod raw {
             sheet: *mut u8, sheet_length: usize,
         ) -> u64;
 
+        pub fn probe_bit(word: u32, h: u64) -> u64;
         pub fn probe_groups_check(groups: *const u8, groups_length: usize) -> u64;
         pub fn probe_types_check(
             groups: *const u8, groups_length: usize,
@@ -127,6 +128,10 @@ pub fn sheet(groups: &[u8], types: &[u8], value: &[u8], group: u64, sheet: &mut 
             sheet.len(),
         )
     }
+}
+
+pub fn bit(row: u32, h: u64) -> u64 {
+    unsafe { raw::probe_bit(row, h) }
 }
 
 pub fn groups_check(groups: &[u8]) -> u64 {

@@ -12,7 +12,8 @@ pub struct Groups {
     rows: Vec<u32>,
 }
 
-fn bit(row: u32, h: usize) -> bool {
+/// A row has no bit past the 32nd.
+pub fn bit(row: u32, h: usize) -> bool {
     h < 32 && row >> h & 1 == 1
 }
 

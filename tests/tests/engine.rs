@@ -9,7 +9,9 @@ use std::rc::Rc;
 
 use common::*;
 use wigneld_tests::cases::{self, Inputs};
+use wigneld_tests::engine;
 use wigneld_tests::generate::*;
+use wigneld_tests::groups::bit;
 use wigneld_tests::limits::*;
 use wigneld_tests::script::{Side, Term};
 use wigneld_tests::steps::End;
@@ -251,6 +253,20 @@ fn raw_bytes() {
         made += compare_all(rng, &Inputs { script: inputs.script, ..inputs_of(&world, &unit()) });
         made
     });
+}
+
+#[test]
+fn bits_of_rows() {
+    // Rows with one bit, with all but one, and drawn ones; every byte as a group, and wider numbers.
+    let one_bit = (0..32).map(|h| 1u32 << h);
+    let mut rows: Vec<u32> = one_bit.flat_map(|row| [row, !row]).chain([0, u32::MAX]).collect();
+    drawn(1, |rng| rows.extend((0..2000).map(|_| rng.below(1 << 32) as u32)));
+    let wide = [256, 1 << 31, 1 << 32, (1 << 32) + 1, 1 << 63, u64::MAX];
+    for &row in &rows {
+        for h in (0..256).chain(wide) {
+            assert_eq!(engine::bit(row, h), bit(row, h as usize) as u64, "bit {h} of {row}");
+        }
+    }
 }
 
 #[test]

@@ -18,7 +18,7 @@ same true b f g = sym (f refl)
 same false true f g = g refl
 same false false f g = refl
 
-digit-lt : (x : ℕ) → x % 2 < 2
+pub digit-lt : (x : ℕ) → x % 2 < 2
 digit-lt x = mod-lt x (zero-lt-suc 1)
 
 digit-same : (a b : ℕ) → a < 2 → b < 2 → eqb a 1 ≡ eqb b 1 → a ≡ b

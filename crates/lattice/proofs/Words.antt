@@ -1,14 +1,15 @@
 -- Rows as words: past the table, the lowest bit, the bits that two have in common.
-use mathlib.Core.Path.{_≡_, sym, ap, _∙_}
-use mathlib.Core.Bool.{Bool, false}
+use mathlib.Core.Path.{_≡_, refl, sym, ap, _∙_}
+use mathlib.Core.Bool.{Bool, true, false}
 use mathlib.Core.Option.{none, some}
-use Prim.Native.Nat.{ℕ, _+_, _*_, _%_, _^_, _≤_, _<_}
+use Prim.Native.Nat.{ℕ, _+_, _*_, _/_, _%_, _^_, _≤_, _<_}
 use native.Mathlib.Omega.{arith}
-use native.Mathlib.Nat.{div-eq-of-lt, zero-div, lt-of-lt-of-le}
-use lib.Dec.{eqb}
+use native.Mathlib.Nat.{div-eq-of-lt, zero-div, lt-of-lt-of-le, mod-lt, mod-eq-of-lt, one-mul, zero-lt-suc}
+use borrow.Author.Tests.{ltb-true, ltb-false, ne-eqb}
+use lib.Dec.{eqb, ltb}
 use lib.ListN.{List·getD-eq-default}
 use lib.Bits.{bitAnd, and-lt}
-use lib.Pow.{pow-mono}
+use lib.Pow.{pow-pos, pow-mono, pow-lt}
 use lib.Count.{trailingZeros, trailing-of-zero}
 use Rattle.rules.specs.Answer.{Bytes, first-below}
 use Rattle.rules.specs.Limits.{row-width, group-limit}
@@ -30,6 +31,23 @@ row-past t g l =
 -- a word has 32 bits
 pub bit-past : (w h : ℕ) → w < 2 ^ 32 → 32 ≤ h → false ≡ bit w h
 bit-past w h l m = sym (ap (λ (n : ℕ). eqb (n % 2) 1) (div-eq-of-lt (lt-of-lt-of-le l (pow-mono m))))
+
+-- a power of two below the 32nd, as a word
+power-word : (h : ℕ) → (1 * 2 ^ (h % 32)) % 2 ^ 32 ≡ 2 ^ (h % 32)
+power-word h = rw one-mul (mod-eq-of-lt (pow-lt (mod-lt h (zero-lt-suc 31))))
+
+pub power-pos : (h : ℕ) → 0 < (1 * 2 ^ (h % 32)) % 2 ^ 32
+power-pos h = rw (power-word h) (pow-pos (h % 32))
+
+-- The test that the code makes: the digit of weight 2 ^ (h % 32), held against 1 + h / 32, is bit h.
+pub bit-by-division : (w h : ℕ) → w < 2 ^ 32 → eqb (w / ((1 * 2 ^ (h % 32)) % 2 ^ 32) % 2) (1 + h / 32) ≡ bit w h
+bit-by-division w h l = rw (power-word h) (go (ltb h 32) refl)
+  where
+    go : (b : Bool) → ltb h 32 ≡ b → eqb (w / 2 ^ (h % 32) % 2) (1 + h / 32) ≡ bit w h
+    go true e = let m = ltb-true h 32 e in rw (mod-eq-of-lt m, div-eq-of-lt m)
+    go false e =
+        let m = ltb-false h 32 e in
+        ne-eqb (w / 2 ^ (h % 32) % 2) (1 + h / 32) (λ x. omega (arith, mod-lt (w / 2 ^ (h % 32)) (zero-lt-suc 1))) ∙ bit-past w h l (omega arith)
 
 pub bit-of-zero : (k : ℕ) → bit 0 k ≡ false
 bit-of-zero k = ap (λ (n : ℕ). eqb (n % 2) 1) (zero-div (2 ^ k))

@@ -76,14 +76,13 @@ pub fn row(groups: &[u8], g: usize) -> u32
         + 16777216 * byte(groups, i + 3)
 }
 
-// Is bit h of a row set?
+// Is bit h of a row set? Division by a power of two and remainder, with no branch: the same instructions for every row and every
+// group. A row has no bit past the last; there the remainder, which is 0 or 1, is held against more than 1.
 pub fn bit(word: u32, h: usize) -> bool
     ensures { λ a. ⌜ a ≡ bit word h ⌝ }
 {
-    if GROUP_LIMIT <= h {
-        return false;
-    }
-    (word >> h) % 2 == 1
+    let power = 1u32 << (h % GROUP_LIMIT);
+    (word / power % 2) as usize == 1 + h / GROUP_LIMIT
 }
 
 // g ⊑ h

@@ -4,6 +4,7 @@ ghost use mathlib.Core.Path.{_≡_};
 ghost use mathlib.Core.Bool.{cond};
 ghost use Prim.Native.Nat.{min};
 ghost use lib.ListN.{length, take};
+ghost use Rattle.rules.specs.Groups.{bit};
 ghost use Rattle.rules.specs.Script.{subterm};
 ghost use Rattle.rules.specs.Strip.{strip-script, strip-types};
 ghost use Rattle.rules.specs.Calls.{fill-front, groups-check, types-check, at-or-below, stepping, step-report, written-after};
@@ -44,6 +45,14 @@ fn one_or_zero(yes: bool) -> u64
     ensures { λ n. ⌜ n ≡ cond yes 1 0 ⌝ }
 {
     if yes { 1 } else { 0 }
+}
+
+// Bit h of a row: 1 or 0. It has no conditional jump; the gate reads that off the compiled function.
+#[no_mangle]
+pub extern "C" fn probe_bit(word: u32, h: u64) -> u64
+    ensures { λ n. ⌜ n ≡ cond (bit word h) 1 0 ⌝ }
+{
+    one_or_zero(lattice::bit(word, h as usize))
 }
 
 // At or below: 1 or 0.

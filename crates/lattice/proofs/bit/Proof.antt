@@ -1,21 +1,27 @@
--- `lattice::bit` meets its contract: a word has no bit past the 32nd.
+-- `lattice::bit` meets its contract: the power is that of the bit, and no remainder passes for a bit past the 32nd.
 use native.Mathlib.Omega.{arith}
-use Rattle.lattice.proofs.Words.{bit-past}
+use Rattle.lattice.proofs.Words.{power-pos, bit-by-division}
 use borrow.Author.Needs.{needs}
 use Rattle.lattice.proofs.bit.Statement.{statement}
 use Rattle.lattice.proofs.bit.Tie as tie
 
-returns : tie.Need-returns
-returns c = bit-past (c .before .args .word) (c .before .args .h) (omega arith) (omega arith)
+cast-power : tie.Need-cast-power
+cast-power c = search needs
+
+shl-power : tie.Need-shl-power
+shl-power c = search needs
+
+div-result : tie.Need-div-result
+div-result c = power-pos (c .args .h)
 
 cast-result : tie.Need-cast-result
 cast-result c = search needs
 
-shr-result : tie.Need-shr-result
-shr-result c = search needs
+add-result : tie.Need-add-result
+add-result c = search needs
 
-returns-2 : tie.Need-returns-2
-returns-2 c = search needs
+returns : tie.Need-returns
+returns c = bit-by-division (c .args .word) (c .args .h) (omega arith)
 
 pub bit-spec : {M : Type 1} → statement M
-bit-spec = tie.close (tie.spec returns cast-result shr-result returns-2)
+bit-spec = tie.close (tie.spec cast-power shl-power div-result cast-result add-result returns)
