@@ -18,7 +18,7 @@ use Rattle.rules.specs.Typing.{typing}
 use Rattle.rules.specs.Step.{End}
 use Rattle.rules.specs.Run.{Ran}
 use Rattle.rules.specs.Sheet.{sheet}
-use Rattle.rules.specs.Calls.{zeros, q1, q25, q26, q27, groups-check, types-check, at-or-below, script-check, checking, answer-after, work-after, stepping, written-after, running, first-after, scratch-after, sheeting, sheet-after}
+use Rattle.rules.specs.Calls.{zeros, q1, q25, q26, q27, groups-check, types-check, comparing, script-check, checking, answer-after, work-after, stepping, written-after, running, first-after, scratch-after, sheeting, sheet-after}
 use Rattle.demands.specs.Questions.{question, of-groups, of-types, of-script, Checks}
 use Rattle.demands.specs.Demands.{Demand1}
 use Rattle.demands.proofs.Deciding.{Own, Decided, decides, ask-own, each-own, exactly-own, decided-one, decided-then, decided-yes, checks-more, Below, refusal-below}
@@ -85,8 +85,8 @@ script-below rooms g t s q place e = refusal-below numbers (script-decided rooms
     numbers = (omega arith, (omega arith, (omega arith, (omega arith, (omega arith, (omega arith, of-12))))))
 
 comparison-decided : (g t : Bytes) (i j : ℕ)
-    → Decided (of-groups g ++ of-types g t ++ (question 25 (q25 0 i (type-count t)) ∷ question 25 (q25 1 j (type-count t)) ∷ [])) (at-or-below g t i j)
-unfolding at-or-below
+    → Decided (of-groups g ++ of-types g t ++ (question 25 (q25 0 i (type-count t)) ∷ question 25 (q25 1 j (type-count t)) ∷ [])) (comparing g t i j)
+unfolding comparing
 comparison-decided g t i j =
     decided-then (types-check g t) _ (types-decided g t)
     (decided-then (q25 0 i (type-count t)) _ (decided-one (ask-own 25 0 (ltb i (type-count t))))

@@ -20,3 +20,4 @@ pub mod StrippedTables
 pub mod RunTerms
 pub mod ThirdDemand
 pub mod Demands
+pub mod Comparison

@@ -20,7 +20,7 @@ use Rattle.rules.specs.Step.{at-value, moves, may-not, wrong-kind, too-big, exc
 use Rattle.rules.specs.Run.{Ran}
 use Rattle.rules.specs.Strip.{strip-script, strip-types, one-group}
 use Rattle.rules.specs.Sheet.{sheet}
-use Rattle.rules.specs.Calls.{zeros, q1, q25, q26, q27, groups-check, types-check, at-or-below, script-check, checking, type-bytes, answer-after, work-after, stepping, written-after, running, run-report, first-after, scratch-after, sheeting, sheet-after}
+use Rattle.rules.specs.Calls.{zeros, q1, q25, q26, q27, groups-check, types-check, comparing, script-check, checking, type-bytes, answer-after, work-after, stepping, written-after, running, run-report, first-after, scratch-after, sheeting, sheet-after}
 use Rattle.rules.specs.Reach.{verdict, Accepted}
 use Rattle.demands.specs.Runs.{MovesTo, Repeats, Reaches}
 use Rattle.demands.specs.Questions.{question, of-groups, of-types, of-script, Decides, Checks}
@@ -33,7 +33,7 @@ pub record Demand1 (g t s : Bytes) : Type 0 where
   pub groups : Decides (of-groups g) (groups-check g)
   pub types : Decides (of-groups g ++ of-types g t) (types-check g t)
   pub comparison : (i j : ℕ)
-      → Decides (of-groups g ++ of-types g t ++ (question 25 (q25 0 i (type-count t)) ∷ question 25 (q25 1 j (type-count t)) ∷ [])) (at-or-below g t i j)
+      → Decides (of-groups g ++ of-types g t ++ (question 25 (q25 0 i (type-count t)) ∷ question 25 (q25 1 j (type-count t)) ∷ [])) (comparing g t i j)
   pub check : (work answer : ℕ)
       → Checks (question 1 (q1 work answer) ∷ [] ++ of-groups g ++ of-types g t ++ of-script [] g t s) (typing (readers g) (type-at t) [] 0 (term s))
       (checking work answer g t s)

@@ -1,3 +1,4 @@
 pub mod Questions
 pub mod Runs
 pub mod Demands
+pub mod Comparison

@@ -16,7 +16,7 @@ use Rattle.rules.specs.Types.{type-count, type-at, ok9, ok10, ok11, ok12, q8, q
 use Rattle.rules.specs.Script.{records, arity, kind, term, size, depths, binders, term-end, exactly, ok14, ok15, ok16, ok18, ok19, q13, q14, q15, q16, q17, q18}
 use Rattle.rules.specs.Typing.{typing}
 use Rattle.rules.specs.Sheet.{sheet}
-use Rattle.rules.specs.Calls.{q1, q25, q26, q27, groups-check, types-check, at-or-below, script-check, checking, stepping, running, sheeting}
+use Rattle.rules.specs.Calls.{q1, q25, q26, q27, groups-check, types-check, comparing, script-check, checking, stepping, running, sheeting}
 use Rattle.rules.proofs.ScriptLength.{q13-fitting}
 use Rattle.rules.proofs.Scripts.{whole}
 use Rattle.rules.proofs.WayBack.{end-bound}
@@ -81,8 +81,8 @@ types-bounded g t =
     then (q11 t) _ (each-bounded 11 (type-count t) (ok11 t) (omega arith) (omega arith) n) λ e11.
     each-bounded 12 (type-count t) (ok12 t) (omega arith) (omega arith) n
 
-pub compare-bounded : (g t : Bytes) (i j : ℕ) → Bounded (at-or-below g t i j)
-unfolding at-or-below
+pub compare-bounded : (g t : Bytes) (i j : ℕ) → Bounded (comparing g t i j)
+unfolding comparing
 compare-bounded g t i j =
     then (types-check g t) _ (types-bounded g t) λ e12.
     then (q25 0 i (type-count t)) _ (front 25 (ltb i (type-count t)) (omega arith) (omega arith)) λ e25.

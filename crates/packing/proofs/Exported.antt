@@ -1,6 +1,5 @@
 -- Every exported answer is bounded, and one number holds it: `unpack` gives it back.
 use mathlib.Core.Path.{_≡_, refl, ap, subst}
-use mathlib.Core.Bool.{Bool, true, false}
 use mathlib.Core.List.{[], _∷_}
 use Prim.Native.Nat.{ℕ, _/_, _≤_, _<_, min}
 use native.Mathlib.Omega.{arith}
@@ -11,6 +10,7 @@ use Rattle.rules.specs.Answer.{Bytes, Octets, Answer, accepted, refused}
 use Rattle.rules.specs.Limits.{sheet-width, script-limit}
 use Rattle.rules.specs.Groups.{rows, readers}
 use Rattle.rules.specs.Types.{type-at}
+use Rattle.rules.specs.Comparison.{Comparison, same, below, neither}
 use Rattle.rules.specs.Script.{records, term, size, q13}
 use Rattle.rules.specs.Step.{End, at-value, moves, may-not, wrong-kind, too-big, end-number, end-count, step-in}
 use Rattle.rules.proofs.ScriptLength.{q13-fitting}
@@ -21,7 +21,7 @@ use Rattle.rules.specs.Calls.{q1, q25, q26, q27, types-check, script-check, che
 use Rattle.demands.proofs.Answers.{accepted-inj}
 use Rattle.rules.proofs.Asked.{and-then}
 use Rattle.demands.proofs.TypesTable.{tables}
-use Rattle.packing.specs.Packed.{half, packed, passed, yes-or-no, ended, step-ended, run-ended, Bounded, bounded-yes, bounded-no, Counted, counted-yes, counted-no, Holds, holds-yes, holds-no}
+use Rattle.packing.specs.Packed.{half, packed, passed, compared, ended, step-ended, run-ended, Bounded, bounded-yes, bounded-no, Counted, counted-yes, counted-no, Holds, holds-yes, holds-no}
 use Rattle.packing.proofs.Unpacked.{Reads, unended}
 use Rattle.packing.proofs.Bounds.{check-bounded, run-bounded, page-bounded, script-small}
 use Rattle.packing.proofs.Sizes.{Small, small-yes, small-no, no-binders, typing-small, Within, within-move, step-within, Ends, run-within, sheet-length}
@@ -40,9 +40,10 @@ pub passed-holds : (a : Answer (Unit {0})) → Bounded a → Holds (passed a)
 passed-holds (accepted u) x = holds-yes {n = 0} (omega arith)
 passed-holds (refused q p) (bounded-no l m n) = holds-no {q = q} {p = p} l m (omega arith)
 
-pub compare-holds : (a : Answer Bool) → Bounded a → Holds (yes-or-no a)
-compare-holds (accepted true) x = holds-yes {n = 1} (omega arith)
-compare-holds (accepted false) x = holds-yes {n = 0} (omega arith)
+pub compare-holds : (a : Answer Comparison) → Bounded a → Holds (compared a)
+compare-holds (accepted same) x = holds-yes {n = 2} (omega arith)
+compare-holds (accepted below) x = holds-yes {n = 1} (omega arith)
+compare-holds (accepted neither) x = holds-yes {n = 0} (omega arith)
 compare-holds (refused q p) (bounded-no l m n) = holds-no {q = q} {p = p} l m (omega arith)
 
 -- a found type's count

@@ -1,5 +1,5 @@
 -- An exported answer: one number of 64 bits, and a run's steps as bytes.
-use mathlib.Core.Bool.{Bool, cond}
+use mathlib.Core.Bool.{cond}
 use mathlib.Core.List.{[], _∷_}
 use Prim.Native.Nat.{ℕ, zero, suc, _+_, _*_, _/_, _%_, _≤_, _<_}
 use lib.Dec.{eqb}
@@ -7,6 +7,7 @@ use lib.ListN.{length, take}
 use Rattle.rules.specs.Answer.{Bytes, Answer, accepted, refused}
 use Rattle.rules.specs.Limits.{script-limit, last-question}
 use Rattle.rules.specs.Run.{Ran}
+use Rattle.rules.specs.Comparison.{Comparison, comparison-number}
 use Rattle.rules.specs.Calls.{StepReport, Report, fill-front}
 
 -- 2^32
@@ -43,14 +44,14 @@ Step-counted = Counted (λ x. x .count)
 abbrev pub Run-counted : Answer Report → Type 0
 Run-counted = Counted (λ x. x .count)
 
--- the lower half of a check of tables, of 'at or below', and of a run or a step: end * 2^16 + records
+-- the lower half of a check of tables, of a comparison, and of a run or a step: end * 2^16 + records
 abbrev pub passed : Answer (Unit {0}) → Answer ℕ
 passed (accepted tt) = accepted 0
 passed (refused q p) = refused q p
 
-abbrev pub yes-or-no : Answer Bool → Answer ℕ
-yes-or-no (accepted b) = accepted (cond b 1 0)
-yes-or-no (refused q p) = refused q p
+abbrev pub compared : Answer Comparison → Answer ℕ
+compared (accepted c) = accepted (comparison-number c)
+compared (refused q p) = refused q p
 
 abbrev pub quarter : ℕ
 quarter = 65536

@@ -7,14 +7,12 @@ ghost use lib.ListN.{length, take};
 ghost use Rattle.rules.specs.Groups.{bit};
 ghost use Rattle.rules.specs.Script.{subterm};
 ghost use Rattle.rules.specs.Strip.{strip-script, strip-types};
-ghost use Rattle.rules.specs.Calls.{fill-front, groups-check, types-check, at-or-below, stepping, step-report, written-after};
+ghost use Rattle.rules.specs.Calls.{fill-front, groups-check, types-check, stepping, step-report, written-after};
 ghost use Rattle.answer.specs.Said.{said};
-ghost use Rattle.types_table.specs.Ordered.{answered};
 ghost use Rattle.reduction.specs.Steps.{said-step};
-ghost use Rattle.packing.specs.Packed.{packed, passed, yes-or-no, step-ended, Bounded, Step-counted};
+ghost use Rattle.packing.specs.Packed.{packed, passed, step-ended, Bounded, Step-counted};
 use answer::Checked;
 use reduction::StepAnswer;
-use types_table::Ordered;
 
 // A check of tables: 0 for a pass.
 fn checked(a: Checked) -> u64
@@ -53,24 +51,6 @@ pub extern "C" fn probe_bit(word: u32, h: u64) -> u64
     ensures { λ n. ⌜ n ≡ cond (bit word h) 1 0 ⌝ }
 {
     one_or_zero(lattice::bit(word, h as usize))
-}
-
-// At or below: 1 or 0.
-fn ordered(a: Ordered) -> u64
-    requires { ⌜ Bounded (answered a) ⌝ }
-    ensures { λ n. ⌜ n ≡ packed (yes-or-no (answered a)) ⌝ }
-{
-    match a {
-        Ordered::Answered(yes) => one_or_zero(yes),
-        Ordered::Refused(question, place) => packing::refusal(question, place),
-    }
-}
-
-#[no_mangle]
-pub extern "C" fn probe_at_or_below(groups: &[u8], types: &[u8], i: u64, j: u64) -> u64
-    ensures { λ n. ⌜ n ≡ packed (yes-or-no (at-or-below (now (groups .entry)) (now (types .entry)) i j)) ⌝ }
-{
-    ordered(types_table::compare(groups, types, i, j))
 }
 
 // A step: end * 65,536 + records.

@@ -3,10 +3,10 @@ use mathlib.Core.Path.{refl}
 use Rattle.rules.specs.Examples.{Examples}
 use Rattle.rules.specs.Answer.{first-from}
 use Rattle.rules.specs.Script.{term, counts, ok18}
-use Rattle.rules.specs.Calls.{groups-check, types-check, at-or-below, checking, type-bytes, running, run-report}
+use Rattle.rules.specs.Calls.{groups-check, types-check, comparing, checking, type-bytes, running, run-report}
 
 pub examples : Examples
-unfolding first-from term counts ok18 groups-check types-check at-or-below checking type-bytes running run-report
+unfolding first-from term counts ok18 groups-check types-check comparing checking type-bytes running run-report
 examples = record {
   row-and-bit = refl;
   not-transposed = refl;
@@ -37,6 +37,13 @@ examples = record {
   not-covariant = refl;
   first-index = refl;
   second-index = refl;
+  same-apart = refl;
+  only-below = refl;
+  only-above = refl;
+  other-kind = refl;
+  one-side-below = refl;
+  sides-mixed = refl;
+  equal-sides = refl;
   no-room = refl;
   no-scratch = refl;
   unnamed-field = refl;

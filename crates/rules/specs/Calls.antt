@@ -1,18 +1,19 @@
 -- The calls of document 01: each as the list of its questions in order and its answer, and what every lent buffer holds
 -- afterwards in terms of its old content. Where the document speaks of room, a call takes the buffer's length.
-use mathlib.Core.Bool.{Bool, _&&_, cond}
+use mathlib.Core.Bool.{_&&_, cond}
 use mathlib.Core.List.{List, [], _∷_, _++_}
 use Prim.Native.Nat.{ℕ, _-_, _/_, min}
 use lib.Dec.{leb, ltb}
 use lib.ListN.{length, drop, replicate}
 use Rattle.calculus.specs.Types.{Ty, sizeT}
-use Rattle.calculus.specs.Subtyping.{subtype, below}
+use Rattle.calculus.specs.Subtyping.{subtype}
 use Rattle.calculus.specs.Terms.{Term, subst, raise-value, is-value}
 use Rattle.calculus.specs.Reduction.{step, operand-first, reading, apply, project, branch, unroll}
 use Rattle.rules.specs.Answer.{Bytes, Answer, accepted, refused, _>>=_, _>>_, ask, first-from}
 use Rattle.rules.specs.Limits.{work-length, answer-length, sheet-width}
 use Rattle.rules.specs.Groups.{rows, join, ok3, ok4, ok5, ok6, ok7, q2, q3, q4, q5, q6, q7, readers}
 use Rattle.rules.specs.Types.{type-count, encode-type, type-at, ok9, ok10, ok11, ok12, q8, q9, q10, q11, q12}
+use Rattle.rules.specs.Comparison.{equal-types, Comparison, comparison}
 use Rattle.rules.specs.Script.{records, encode, term, size, depth, counts, term-end, ok14, ok15, ok16, ok18, ok19, q13, q14, q15, q16, q17, q18, q19}
 use Rattle.rules.specs.Typing.{typing}
 use Rattle.rules.specs.Step.{End, at-value, moves, may-not, wrong-kind, too-big, end-number, end-count, step-in, exceeds}
@@ -52,14 +53,14 @@ types-check g t = do
 abbrev pub q25 : ℕ → ℕ → ℕ → Answer (Unit {0})
 q25 place index count = ask 25 place (ltb index count)
 
--- "At or below, of two type indexes: 2 to 12, 25."
-unfoldable pub at-or-below : Bytes → Bytes → ℕ → ℕ → Answer Bool
-unfolding types-check subtype type-at join
-at-or-below g t i j = do
+-- "At or below, of two type indexes: 2 to 12, 25", whose answer document 02 makes same, below or neither.
+unfoldable pub comparing : Bytes → Bytes → ℕ → ℕ → Answer Comparison
+unfolding types-check subtype equal-types type-at join
+comparing g t i j = do
   types-check g t
   q25 0 i (type-count t)
   q25 1 j (type-count t)
-  accepted (subtype (readers g) below (type-at t i) (type-at t j))
+  accepted (comparison (readers g) (type-at t i) (type-at t j))
 
 -- questions 2 to 19; `rooms` are the lengths of a run's buffers
 unfoldable pub script-check : List ℕ → Bytes → Bytes → Bytes → Answer (Unit {0})

@@ -8,8 +8,9 @@ use Rattle.calculus.specs.Types.{one}
 use Rattle.rules.specs.Answer.{Bytes, accepted, refused}
 use Rattle.rules.specs.Groups.{leq, row, q2}
 use Rattle.rules.specs.Types.{q8}
+use Rattle.rules.specs.Comparison.{same, below, neither}
 use Rattle.rules.specs.Script.{number, script-record, q13, q18}
-use Rattle.rules.specs.Calls.{zeros, groups-check, types-check, at-or-below, checking, type-bytes, running, run-report}
+use Rattle.rules.specs.Calls.{zeros, groups-check, types-check, comparing, checking, type-bytes, running, run-report}
 use Rattle.rules.specs.Reach.{verdict}
 use Rattle.rules.specs.Cases.{word, ty, groups, types, loop, check, ran}
 
@@ -47,6 +48,11 @@ nine = wide 511 ++ wide 510 ++ wide 508 ++ wide 504 ++ wide 496 ++ wide 480 ++ w
 -- two functions to unit, from unit (1,1) and from unit (0,0)
 abbrev pub two-functions : Bytes
 two-functions = ty 3 0 0 ++ ty 0 1 1 ++ ty 0 0 0 ++ ty 3 0 0 ++ ty 0 0 0 ++ ty 0 0 0
+
+-- pairs of units: (0,0) and (0,0), (0,0) and (1,1), (1,1) and (0,0), and the second again
+abbrev pub mixed-pairs : Bytes
+mixed-pairs =
+    ty 2 0 0 ++ ty 0 0 0 ++ ty 0 0 0 ++ ty 2 0 0 ++ ty 0 0 0 ++ ty 0 1 1 ++ ty 2 0 0 ++ ty 0 1 1 ++ ty 0 0 0 ++ ty 2 0 0 ++ ty 0 0 0 ++ ty 0 1 1
 
 -- a case whose first branch is a variable
 abbrev pub branch : ℕ → Bytes
@@ -108,10 +114,19 @@ pub record Examples : Type 0 where
   pub 63-in-table : types-check groups (pair-types 31) ≡ accepted tt
   pub 65-in-table : types-check groups (ty 0 0 0 ++ pair-types 32) ≡ refused 12 1
   -- parameters are compared the other way round
-  pub contravariant : at-or-below groups two-functions 0 3 ≡ accepted true
-  pub not-covariant : at-or-below groups two-functions 3 0 ≡ accepted false
-  pub first-index : at-or-below groups two-functions 256 6 ≡ refused 25 0
-  pub second-index : at-or-below groups two-functions 0 6 ≡ refused 25 1
+  pub contravariant : comparing groups two-functions 0 3 ≡ accepted below
+  pub not-covariant : comparing groups two-functions 3 0 ≡ accepted neither
+  pub first-index : comparing groups two-functions 256 6 ≡ refused 25 0
+  pub second-index : comparing groups two-functions 0 6 ≡ refused 25 1
+  -- same is equality of the records, wherever they stand; above is neither; a type of another kind is neither
+  pub same-apart : comparing groups two-functions 2 4 ≡ accepted same
+  pub only-below : comparing groups two-functions 2 1 ≡ accepted below
+  pub only-above : comparing groups two-functions 1 2 ≡ accepted neither
+  pub other-kind : comparing groups two-functions 0 1 ≡ accepted neither
+  -- one side below and one the same is below; one below and one above is neither
+  pub one-side-below : comparing groups mixed-pairs 0 3 ≡ accepted below
+  pub sides-mixed : comparing groups mixed-pairs 3 6 ≡ accepted neither
+  pub equal-sides : comparing groups mixed-pairs 3 9 ≡ accepted same
   -- 13 to 18
   pub no-room : ran 9 41 (loop 0) ≡ refused 13 0
   pub no-scratch : run-report (running groups types (loop 0) 9 42 41) ≡ refused 13 0

@@ -2,6 +2,7 @@ pub mod Answer
 pub mod Limits
 pub mod Groups
 pub mod Types
+pub mod Comparison
 pub mod Script
 pub mod Typing
 pub mod Step

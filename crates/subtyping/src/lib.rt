@@ -1,4 +1,4 @@
-// At or below: two walks over two types, which call each other at functions.
+// Same, below or neither: two walks over two types, which call each other at functions.
 
 use types::FUNCTION;
 use types::UNIT;
@@ -8,13 +8,14 @@ ghost use lib.Dec.{eqb};
 ghost use Rattle.calculus.specs.Types.{Ty, top};
 ghost use Rattle.calculus.specs.Subtyping.{subtype, below, above};
 ghost use Rattle.rules.specs.Groups.{readers};
+ghost use Rattle.rules.specs.Comparison.{equal-properties};
 ghost use Rattle.types.specs.Held.{Held, Starts, kind-of};
 ghost use Rattle.subtyping.specs.Compared.{compared};
 
-// What a walk over two types finds: the records that each of them has, or that they are not related.
+// What a walk over two types finds: where they are related, whether they are the same, and the records that each of them has.
 pub enum Compared {
-    Related(usize),
-    Unrelated,
+    Related(bool, usize),
+    Neither,
 }
 
 // Are the first records of one kind, with r ⊑ r′ and ir ⊑ ir′?
@@ -28,6 +29,23 @@ fn first_below(groups: &[u8], lower: &[u8], upper: &[u8]) -> bool
             && types::indirect(lower).at_or_below(groups, types::indirect(upper)))
 }
 
+// Have the first records, of one kind, the same r and the same ir?
+fn first_same(lower: &[u8], upper: &[u8]) -> bool
+    requires { ⌜ Starts (now lower) × Starts (now upper) ⌝ }
+    ensures { λ a. ⌜ ((s t : Ty) → Held (now (lower .entry)) s → Held (now (upper .entry)) t
+        → a ≡ equal-properties (top s) (top t)) ⌝ }
+{
+    types::reader(lower).0 == types::reader(upper).0
+        && types::indirect(lower).0 == types::indirect(upper).0
+}
+
+// Is it so of the first records and of both sides?
+fn throughout(first: bool, left: bool, right: bool) -> bool
+    ensures { λ a. ⌜ a ≡ (first && (left && right)) ⌝ }
+{
+    first && (left && right)
+}
+
 // Is the type of `lower` at or below that of `upper`? A function's left sides are walked the other way round. Related types have
 // as many records, so what the walk of the left sides counts says where both right sides start.
 pub fn at_or_below(groups: &[u8], lower: &[u8], upper: &[u8]) -> Compared
@@ -36,29 +54,30 @@ pub fn at_or_below(groups: &[u8], lower: &[u8], upper: &[u8]) -> Compared
         → a ≡ compared (readers (now (groups .entry))) below s t) ⌝ }
 {
     if !first_below(groups, lower, upper) {
-        return Compared::Unrelated;
+        return Compared::Neither;
     }
+    let first = first_same(lower, upper);
     let lower_kind = types::kind(lower);
     if lower_kind == UNIT {
-        return Compared::Related(1);
+        return Compared::Related(first, 1);
     }
     let left = if lower_kind == FUNCTION {
         at_or_above(groups, types::left_side(lower), types::left_side(upper))
     } else {
         at_or_below(groups, types::left_side(lower), types::left_side(upper))
     };
-    let Compared::Related(n) = left else {
-        return Compared::Unrelated;
+    let Compared::Related(left_same, n) = left else {
+        return Compared::Neither;
     };
     let right = at_or_below(
         groups,
         types::right_side(lower, n),
         types::right_side(upper, n),
     );
-    let Compared::Related(m) = right else {
-        return Compared::Unrelated;
+    let Compared::Related(right_same, m) = right else {
+        return Compared::Neither;
     };
-    Compared::Related(1 + (n + m))
+    Compared::Related(throughout(first, left_same, right_same), 1 + (n + m))
 }
 
 // Is the type of `upper` at or above that of `lower`?
@@ -68,32 +87,33 @@ pub fn at_or_above(groups: &[u8], upper: &[u8], lower: &[u8]) -> Compared
         → a ≡ compared (readers (now (groups .entry))) above s t) ⌝ }
 {
     if !first_below(groups, lower, upper) {
-        return Compared::Unrelated;
+        return Compared::Neither;
     }
+    let first = first_same(upper, lower);
     let upper_kind = types::kind(upper);
     if upper_kind == UNIT {
-        return Compared::Related(1);
+        return Compared::Related(first, 1);
     }
     let left = if upper_kind == FUNCTION {
         at_or_below(groups, types::left_side(upper), types::left_side(lower))
     } else {
         at_or_above(groups, types::left_side(upper), types::left_side(lower))
     };
-    let Compared::Related(n) = left else {
-        return Compared::Unrelated;
+    let Compared::Related(left_same, n) = left else {
+        return Compared::Neither;
     };
     let right = at_or_above(
         groups,
         types::right_side(upper, n),
         types::right_side(lower, n),
     );
-    let Compared::Related(m) = right else {
-        return Compared::Unrelated;
+    let Compared::Related(right_same, m) = right else {
+        return Compared::Neither;
     };
-    Compared::Related(1 + (n + m))
+    Compared::Related(throughout(first, left_same, right_same), 1 + (n + m))
 }
 
-// The same as one answer: is the type of `lower` at or below that of `upper`?
+// Is the type of `lower` at or below that of `upper`, be it the same or not?
 pub fn is_subtype(groups: &[u8], lower: &[u8], upper: &[u8]) -> bool
     requires { ⌜ Starts (now lower) × Starts (now upper) ⌝ }
     ensures { λ a. ⌜ ((s t : Ty) → Held (now (lower .entry)) s → Held (now (upper .entry)) t
@@ -101,7 +121,7 @@ pub fn is_subtype(groups: &[u8], lower: &[u8], upper: &[u8]) -> bool
 {
     let x = at_or_below(groups, lower, upper);
     match x {
-        Compared::Related(_) => true,
-        Compared::Unrelated => false,
+        Compared::Related(_, _) => true,
+        Compared::Neither => false,
     }
 }

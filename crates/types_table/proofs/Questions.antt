@@ -1,19 +1,25 @@
 -- Questions 8 to 12 and 25 one after another.
 use mathlib.Core.Path.{_≡_, refl, ap, _∙_}
-use mathlib.Core.Bool.{Bool}
+use mathlib.Core.Bool.{Bool, true, false, cond}
 use Prim.Native.Nat.{ℕ, _≤_, _<_}
 use native.Mathlib.Omega.{arith}
 use borrow.Author.Tests.{lt-ltb, le-ltb}
-use Rattle.calculus.specs.Subtyping.{subtype, below}
+use Rattle.calculus.specs.Security.{Security}
+use Rattle.calculus.specs.Types.{Ty, sizeT}
+use Rattle.calculus.specs.Subtyping.{subtype}
+use Rattle.calculus.specs.Subtyping as directions
 use Rattle.rules.specs.Answer.{Bytes, Answer, accepted, refused, _>>_, first-from}
 use Rattle.rules.specs.Groups.{join, readers}
 use Rattle.rules.specs.Types.{type-count, type-at, ok9, ok10, ok11, ok12, q8, q9, q10, q11, q12}
-use Rattle.rules.specs.Calls.{groups-check, types-check, q25, at-or-below}
+use Rattle.rules.specs.Comparison.{equal-types, Comparison, same, below, neither, comparison}
+use Rattle.rules.specs.Calls.{groups-check, types-check, q25, comparing}
 use Rattle.answer.specs.declared.Checked.{Checked}
 use Rattle.answer.specs.declared.Checked.the-variants.{Passed, Refused}
 use Rattle.answer.specs.Said.{said}
+use Rattle.subtyping.specs.declared.Compared.the-variants.{Related, Neither}
+use Rattle.subtyping.specs.Compared.{compared}
 use Rattle.answer.proofs.Passed.{No}
-use Rattle.types_table.specs.Ordered.{answered, refusal}
+use Rattle.types_table.specs.Answered.{answered, told, refusal}
 use Rattle.rules.proofs.Asked.{and-then}
 
 -- what is left to ask from a question on
@@ -62,34 +68,43 @@ all-yes g t e =
     let f = and-then (q11 t) (q12 t) (d .1) in
     record { to-7 = a .0; to-8 = b .0; to-9 = c .0; to-10 = d .0; to-11 = f .0; to-12 = f .1 }
 
--- 'At or below' after question 12.
-abbrev pub found : Bytes → Bytes → ℕ → ℕ → Answer Bool
-found g t i j = accepted (subtype (readers g) below (type-at t i) (type-at t j))
+-- The comparison after question 12.
+abbrev pub found : Bytes → Bytes → ℕ → ℕ → Answer Comparison
+found g t i j = accepted (comparison (readers g) (type-at t i) (type-at t j))
 
-abbrev pub second-index : Bytes → Bytes → ℕ → ℕ → Answer Bool
+abbrev pub second-index : Bytes → Bytes → ℕ → ℕ → Answer Comparison
 second-index g t i j = do
   q25 1 j (type-count t)
   found g t i j
 
-abbrev pub from-25 : Bytes → Bytes → ℕ → ℕ → Answer Bool
+abbrev pub from-25 : Bytes → Bytes → ℕ → ℕ → Answer Comparison
 from-25 g t i j = do
   q25 0 i (type-count t)
   second-index g t i j
 
-pub at-or-below-is : (g t : Bytes) (i j : ℕ) → _>>_ (types-check g t) (from-25 g t i j) ≡ at-or-below g t i j
-unfolding at-or-below types-check subtype type-at join
-at-or-below-is g t i j = refl
+pub comparing-is : (g t : Bytes) (i j : ℕ) → _>>_ (types-check g t) (from-25 g t i j) ≡ comparing g t i j
+unfolding comparing types-check subtype equal-types type-at join
+comparing-is g t i j = refl
+
+-- what the walk found is the comparison
+told-cases : (b c : Bool) (n : ℕ) → answered (told (cond b (Related c n) Neither)) ≡ accepted (cond b (cond c same below) neither)
+told-cases true true n = refl
+told-cases true false n = refl
+told-cases false c n = refl
+
+pub told-is : (S : Security) (s t : Ty) → answered (told (compared S directions.below s t)) ≡ accepted (comparison S s t)
+told-is S s t = told-cases (subtype S directions.below s t) (equal-types s t) (sizeT s)
 
 -- a refusal of the tables is the call's
-pub refused-on : (x : Checked) (a : Answer (Unit {0})) (b : Answer Bool) → No x → said x ≡ a → answered (refusal x) ≡ _>>_ a b
+pub refused-on : (x : Checked) (a : Answer (Unit {0})) (b : Answer Comparison) → No x → said x ≡ a → answered (refusal x) ≡ _>>_ a b
 refused-on Passed a b k e = absurd (omega arith)
 refused-on (Refused q p) a b k e = ap (λ (o : Answer (Unit {0})). _>>_ o b) e
 
-pub first-outside : (n i : ℕ) (b : Answer Bool) → n ≤ i → refused 25 0 ≡ _>>_ (q25 0 i n) b
+pub first-outside : (n i : ℕ) (b : Answer Comparison) → n ≤ i → refused 25 0 ≡ _>>_ (q25 0 i n) b
 first-outside n i b l = rw (le-ltb i n l)
 
-pub second-outside : (n i j : ℕ) (b : Answer Bool) → i < n → n ≤ j → refused 25 1 ≡ _>>_ (q25 0 i n) (_>>_ (q25 1 j n) b)
+pub second-outside : (n i j : ℕ) (b : Answer Comparison) → i < n → n ≤ j → refused 25 1 ≡ _>>_ (q25 0 i n) (_>>_ (q25 1 j n) b)
 second-outside n i j b k l = rw (lt-ltb i n k, le-ltb j n l)
 
-pub both-inside : (n i j : ℕ) (b : Answer Bool) → i < n → j < n → b ≡ _>>_ (q25 0 i n) (_>>_ (q25 1 j n) b)
+pub both-inside : (n i j : ℕ) (b : Answer Comparison) → i < n → j < n → b ≡ _>>_ (q25 0 i n) (_>>_ (q25 1 j n) b)
 both-inside n i j b k l = rw (lt-ltb i n k, lt-ltb j n l)

@@ -1,6 +1,7 @@
-// A types table: questions 8 to 12, and 'at or below' of two of its types.
+// A types table: questions 8 to 12, and the comparison of two of its types.
 
 use answer::Checked;
+use subtyping::Compared;
 use types::FUNCTION;
 use types::TYPE_LIMIT;
 use types::TYPE_WIDTH;
@@ -10,15 +11,17 @@ ghost use Prim.Native.Nat.{_-_, _≤_, _<_};
 ghost use lib.Dec.{eqb, ltb};
 ghost use Rattle.calculus.specs.Types.{type-limit};
 ghost use Rattle.rules.specs.Types.{type-count, ok9, ok10, q8, q9, q10, q11, q12};
-ghost use Rattle.rules.specs.Calls.{types-check, at-or-below};
+ghost use Rattle.rules.specs.Calls.{types-check, comparing};
 ghost use Rattle.answer.specs.Said.{said};
-ghost use Rattle.types_table.specs.Ordered.{answered, refusal};
+ghost use Rattle.types_table.specs.Answered.{answered, told, refusal};
 
 pub const TABLE_LIMIT: usize = 4096;
 
-// The answer of 'at or below': whether it is so, or the number of the first question answered no and the place.
-pub enum Ordered {
-    Answered(bool),
+// The answer of a comparison, or the number of the first question answered no and the place.
+pub enum CompareAnswer {
+    Same,
+    Below,
+    Neither,
     Refused(u8, usize),
 }
 
@@ -164,20 +167,33 @@ pub fn types_check(groups: &[u8], types: &[u8]) -> Checked
     question_12(types)
 }
 
-// A refusal, as an answer to 'at or below'.
-fn refused(a: Checked) -> Ordered
+// A refusal, as the answer of a comparison.
+fn refused(a: Checked) -> CompareAnswer
     ensures { λ x. ⌜ x ≡ refusal a ⌝ }
 {
     match a {
-        Checked::Passed => Ordered::Answered(false),
-        Checked::Refused(question, place) => Ordered::Refused(question, place),
+        Checked::Passed => CompareAnswer::Neither,
+        Checked::Refused(question, place) => CompareAnswer::Refused(question, place),
     }
 }
 
-// At or below, of two type indexes: questions 2 to 12 and 25, and the walk. The indexes are compared as they come, before they
-// are narrowed.
-pub fn compare(groups: &[u8], types: &[u8], i: u64, j: u64) -> Ordered
-    ensures { λ a. ⌜ answered a ≡ at-or-below (now (groups .entry)) (now (types .entry)) i j ⌝ }
+// What a walk found, as the answer of a comparison.
+fn told(found: Compared) -> CompareAnswer
+    ensures { λ x. ⌜ x ≡ told found ⌝ }
+{
+    let Compared::Related(same, _) = found else {
+        return CompareAnswer::Neither;
+    };
+    if same {
+        return CompareAnswer::Same;
+    }
+    CompareAnswer::Below
+}
+
+// Same, below or neither, of two type indexes: questions 2 to 12 and 25, and the walk. The indexes are compared as they come,
+// before they are narrowed.
+pub fn compare(groups: &[u8], types: &[u8], i: u64, j: u64) -> CompareAnswer
+    ensures { λ a. ⌜ answered a ≡ comparing (now (groups .entry)) (now (types .entry)) i j ⌝ }
 {
     let a = types_check(groups, types);
     let Checked::Passed = a else {
@@ -185,12 +201,12 @@ pub fn compare(groups: &[u8], types: &[u8], i: u64, j: u64) -> Ordered
     };
     let m = types::type_count(types) as u64;
     if m <= i {
-        return Ordered::Refused(25, 0);
+        return CompareAnswer::Refused(25, 0);
     }
     if m <= j {
-        return Ordered::Refused(25, 1);
+        return CompareAnswer::Refused(25, 1);
     }
     let x = TYPE_WIDTH * (i as usize);
     let y = TYPE_WIDTH * (j as usize);
-    Ordered::Answered(subtyping::is_subtype(groups, &types[x..], &types[y..]))
+    told(subtyping::at_or_below(groups, &types[x..], &types[y..]))
 }

@@ -1,6 +1,7 @@
 -- `subtyping::at_or_above` and `at_or_below` meet their contracts: each calls both on shorter parts, and `Order` has the laws once
 -- for both directions. The measure is the length of the first part.
 use mathlib.Core.Path.{_≡_, sym, ap, _∙_}
+use mathlib.Core.Bool.{Bool}
 use mathlib.Core.Logic.{⊎-elim}
 use Prim.Native.Nat.{ℕ, _+_, _*_, _≤_, _<_}
 use native.Mathlib.Omega.{arith}
@@ -16,7 +17,7 @@ use Rattle.subtyping.specs.declared.Compared.{Compared}
 use Rattle.types.specs.Held.{Held, kind-of, left-of, right-of}
 use Rattle.subtyping.specs.Compared.{compared}
 use Rattle.types.proofs.Parts.{parts}
-use Rattle.subtyping.proofs.Order.{turned, turned-function, turned-other, firsts-above, unrelated, is-unrelated}
+use Rattle.subtyping.proofs.Order.{turned, turned-function, turned-other, firsts-above, not-related, is-neither}
 use Rattle.subtyping.proofs.Order.{Alike, at-unit, sided-a, sided-b}
 use Rattle.subtyping.proofs.Order.{Lefts, Rights, no-left, counted-a, counted-b, no-right, all-related, bounded}
 use borrow.Fn.Kinds.{In}
@@ -27,6 +28,8 @@ use Rattle.subtyping.proofs.at_or_below.Reads as at-or-below
 use Rattle.subtyping.proofs.+at_or_above+at_or_below.Lts-at_or_above as above-lts
 use Rattle.subtyping.proofs.+at_or_above+at_or_below.Lts-at_or_below as below-lts
 use Rattle.subtyping.proofs.first_below.Reads as first-below-reads
+use Rattle.subtyping.proofs.first_same.Reads as first-same-reads
+use Rattle.subtyping.proofs.throughout.Reads as throughout-reads
 use Rattle.types.proofs.kind.Reads as kind-reads
 use Rattle.types.proofs.left_side.Reads as left-side-reads
 use Rattle.types.proofs.right_side.Reads as right-side-reads
@@ -58,6 +61,8 @@ abbrev above-claims : ℕ → above-lts.Claims
 above-claims t = (
   first-below-reads.Asked,
   first-below-reads.Learnt,
+  first-same-reads.Asked,
+  first-same-reads.Learnt,
   kind-reads.Asked,
   kind-reads.Learnt,
   left-side-reads.Asked,
@@ -68,6 +73,8 @@ above-claims t = (
   at-or-above.Post,
   right-side-reads.Asked,
   right-side-reads.Learnt,
+  throughout-reads.Asked,
+  throughout-reads.Learnt,
 )
 
 abbrev above-at : ℕ → In 3 kinds.ps
@@ -104,7 +111,11 @@ module _ (t : ℕ) where
   above-call c = c .before .before .before .before
 
   abbrev above-start : above-Kind → above-Start
-  above-start c = above-call (c .before .before)
+  above-start c = above-call (c .before .before .before)
+
+  -- whether the first records are the same
+  abbrev above-first : above-Kind → Bool
+  above-first c = c .before .first-same .result
 
   abbrev above-kind : above-Left → above-Kind
   above-kind c = c .before .before
@@ -133,15 +144,16 @@ module _ (t : ℕ) where
 
   -- past the first records
   above-alike : (c : above-Kind)
-      → Alike (above-S (above-start c)) above (above-a (above-start c)) (above-b (above-start c)) (c .kind .result)
+      → Alike (above-S (above-start c)) above (above-a (above-start c)) (above-b (above-start c)) (above-first c) (c .kind .result)
   above-alike c =
       let s = above-start c in
-      let e = c .before in
+      let e = c .before .before in
       record {
         sa = s .pre .1 .0;
         sb = s .pre .1 .1;
         ka = c .kind .ensures;
         ok = λ v w p q. firsts-above (above-S s) v w ∙ sym (e .before .first-below .ensures w v q p) ∙ not-false _ (e .if1 .left);
+        same-first = c .before .first-same .ensures;
       }
 
   -- the left sides are compared, at a function the other way round
@@ -156,11 +168,11 @@ module _ (t : ℕ) where
       (c .if3 .came)
 
   above-lefts : (c : above-Left)
-      → Lefts (above-S (above-entry c)) above (above-a (above-entry c)) (above-b (above-entry c)) (c .if3 .left)
+      → Lefts (above-S (above-entry c)) above (above-a (above-entry c)) (above-b (above-entry c)) (above-first (above-kind c)) (c .if3 .left)
   above-lefts c =
       let h = above-alike (above-kind c) in
       let n = c .before .if2 .left in
-      record { sided-l = sided-a h n; sided-r = sided-b h n; ok = h .ok; said = above-left-said c }
+      record { sided-l = sided-a h n; sided-r = sided-b h n; ok = h .ok; same-first = h .same-first; said = above-left-said c }
 
   above-rights : (c : above-Right)
       → Rights (above-S (above-entry (above-left c))) above (above-a (above-entry (above-left c))) (above-b (above-entry (above-left c)))
@@ -171,7 +183,7 @@ module _ (t : ℕ) where
 
   -- the count of all the records is within the first part
   above-few : (c : above-Done)
-      → 4 * (1 + (above-half (above-right c .before) .left .given .0 .0 + c .before .right .given .0 .0))
+      → 4 * (1 + (above-half (above-right c .before) .left .given .0 .1 .0 + c .before .right .given .0 .1 .0))
       ≤ length (above-a (above-entry (above-left (above-right c))))
   above-few c =
       let r = above-right c in
@@ -184,10 +196,13 @@ module _ (t : ℕ) where
   above-returns c v w p q =
       let f = c .before in
       let S = above-S (above-call f) in
-      unrelated S above v w (firsts-above S v w ∙ sym (f .first-below .ensures w v q p) ∙ not-true _ (c .if1 .taken))
+      not-related S above v w (firsts-above S v w ∙ sym (f .first-below .ensures w v q p) ∙ not-true _ (c .if1 .taken))
+
+  above-first-same-requires : above-lts.Need-first-same-requires (above-claims t) (above-at t) at-or-above.Post
+  above-first-same-requires c κs = above-call (c .before) .pre .1
 
   above-kind-requires : above-lts.Need-kind-requires (above-claims t) (above-at t) at-or-above.Post
-  above-kind-requires c κs = above-call (c .before) .pre .1 .0
+  above-kind-requires c κs = above-call (c .before .before) .pre .1 .0
 
   above-returns-2 : above-lts.Need-returns-2 (above-claims t) (above-at t) at-or-above.Post
   above-returns-2 c = at-unit (above-alike (c .before)) (c .if2 .taken)
@@ -221,7 +236,7 @@ module _ (t : ℕ) where
   above-enum-told c = search needs
 
   above-returns-3 : above-lts.Need-returns-3 (above-claims t) (above-at t) at-or-above.Post
-  above-returns-3 c = no-left (above-lefts (c .before .before)) (is-unrelated _ (c .before .match .keys2))
+  above-returns-3 c = no-left (above-lefts (c .before .before)) (is-neither _ (c .before .match .keys2))
 
   above-right-side-requires : above-lts.Need-right-side-requires (above-claims t) (above-at t) at-or-above.Post
   above-right-side-requires c κs = let l = c .before in counted-a (above-lefts (l .before .before)) (l .left .given .1)
@@ -244,24 +259,31 @@ module _ (t : ℕ) where
   above-returns-4 c =
       let r = c .before .before in
       no-right (above-lefts (above-left r)) (above-half (r .before) .left .given .1) (above-rights r)
-      (is-unrelated _ (c .before .match2 .keys2))
+      (is-neither _ (c .before .match2 .keys2))
 
-  above-add-t18 : above-lts.Need-add-t18 (above-claims t) (above-at t) at-or-above.Post
-  above-add-t18 c = omega (arith, above-few c, above-entry (above-left (above-right c)) .good)
+  above-throughout-requires : above-lts.Need-throughout-requires (above-claims t) (above-at t) at-or-above.Post
+  above-throughout-requires c κs = search needs
 
-  above-add-t19 : above-lts.Need-add-t19 (above-claims t) (above-at t) at-or-above.Post
-  above-add-t19 c = omega (arith, above-few c, above-entry (above-left (above-right c)) .good)
+  above-add-t21 : above-lts.Need-add-t21 (above-claims t) (above-at t) at-or-above.Post
+  above-add-t21 c = let d = c .before in omega (arith, above-few d, above-entry (above-left (above-right d)) .good)
+
+  above-add-t22 : above-lts.Need-add-t22 (above-claims t) (above-at t) at-or-above.Post
+  above-add-t22 c = let d = c .before in omega (arith, above-few d, above-entry (above-left (above-right d)) .good)
 
   above-returns-5 : above-lts.Need-returns-5 (above-claims t) (above-at t) at-or-above.Post
   above-returns-5 c =
-      let r = above-right c in
-      all-related (above-lefts (above-left r)) (above-half (r .before) .left .given .1) (above-rights r) (c .before .right .given .1)
+      let d = c .before in
+      let r = above-right d in
+      all-related (above-lefts (above-left r)) (above-half (r .before) .left .given .1) (above-rights r) (d .before .right .given .1)
+      (c .throughout .ensures)
 
 -- what `at_or_below` is given of the functions that it calls
 abbrev below-claims : ℕ → below-lts.Claims
 below-claims t = (
   first-below-reads.Asked,
   first-below-reads.Learnt,
+  first-same-reads.Asked,
+  first-same-reads.Learnt,
   kind-reads.Asked,
   kind-reads.Learnt,
   left-side-reads.Asked,
@@ -272,6 +294,8 @@ below-claims t = (
   at-or-below.Post,
   right-side-reads.Asked,
   right-side-reads.Learnt,
+  throughout-reads.Asked,
+  throughout-reads.Learnt,
 )
 
 abbrev below-at : ℕ → In 3 kinds.ps
@@ -308,7 +332,11 @@ module _ (t : ℕ) where
   below-call c = c .before .before .before .before
 
   abbrev below-start : below-Kind → below-Start
-  below-start c = below-call (c .before .before)
+  below-start c = below-call (c .before .before .before)
+
+  -- whether the first records are the same
+  abbrev below-first : below-Kind → Bool
+  below-first c = c .before .first-same .result
 
   abbrev below-kind : below-Left → below-Kind
   below-kind c = c .before .before
@@ -337,15 +365,16 @@ module _ (t : ℕ) where
 
   -- past the first records
   below-alike : (c : below-Kind)
-      → Alike (below-S (below-start c)) below (below-a (below-start c)) (below-b (below-start c)) (c .kind .result)
+      → Alike (below-S (below-start c)) below (below-a (below-start c)) (below-b (below-start c)) (below-first c) (c .kind .result)
   below-alike c =
       let s = below-start c in
-      let e = c .before in
+      let e = c .before .before in
       record {
         sa = s .pre .1 .0;
         sb = s .pre .1 .1;
         ka = c .kind .ensures;
         ok = λ v w p q. sym (e .before .first-below .ensures v w p q) ∙ not-false _ (e .if1 .left);
+        same-first = c .before .first-same .ensures;
       }
 
   -- the left sides are compared, at a function the other way round
@@ -360,11 +389,11 @@ module _ (t : ℕ) where
       (c .if3 .came)
 
   below-lefts : (c : below-Left)
-      → Lefts (below-S (below-entry c)) below (below-a (below-entry c)) (below-b (below-entry c)) (c .if3 .left)
+      → Lefts (below-S (below-entry c)) below (below-a (below-entry c)) (below-b (below-entry c)) (below-first (below-kind c)) (c .if3 .left)
   below-lefts c =
       let h = below-alike (below-kind c) in
       let n = c .before .if2 .left in
-      record { sided-l = sided-a h n; sided-r = sided-b h n; ok = h .ok; said = below-left-said c }
+      record { sided-l = sided-a h n; sided-r = sided-b h n; ok = h .ok; same-first = h .same-first; said = below-left-said c }
 
   below-rights : (c : below-Right)
       → Rights (below-S (below-entry (below-left c))) below (below-a (below-entry (below-left c))) (below-b (below-entry (below-left c)))
@@ -375,7 +404,7 @@ module _ (t : ℕ) where
 
   -- the count of all the records is within the first part
   below-few : (c : below-Done)
-      → 4 * (1 + (below-half (below-right c .before) .left .given .0 .0 + c .before .right .given .0 .0))
+      → 4 * (1 + (below-half (below-right c .before) .left .given .0 .1 .0 + c .before .right .given .0 .1 .0))
       ≤ length (below-a (below-entry (below-left (below-right c))))
   below-few c =
       let r = below-right c in
@@ -388,10 +417,13 @@ module _ (t : ℕ) where
   below-returns c v w p q =
       let f = c .before in
       let S = below-S (below-call f) in
-      unrelated S below v w (sym (f .first-below .ensures v w p q) ∙ not-true _ (c .if1 .taken))
+      not-related S below v w (sym (f .first-below .ensures v w p q) ∙ not-true _ (c .if1 .taken))
+
+  below-first-same-requires : below-lts.Need-first-same-requires (below-claims t) (below-at t) at-or-below.Post
+  below-first-same-requires c κs = below-call (c .before) .pre .1
 
   below-kind-requires : below-lts.Need-kind-requires (below-claims t) (below-at t) at-or-below.Post
-  below-kind-requires c κs = below-call (c .before) .pre .1 .0
+  below-kind-requires c κs = below-call (c .before .before) .pre .1 .0
 
   below-returns-2 : below-lts.Need-returns-2 (below-claims t) (below-at t) at-or-below.Post
   below-returns-2 c = at-unit (below-alike (c .before)) (c .if2 .taken)
@@ -425,7 +457,7 @@ module _ (t : ℕ) where
   below-enum-told c = search needs
 
   below-returns-3 : below-lts.Need-returns-3 (below-claims t) (below-at t) at-or-below.Post
-  below-returns-3 c = no-left (below-lefts (c .before .before)) (is-unrelated _ (c .before .match .keys2))
+  below-returns-3 c = no-left (below-lefts (c .before .before)) (is-neither _ (c .before .match .keys2))
 
   below-right-side-requires : below-lts.Need-right-side-requires (below-claims t) (below-at t) at-or-below.Post
   below-right-side-requires c κs = let l = c .before in counted-a (below-lefts (l .before .before)) (l .left .given .1)
@@ -448,18 +480,23 @@ module _ (t : ℕ) where
   below-returns-4 c =
       let r = c .before .before in
       no-right (below-lefts (below-left r)) (below-half (r .before) .left .given .1) (below-rights r)
-      (is-unrelated _ (c .before .match2 .keys2))
+      (is-neither _ (c .before .match2 .keys2))
 
-  below-add-t18 : below-lts.Need-add-t18 (below-claims t) (below-at t) at-or-below.Post
-  below-add-t18 c = omega (arith, below-few c, below-entry (below-left (below-right c)) .good)
+  below-throughout-requires : below-lts.Need-throughout-requires (below-claims t) (below-at t) at-or-below.Post
+  below-throughout-requires c κs = search needs
 
-  below-add-t19 : below-lts.Need-add-t19 (below-claims t) (below-at t) at-or-below.Post
-  below-add-t19 c = omega (arith, below-few c, below-entry (below-left (below-right c)) .good)
+  below-add-t21 : below-lts.Need-add-t21 (below-claims t) (below-at t) at-or-below.Post
+  below-add-t21 c = let d = c .before in omega (arith, below-few d, below-entry (below-left (below-right d)) .good)
+
+  below-add-t22 : below-lts.Need-add-t22 (below-claims t) (below-at t) at-or-below.Post
+  below-add-t22 c = let d = c .before in omega (arith, below-few d, below-entry (below-left (below-right d)) .good)
 
   below-returns-5 : below-lts.Need-returns-5 (below-claims t) (below-at t) at-or-below.Post
   below-returns-5 c =
-      let r = below-right c in
-      all-related (below-lefts (below-left r)) (below-half (r .before) .left .given .1) (below-rights r) (c .before .right .given .1)
+      let d = c .before in
+      let r = below-right d in
+      all-related (below-lefts (below-left r)) (below-half (r .before) .left .given .1) (below-rights r) (d .before .right .given .1)
+      (c .throughout .ensures)
 
 pub +at-or-above+at-or-below-spec : {M : Type 1} → statement M
 +at-or-above+at-or-below-spec =
@@ -468,6 +505,7 @@ pub +at-or-above+at-or-below-spec : {M : Type 1} → statement M
     above-lts.spec (above-claims t) (above-at t) at-or-above.Post
     (above-first-below-requires t)
     (above-returns t)
+    (above-first-same-requires t)
     (above-kind-requires t)
     (above-returns-2 t)
     (above-left-side-requires t)
@@ -485,13 +523,15 @@ pub +at-or-above+at-or-below-spec : {M : Type 1} → statement M
     (above-enum-known-right t)
     (above-enum-told-2 t)
     (above-returns-4 t)
-    (above-add-t18 t)
-    (above-add-t19 t)
+    (above-throughout-requires t)
+    (above-add-t21 t)
+    (above-add-t22 t)
     (above-returns-5 t))
     λ t.
     below-lts.spec (below-claims t) (below-at t) at-or-below.Post
     (below-first-below-requires t)
     (below-returns t)
+    (below-first-same-requires t)
     (below-kind-requires t)
     (below-returns-2 t)
     (below-left-side-requires t)
@@ -509,6 +549,7 @@ pub +at-or-above+at-or-below-spec : {M : Type 1} → statement M
     (below-enum-known-right t)
     (below-enum-told-2 t)
     (below-returns-4 t)
-    (below-add-t18 t)
-    (below-add-t19 t)
+    (below-throughout-requires t)
+    (below-add-t21 t)
+    (below-add-t22 t)
     (below-returns-5 t)

@@ -1,20 +1,19 @@
 -- `types_table::compare` meets its contract. A table that passes holds a type at each record, so the walk may start at both indexes.
 use mathlib.Core.Path.{_≡_, ap, _∙_}
-use mathlib.Core.Bool.{Bool}
 use Prim.Native.Nat.{ℕ, _*_, _<_}
 use native.Mathlib.Omega.{arith}
 use lib.ListN.{drop}
-use Rattle.calculus.specs.Subtyping.{subtype, below}
 use Rattle.rules.specs.Answer.{Bytes, Answer, accepted}
 use Rattle.rules.specs.Limits.{type-width}
+use Rattle.rules.specs.Comparison.{Comparison}
 use Rattle.rules.specs.Groups.{readers}
 use Rattle.rules.specs.Types.{type-count, type-at}
-use Rattle.rules.specs.Calls.{types-check, at-or-below}
+use Rattle.rules.specs.Calls.{types-check, comparing}
 use Rattle.answer.proofs.Passed.{accepts}
 use Rattle.types.specs.Held.{Held}
-use Rattle.types_table.specs.Ordered.{answered}
+use Rattle.types_table.specs.Answered.{answered, told}
 use Rattle.types.proofs.Parts.{to-end, starts-of}
-use Rattle.types_table.proofs.Questions.{found, second-index, from-25, past, at-or-below-is, refused-on, first-outside, second-outside, both-inside}
+use Rattle.types_table.proofs.Questions.{found, second-index, from-25, past, comparing-is, told-is, refused-on, first-outside, second-outside, both-inside}
 use Rattle.types_table.proofs.Table.{type-held}
 use borrow.Author.Needs.{needs}
 use Rattle.types_table.proofs.compare.Statement.{statement}
@@ -34,12 +33,12 @@ start c = c .before .before .before .before .before
 yes : (c : tie.After-enum-told) → types-check (groups-of (start c)) (types-of (start c)) ≡ accepted tt
 yes c = accepts (c .before .before .types-check .result) _ (c .before .match .keys1) (c .before .before .types-check .ensures)
 
-past-12 : (c : tie.After-enum-told) {o : Answer Bool} → o ≡ from-25 (groups-of (start c)) (types-of (start c)) (start c .args .i) (start c .args .j)
-    → o ≡ at-or-below (groups-of (start c)) (types-of (start c)) (start c .args .i) (start c .args .j)
+past-12 : (c : tie.After-enum-told) {o : Answer Comparison} → o ≡ from-25 (groups-of (start c)) (types-of (start c)) (start c .args .i) (start c .args .j)
+    → o ≡ comparing (groups-of (start c)) (types-of (start c)) (start c .args .i) (start c .args .j)
 past-12 c e =
     let s = start c in
     past (types-check (groups-of s) (types-of s)) (from-25 (groups-of s) (types-of s) (s .args .i) (s .args .j)) (yes c) e
-    ∙ at-or-below-is (groups-of s) (types-of s) (s .args .i) (s .args .j)
+    ∙ comparing-is (groups-of s) (types-of s) (s .args .i) (s .args .j)
 
 -- past question 25
 abbrev start-25 : tie.Else2 → tie.Start
@@ -73,7 +72,7 @@ returns c =
     ap answered (c .refused .ensures)
     ∙ refused-on (c .before .before .before .types-check .result) (types-check (groups-of s) (types-of s)) (from-25 (groups-of s) (types-of s) (s .args .i) (s .args .j))
     (c .before .before .match .keys2) (c .before .before .before .types-check .ensures)
-    ∙ at-or-below-is (groups-of s) (types-of s) (s .args .i) (s .args .j)
+    ∙ comparing-is (groups-of s) (types-of s) (s .args .i) (s .args .j)
 
 type-count-requires : tie.Need-type-count-requires
 type-count-requires c κs = search needs
@@ -95,34 +94,42 @@ mul-x c = search needs
 mul-y : tie.Need-mul-y
 mul-y c = search needs
 
-sub-is-subtype : tie.Need-sub-is-subtype
-sub-is-subtype c = search needs
+sub-at-or-below : tie.Need-sub-at-or-below
+sub-at-or-below c = search needs
 
-part-is-subtype-start : tie.Need-part-is-subtype-start
-part-is-subtype-start c = search needs
+part-at-or-below-start : tie.Need-part-at-or-below-start
+part-at-or-below-start c = search needs
 
-part-is-subtype-end : tie.Need-part-is-subtype-end
-part-is-subtype-end c = search needs
+part-at-or-below-end : tie.Need-part-at-or-below-end
+part-at-or-below-end c = search needs
 
-sub-is-subtype-2 : tie.Need-sub-is-subtype-2
-sub-is-subtype-2 c = search needs
+sub-at-or-below-2 : tie.Need-sub-at-or-below-2
+sub-at-or-below-2 c = search needs
 
-part-is-subtype-start-2 : tie.Need-part-is-subtype-start-2
-part-is-subtype-start-2 c = search needs
+part-at-or-below-start-2 : tie.Need-part-at-or-below-start-2
+part-at-or-below-start-2 c = search needs
 
-part-is-subtype-end-2 : tie.Need-part-is-subtype-end-2
-part-is-subtype-end-2 c = search needs
+part-at-or-below-end-2 : tie.Need-part-at-or-below-end-2
+part-at-or-below-end-2 c = search needs
 
-is-subtype-requires : tie.Need-is-subtype-requires
-is-subtype-requires c κs = (rw to-end (starts-of (held-i (c .before .before))), rw to-end (starts-of (held-j (c .before .before))))
+at-or-below-requires : tie.Need-at-or-below-requires
+at-or-below-requires c κs = (rw to-end (starts-of (held-i (c .before .before))), rw to-end (starts-of (held-j (c .before .before))))
+
+told-requires : tie.Need-told-requires
+told-requires c κs = search needs
 
 returns-4 : tie.Need-returns-4
 returns-4 c =
-    let d = c .before .before .before in
+    let w = c .before in
+    let d = w .before .before .before in
     let s = start-25 d in
-    let b = subtype (readers (groups-of s)) below (type-at (types-of s) (s .args .i)) (type-at (types-of s) (s .args .j)) in
-    ap accepted (c .is-subtype .ensures _ _ (rw to-end (held-i d)) (rw to-end (held-j d)))
-    ∙ past-12 (d .before .before .before) (both-inside (type-count (types-of s)) (s .args .i) (s .args .j) (accepted b) (omega arith) (omega arith))
+    let S = readers (groups-of s) in
+    let lower = type-at (types-of s) (s .args .i) in
+    let upper = type-at (types-of s) (s .args .j) in
+    ap answered (c .told .ensures ∙ ap told (w .at-or-below .ensures lower upper (rw to-end (held-i d)) (rw to-end (held-j d))))
+    ∙ told-is S lower upper
+    ∙ past-12 (d .before .before .before)
+    (both-inside (type-count (types-of s)) (s .args .i) (s .args .j) (found (groups-of s) (types-of s) (s .args .i) (s .args .j)) (omega arith) (omega arith))
 
 pub compare-spec : {M : Type 1} → statement M
 compare-spec =
@@ -138,11 +145,12 @@ compare-spec =
     returns-3
     mul-x
     mul-y
-    sub-is-subtype
-    part-is-subtype-start
-    part-is-subtype-end
-    sub-is-subtype-2
-    part-is-subtype-start-2
-    part-is-subtype-end-2
-    is-subtype-requires
+    sub-at-or-below
+    part-at-or-below-start
+    part-at-or-below-end
+    sub-at-or-below-2
+    part-at-or-below-start-2
+    part-at-or-below-end-2
+    at-or-below-requires
+    told-requires
     returns-4)

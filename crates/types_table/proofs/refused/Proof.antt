@@ -1,6 +1,6 @@
 -- `types_table::refused` meets its contract.
 use mathlib.Core.Path.{sym, ap}
-use Rattle.types_table.specs.Ordered.{refusal}
+use Rattle.types_table.specs.Answered.{refusal}
 use borrow.Author.Needs.{needs}
 use Rattle.types_table.proofs.refused.Statement.{statement}
 use Rattle.types_table.proofs.refused.Tie as tie
