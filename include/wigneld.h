@@ -276,7 +276,7 @@ static inline const char *wigneld_asked(unsigned question)
         "what is handed on is at or below the type that is wanted",        /* 22 */
         "a recursion's result is as secret as the recursion",              /* 23 */
         "the type of a function or a pair has at most 63 records",         /* 24 */
-        "the group is in its table",                                       /* 25 */
+        "the index or the group is in its table",                          /* 25, place: 1 for the second of two */
         "the script is a value",                                           /* 26 */
         "the answer fits its buffer",                                      /* 27 */
     };

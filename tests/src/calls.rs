@@ -9,7 +9,7 @@ use crate::refusal::{ask, Answer};
 use crate::script::read_script;
 use crate::sheet::sheet_of;
 use crate::steps::{self, is_value, End};
-use crate::types::{self, read_tables};
+use crate::types::{self, read_tables, Comparison};
 use crate::typing::type_of;
 
 pub use crate::script::subterm;
@@ -25,14 +25,14 @@ pub fn types_check(groups: &[u8], types: &[u8]) -> Answer<()> {
     read_tables(groups, types).map(|_| ())
 }
 
-/// "At or below, of two type indexes: 2 to 12, 25."
-pub fn at_or_below(groups: &[u8], types: &[u8], i: u64, j: u64) -> Answer<bool> {
+/// "At or below, of two type indexes: 2 to 12, 25", which now answers same, below or neither.
+pub fn compare(groups: &[u8], types: &[u8], i: u64, j: u64) -> Answer<Comparison> {
     let tables = read_tables(groups, types)?;
     // 25. Is a given index or group in its table? (0, or 1 for a second one)
     ask(tables.types.has(i), 25, 0)?;
     ask(tables.types.has(j), 25, 1)?;
     let (s, t) = (tables.types.at(i as usize), tables.types.at(j as usize));
-    Ok(types::at_or_below(&tables.groups, &s, &t))
+    Ok(types::compare(&tables.groups, &s, &t))
 }
 
 /// "Checking: 1 to 24; it then gives the type's record count, fills the answer buffer's front with

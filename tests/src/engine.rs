@@ -1,10 +1,11 @@
-//! The engine's own functions, from libwigneld.a and libprobe.a, on slices.
+//! The engine's own functions, from libwigneld.a, libwigneld_office.a and libprobe.a, on slices.
 //!
 //! An answer is one number: refused is question * 2^32 + place; otherwise the upper half is 0 and
 //! the lower half is what the call answers.
 
 use crate::calls::{RunReport, StepReport};
 use crate::refusal::{Answer, Refusal};
+use crate::types::Comparison;
 
 #[rustfmt::skip] // a pointer and its length on each line, as in the C declarations
 mod raw {
@@ -33,16 +34,17 @@ mod raw {
             sheet: *mut u8, sheet_length: usize,
         ) -> u64;
 
+        pub fn wigneld_compare(
+            groups: *const u8, groups_length: usize,
+            types: *const u8, types_length: usize,
+            first: u64, second: u64,
+        ) -> u64;
+
         pub fn probe_bit(word: u32, h: u64) -> u64;
         pub fn probe_groups_check(groups: *const u8, groups_length: usize) -> u64;
         pub fn probe_types_check(
             groups: *const u8, groups_length: usize,
             types: *const u8, types_length: usize,
-        ) -> u64;
-        pub fn probe_at_or_below(
-            groups: *const u8, groups_length: usize,
-            types: *const u8, types_length: usize,
-            i: u64, j: u64,
         ) -> u64;
         pub fn probe_step(
             groups: *const u8, groups_length: usize,
@@ -130,6 +132,19 @@ pub fn sheet(groups: &[u8], types: &[u8], value: &[u8], group: u64, sheet: &mut 
     }
 }
 
+pub fn compare(groups: &[u8], types: &[u8], first: u64, second: u64) -> u64 {
+    unsafe {
+        raw::wigneld_compare(
+            groups.as_ptr(),
+            groups.len(),
+            types.as_ptr(),
+            types.len(),
+            first,
+            second,
+        )
+    }
+}
+
 pub fn bit(row: u32, h: u64) -> u64 {
     unsafe { raw::probe_bit(row, h) }
 }
@@ -140,12 +155,6 @@ pub fn groups_check(groups: &[u8]) -> u64 {
 
 pub fn types_check(groups: &[u8], types: &[u8]) -> u64 {
     unsafe { raw::probe_types_check(groups.as_ptr(), groups.len(), types.as_ptr(), types.len()) }
-}
-
-pub fn at_or_below(groups: &[u8], types: &[u8], i: u64, j: u64) -> u64 {
-    unsafe {
-        raw::probe_at_or_below(groups.as_ptr(), groups.len(), types.as_ptr(), types.len(), i, j)
-    }
 }
 
 pub fn step(groups: &[u8], types: &[u8], script: &[u8], written: &mut [u8]) -> u64 {
@@ -190,9 +199,9 @@ pub fn packed_nothing(answer: &Answer<()>) -> u64 {
     packed(answer, |_| 0)
 }
 
-/// At or below: 0 or 1.
-pub fn packed_bool(answer: &Answer<bool>) -> u64 {
-    packed(answer, |&yes| yes.into())
+/// Comparison: 0 neither, 1 below, 2 same.
+pub fn packed_comparison(answer: &Answer<Comparison>) -> u64 {
+    packed(answer, |&comparison| comparison as u64)
 }
 
 /// Check and sheet: the record count.

@@ -1,4 +1,4 @@
-//! A second implementation of the SLam scripts of document 01, on trees.
+//! A second implementation of the SLam scripts of documents 01 and 02, on trees.
 //!
 //! It exists to be compared with the engine, so it shares nothing with it and prefers the shortest
 //! faithful reading of each sentence to speed. `calls` is what a caller sees; the other modules

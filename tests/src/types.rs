@@ -1,4 +1,4 @@
-//! Types: trees, the types table with questions 8 to 12, at or below, raising.
+//! Types: trees, the types table with questions 8 to 12, at or below, the comparison, raising.
 
 use std::rc::Rc;
 
@@ -80,6 +80,25 @@ pub fn at_or_below(groups: &Groups, s: &Type, t: &Type) -> bool {
         _ => false,
     };
     marks && sides
+}
+
+/// "The comparison of types now answers same, below or neither." As numbers 2, 1 and 0.
+#[derive(Debug, Clone, Copy, PartialEq, Eq, PartialOrd, Ord)]
+pub enum Comparison {
+    Neither = 0,
+    Below = 1,
+    Same = 2,
+}
+
+/// "Same means equal in every record."
+pub fn compare(groups: &Groups, s: &Type, t: &Type) -> Comparison {
+    if s.write() == t.write() {
+        Comparison::Same
+    } else if at_or_below(groups, s, t) {
+        Comparison::Below
+    } else {
+        Comparison::Neither
+    }
 }
 
 /// κ • g: g joined into both r and ir.

@@ -84,7 +84,7 @@ fn compare_all(rng: &mut Rng, inputs: &Inputs) -> usize {
     let _ = types_check(&inputs.groups, &inputs.types);
     for _ in 0..4 {
         let (i, j) = (index(rng, types), index(rng, types));
-        let _ = at_or_below(&inputs.groups, &inputs.types, i, j);
+        let _ = compare(&inputs.groups, &inputs.types, i, j);
     }
     for _ in 0..3 {
         subterm(&inputs.script, index(rng, records));
@@ -309,15 +309,17 @@ fn every_pair_of_small_types() {
         })
         .collect();
     let table = types.concat();
-    let mut below = 0;
+    let mut answers = [0; 3];
     for &i in &starts {
         for &j in &starts {
-            let answer = at_or_below(&cases::two_groups(), &table, i, j);
-            below += answer.expect("both indexes are in the table") as u32;
+            let answer = compare(&cases::two_groups(), &table, i, j);
+            answers[answer.expect("both indexes are in the table") as usize] += 1;
         }
     }
-    // Of the 3 groups pairs 6 are in order; three kinds with two sides, and units.
-    assert_eq!(below, 3 * 6 * 6 * 6 + 6);
+    // Of the pairs of the 3 pairs of groups 6 are in order, 3 of them the same; three kinds with two
+    // sides, and units.
+    let (all, ordered, same) = (types.len() * types.len(), 3 * 6 * 6 * 6 + 6, 3 * 3 * 3 * 3 + 3);
+    assert_eq!(answers, [all - ordered, ordered - same, same]);
 }
 
 #[test]

@@ -15,7 +15,7 @@ use wigneld_tests::script::{read_script, Term};
 use wigneld_tests::sheet::CLOSED;
 use wigneld_tests::steps::{is_value, End};
 use wigneld_tests::strip::ONE_GROUP;
-use wigneld_tests::types::{self, raise, raise_marks, read_type, Marks, Type};
+use wigneld_tests::types::{self, raise, raise_marks, read_type, Comparison, Form, Marks, Type};
 
 /// The inputs of a term over a world's tables.
 fn inputs_of(world: &World, term: &Term) -> Inputs {
@@ -160,21 +160,91 @@ fn at_or_below_is_a_partial_order() {
 }
 
 #[test]
-fn at_or_below_of_indexes_is_that_of_the_types_there() {
+fn comparison_of_indexes_is_that_of_the_types_there() {
     examples(400, |rng| {
         let world = World::random(rng);
         let types = &world.tables.types;
         for _ in 0..20 {
             let (i, j) = (rng.below(types.count()), rng.below(types.count()));
-            let expected = types::at_or_below(groups_of(&world), &types.at(i), &types.at(j));
-            let found = common::at_or_below(&world.groups, &world.types, i as u64, j as u64);
+            let expected = types::compare(groups_of(&world), &types.at(i), &types.at(j));
+            let found = compare(&world.groups, &world.types, i as u64, j as u64);
             assert_eq!(found, Ok(expected));
             // Shapes that differ are never comparable.
             if types.at(i).size() != types.at(j).size() {
-                assert!(!expected);
+                assert_eq!(expected, Comparison::Neither);
             }
         }
     });
+}
+
+/// The least of the answers for the first records and for both sides, a function's left side turned
+/// round; that of different kinds is neither.
+fn least(groups: &Groups, s: &Type, t: &Type) -> Comparison {
+    let first = |s: &Type| Type { marks: s.marks, form: Form::Unit };
+    let own = types::compare(groups, &first(s), &first(t));
+    match (s.sides(), t.sides()) {
+        _ if s.kind() != t.kind() => Comparison::Neither,
+        (Some((a, b)), Some((c, d))) => {
+            let (a, c) = if s.kind() == 3 { (c, a) } else { (a, c) };
+            own.min(least(groups, a, c)).min(least(groups, b, d))
+        }
+        _ => own,
+    }
+}
+
+#[test]
+fn comparison_of_types_in_one_table() {
+    let tally = [(); 3].map(|_| Cell::new(0));
+    let (above, mixed) = (Cell::new(0), Cell::new(0));
+    let enough = examples(1500, |rng| {
+        let world = World::random(rng);
+        let groups = groups_of(&world);
+        let size = 1 + 2 * rng.below(8);
+        let s = random_type(rng, groups, size);
+        // Equal ones too, at indexes of their own; half of them within two functions.
+        let t = if rng.one_in(3) { s.clone() } else { random_variant(rng, groups, &s) };
+        let (s, t) = if rng.one_in(2) {
+            let result = random_type(rng, groups, 1);
+            let other = random_variant(rng, groups, &result);
+            let marks = s.marks;
+            let function = |left: Type, right: Type| Type {
+                marks,
+                form: Form::Function(Rc::new(left), Rc::new(right)),
+            };
+            (function(s, result), function(t, other))
+        } else {
+            (s, t)
+        };
+        let table = [s.write(), t.write()].concat();
+        let (i, j) = (0, s.size() as u64);
+        let answer = compare(&world.groups, &table, i, j).expect("a table of two types");
+        let back = compare(&world.groups, &table, j, i).expect("a table of two types");
+        assert_eq!(compare(&world.groups, &table, i, i), Ok(Comparison::Same));
+        assert_eq!(answer == Comparison::Same, table[..s.size() * 4] == table[s.size() * 4..]);
+        assert_eq!(answer != Comparison::Neither, types::at_or_below(groups, &s, &t));
+        assert_eq!(answer == Comparison::Same, answer.min(back) != Comparison::Neither);
+        assert_eq!(answer, least(groups, &s, &t));
+        tally[answer as usize].set(tally[answer as usize].get() + 1);
+        if (answer, back) == (Comparison::Neither, Comparison::Below) {
+            above.set(above.get() + 1);
+        }
+        // A function whose left and right sides are related, but not the same way round.
+        if let (Form::Function(a, b), Form::Function(c, d)) = (&s.form, &t.form) {
+            let left = types::compare(groups, a, c);
+            let right = types::compare(groups, b, d);
+            if left == Comparison::Below && right == Comparison::Below {
+                assert_eq!(answer, Comparison::Neither);
+                mixed.set(mixed.get() + 1);
+            }
+        }
+        // No index past the table passes, however wide.
+        for past in [table.len() as u64 / 4, 256, 65_536, 1 << 32, (1 << 32) + i, u64::MAX] {
+            assert_eq!(compare(&world.groups, &table, past, j), no(25, 0));
+            assert_eq!(compare(&world.groups, &table, i, past), no(25, 1));
+        }
+    });
+    let all = tally.iter().chain([&above, &mixed]).all(|count| count.get() > 0);
+    assert!(!enough || all, "every answer was drawn, above and mixed sides too");
 }
 
 #[test]

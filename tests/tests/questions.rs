@@ -8,7 +8,7 @@ use wigneld_tests::cases::{self, record, Inputs};
 use wigneld_tests::generate::*;
 use wigneld_tests::limits::*;
 use wigneld_tests::script::{operand_count, Side, Term, OPERANDS};
-use wigneld_tests::types::Marks;
+use wigneld_tests::types::{Comparison, Marks};
 
 use std::rc::Rc;
 
@@ -105,7 +105,7 @@ fn question_1_work_and_answer_buffer() {
 fn groups_refused(groups: &[u8], question: u32, place: u32) {
     assert_eq!(groups_check(groups), no(question, place));
     assert_eq!(types_check(groups, &[]), no(question, place));
-    assert_eq!(at_or_below(groups, &[], 0, 0), no(question, place));
+    assert_eq!(compare(groups, &[], 0, 0), no(question, place));
     refused_by_all(
         &Inputs { groups: groups.to_vec(), types: vec![], script: vec![] },
         question,
@@ -200,7 +200,7 @@ fn question_7_row_0() {
 fn types_refused(types: &[u8], question: u32, place: u32) {
     let groups = diamond_groups();
     assert_eq!(types_check(&groups, types), no(question, place));
-    assert_eq!(at_or_below(&groups, types, u64::MAX, u64::MAX), no(question, place));
+    assert_eq!(compare(&groups, types, u64::MAX, u64::MAX), no(question, place));
     refused_by_all(&Inputs { groups, types: types.to_vec(), script: vec![] }, question, place);
 }
 
@@ -654,8 +654,8 @@ fn question_22_parameters_are_compared_the_other_way_round() {
     // Types: 0 function from unit (0,0) to unit; 3 function from unit (3,3) to unit.
     let types = [[3, 0, 0, 0], [0; 4], [0; 4], [3, 0, 0, 0], [0, 3, 3, 0], [0; 4]].concat();
     let groups = diamond_groups();
-    assert_eq!(at_or_below(&groups, &types, 3, 0), Ok(true));
-    assert_eq!(at_or_below(&groups, &types, 0, 3), Ok(false));
+    assert_eq!(compare(&groups, &types, 3, 0), Ok(Comparison::Below));
+    assert_eq!(compare(&groups, &types, 0, 3), Ok(Comparison::Neither));
     // Two functions deep the order turns back.
     let deeper = [
         vec![3, 0, 0, 0],
@@ -666,8 +666,8 @@ fn question_22_parameters_are_compared_the_other_way_round() {
         vec![0; 4],
     ]
     .concat();
-    assert_eq!(at_or_below(&groups, &deeper, 0, 5), Ok(true));
-    assert_eq!(at_or_below(&groups, &deeper, 5, 0), Ok(false));
+    assert_eq!(compare(&groups, &deeper, 0, 5), Ok(Comparison::Below));
+    assert_eq!(compare(&groups, &deeper, 5, 0), Ok(Comparison::Neither));
 }
 
 #[test]
@@ -764,13 +764,13 @@ fn question_25_indexes() {
     let (groups, types) = (diamond_groups(), some_types());
     let count = TYPE_COUNT as u64;
     for past in [count, count + 1, 256, 65_536, 1 << 32, (1 << 32) + 3, u64::MAX] {
-        assert_eq!(at_or_below(&groups, &types, past, 0), no(25, 0));
-        assert_eq!(at_or_below(&groups, &types, 0, past), no(25, 1));
-        assert_eq!(at_or_below(&groups, &types, past, past), no(25, 0));
+        assert_eq!(compare(&groups, &types, past, 0), no(25, 0));
+        assert_eq!(compare(&groups, &types, 0, past), no(25, 1));
+        assert_eq!(compare(&groups, &types, past, past), no(25, 0));
     }
-    assert_eq!(at_or_below(&groups, &types, count - 1, count - 1), Ok(true));
-    assert_eq!(at_or_below(&groups, &types, 1, 9), Ok(true));
-    assert_eq!(at_or_below(&groups, &types, 9, 1), Ok(false));
+    assert_eq!(compare(&groups, &types, count - 1, count - 1), Ok(Comparison::Same));
+    assert_eq!(compare(&groups, &types, 1, 9), Ok(Comparison::Below));
+    assert_eq!(compare(&groups, &types, 9, 1), Ok(Comparison::Neither));
 }
 
 #[test]

@@ -12,6 +12,7 @@ use Rattle.calculus.specs.Subtyping as directions
 pub data Comparison : Type 0 where
   same below neither : Comparison
 
+-- r and ir: with the kind they are all that a record says
 abbrev pub equal-properties : Property → Property → Bool
 equal-properties k l = eqb (k .r) (l .r) && eqb (k .ir) (l .ir)
 

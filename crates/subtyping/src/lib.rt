@@ -46,8 +46,8 @@ fn throughout(first: bool, left: bool, right: bool) -> bool
     first && (left && right)
 }
 
-// Is the type of `lower` at or below that of `upper`? A function's left sides are walked the other way round. Related types have
-// as many records, so what the walk of the left sides counts says where both right sides start.
+// Is the type of `lower` at or below that of `upper`, and is it the same? A function's left sides are walked the other way round.
+// Related types have as many records, so what the walk of the left sides counts says where both right sides start.
 pub fn at_or_below(groups: &[u8], lower: &[u8], upper: &[u8]) -> Compared
     requires { ⌜ Starts (now lower) × Starts (now upper) ⌝ }
     ensures { λ a. ⌜ ((s t : Ty) → Held (now (lower .entry)) s → Held (now (upper .entry)) t
@@ -80,7 +80,7 @@ pub fn at_or_below(groups: &[u8], lower: &[u8], upper: &[u8]) -> Compared
     Compared::Related(throughout(first, left_same, right_same), 1 + (n + m))
 }
 
-// Is the type of `upper` at or above that of `lower`?
+// Is the type of `upper` at or above that of `lower`, and is it the same?
 pub fn at_or_above(groups: &[u8], upper: &[u8], lower: &[u8]) -> Compared
     requires { ⌜ Starts (now upper) × Starts (now lower) ⌝ }
     ensures { λ a. ⌜ ((s t : Ty) → Held (now (upper .entry)) s → Held (now (lower .entry)) t

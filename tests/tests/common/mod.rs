@@ -11,6 +11,7 @@ use wigneld_tests::calls::{self, RunReport, StepReport};
 use wigneld_tests::cases::Inputs;
 use wigneld_tests::limits::{ANSWER_BYTES, REPORT_RUN_BYTES, WORK_BYTES};
 use wigneld_tests::refusal::{Answer, Refusal};
+use wigneld_tests::types::Comparison;
 
 /// A refusal, as it is expected.
 pub fn no<T>(question: u32, place: u32) -> Answer<T> {
@@ -39,10 +40,10 @@ pub fn types_check(groups: &[u8], types: &[u8]) -> Answer<()> {
     answer
 }
 
-pub fn at_or_below(groups: &[u8], types: &[u8], i: u64, j: u64) -> Answer<bool> {
-    let answer = calls::at_or_below(groups, types, i, j);
+pub fn compare(groups: &[u8], types: &[u8], i: u64, j: u64) -> Answer<Comparison> {
+    let answer = calls::compare(groups, types, i, j);
     #[cfg(feature = "engine")]
-    compared::at_or_below(groups, types, i, j, &answer);
+    compared::compare(groups, types, i, j, &answer);
     answer
 }
 
@@ -214,7 +215,7 @@ pub fn sheet_in(inputs: &Inputs, group: u64, length: usize) -> (Answer<u32>, Vec
 mod compared {
     use super::*;
     use wigneld_tests::engine::{
-        self, packed_bool, packed_count, packed_nothing, packed_run, packed_step,
+        self, packed_comparison, packed_count, packed_nothing, packed_run, packed_step,
     };
 
     const GUARD: usize = 61;
@@ -308,10 +309,10 @@ mod compared {
         same(two.take("types"), types, "types are only read");
     }
 
-    pub fn at_or_below(groups: &[u8], types: &[u8], i: u64, j: u64, expected: &Answer<bool>) {
+    pub fn compare(groups: &[u8], types: &[u8], i: u64, j: u64, expected: &Answer<Comparison>) {
         let (mut one, mut two) = (Guarded::new(groups), Guarded::new(types));
-        let found = engine::at_or_below(one.lend(), two.lend(), i, j);
-        answers(found, packed_bool(expected), "at or below");
+        let found = engine::compare(one.lend(), two.lend(), i, j);
+        answers(found, packed_comparison(expected), "comparison");
         same(one.take("groups"), groups, "groups are only read");
         same(two.take("types"), types, "types are only read");
     }
