@@ -21,3 +21,4 @@ pub mod RunTerms
 pub mod ThirdDemand
 pub mod Demands
 pub mod Comparison
+pub mod Closed

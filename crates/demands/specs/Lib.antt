@@ -2,3 +2,4 @@ pub mod Questions
 pub mod Runs
 pub mod Demands
 pub mod Comparison
+pub mod Closed

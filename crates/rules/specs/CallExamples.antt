@@ -113,15 +113,17 @@ pub record CallExamples : Type 0 where
   -- stripping, with a last record that is cut short
   pub stripped-script : strip-script (4 ∷ 1 ∷ 1 ∷ 7 ∷ 3 ∷ 2 ∷ 1 ∷ 1 ∷ []) ≡ 4 ∷ 0 ∷ 0 ∷ 7 ∷ 3 ∷ 2 ∷ 1 ∷ 0 ∷ []
   pub stripped-types : strip-types (3 ∷ 1 ∷ 1 ∷ 7 ∷ 2 ∷ 1 ∷ []) ≡ 3 ∷ 0 ∷ 0 ∷ 7 ∷ 2 ∷ 0 ∷ []
-  -- the sheet: a closed object's parts are judged by their own r; a function's body isn't shown; 25 to 27
-  pub closed-then-parts : sheeting groups types (pair 1 1 ++ unit 0 0 ++ unit 1 0) 0 12 ≡ accepted (ty 5 0 0 ++ ty 0 0 0 ++ ty 5 0 0)
+  -- the sheet: a closed object stands for its parts; neither they nor a function's body are shown; 25 to 27
+  pub closed-with-parts : sheeting groups types (pair 1 1 ++ unit 0 0 ++ unit 1 0) 0 4 ≡ accepted (ty 5 0 0)
+  pub closed-inside : sheeting groups types (pair 0 0 ++ pair 1 1 ++ unit 0 0 ++ unit 0 0 ++ unit 0 0) 0 12 ≡ accepted (ty 3 0 0 ++ ty 5 0 0 ++ ty 0 0 0)
   pub open-to-1 : sheeting groups types (pair 1 1 ++ unit 0 0 ++ unit 1 0) 1 12 ≡ accepted (ty 3 1 1 ++ ty 0 0 0 ++ ty 0 1 0)
   pub body-not-shown : sheeting groups types (script-record 5 0 0 0 ++ script-record 2 0 0 4 ++ unit 0 0) 0 8 ≡ accepted (ty 2 0 0 ++ ty 4 0 0)
   pub wide-group : sheeting groups types (unit 0 0) 256 4 ≡ refused 25 0
   pub no-value : sheeting groups types (protect 0 ++ unit 0 0) 0 8 ≡ refused 26 0
+  pub no-value-inside : sheeting groups types (pair 1 1 ++ unit 0 0 ++ protect 0 ++ unit 0 0) 0 16 ≡ refused 26 0
   pub short-sheet : sheeting groups types (unit 0 0) 0 3 ≡ refused 27 0
   -- its count of records; later bytes are kept, and all on a refusal
-  pub sheet-counted : sheet-records (sheeting groups types (pair 1 1 ++ unit 0 0 ++ unit 1 0) 0 12) ≡ accepted 3
+  pub sheet-counted : sheet-records (sheeting groups types (pair 0 0 ++ unit 0 0 ++ unit 1 0) 0 12) ≡ accepted 3
   pub sheet-uncounted : sheet-records (sheeting groups types (unit 0 0) 0 3) ≡ refused 27 0
   pub sheet-kept : sheet-after (sheeting groups types (unit 1 0) 1 5) (9 ∷ 9 ∷ 9 ∷ 9 ∷ 9 ∷ []) ≡ ty 0 1 0 ++ (9 ∷ [])
   pub sheet-unchanged : sheet-after (sheeting groups types (unit 0 0) 0 3) (9 ∷ 9 ∷ 9 ∷ []) ≡ 9 ∷ 9 ∷ 9 ∷ []
@@ -138,7 +140,7 @@ pub record CallExamples : Type 0 where
   pub word-5 : printed.word 5 ≡ text "closed"
   pub no-word : printed.word 6 ≡ []
   -- the sheet only at end 0
-  pub value-printed : printed-run 2 49152 (case-term 1 1 1) ≡ text "end 0 steps 2 records 2\nclosed 0 0\nunit 0 0\n"
+  pub value-printed : printed-run 2 49152 (case-term 1 1 1) ≡ text "end 0 steps 2 records 2\nclosed 0 0\n"
   pub spent-printed : printed-run 1 49152 (case-term 1 1 1) ≡ text "end 1 steps 1 records 3\n"
   pub may-not-printed : printed-run 9 49152 (case-term 1 1 0) ≡ text "end 2 steps 0 records 7\n"
   pub too-big-printed : printed-run 9 72 (loop 0) ≡ text "end 4 steps 0 records 7\n"

@@ -71,7 +71,7 @@ pub record Cases : Type 0 where
   pub B-type : check types (case-term 1 1 1) ≡ accepted (ty 1 1 1 ++ ty 0 0 0 ++ ty 0 0 0)
   pub B-run : ran 1000 49152 (case-term 1 1 1) ≡ ends 0 2 2
   pub B-report : report groups types (case-term 1 1 1)
-      ≡ text "accepted 3\n" ++ text "end 0 steps 2 records 2\n" ++ text "closed 0 0\n" ++ text "unit 0 0\n"
+      ≡ text "accepted 3\n" ++ text "end 0 steps 2 records 2\n" ++ text "closed 0 0\n"
   pub C-type : check types (case-term 1 0 1) ≡ accepted (ty 1 0 0 ++ ty 0 0 0 ++ ty 0 0 0)
   pub C-run : ran 1000 49152 (case-term 1 0 1) ≡ ends 0 2 2
   pub D : check types (case-term 0 1 0) ≡ refused 15 1
