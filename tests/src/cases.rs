@@ -126,7 +126,7 @@ pub fn l() -> Inputs {
 }
 
 /// B's tables with a value that shows every word to group 0: ((first unit, second unit), (function,
-/// closed unit)), the last pair closed too.
+/// closed unit)).
 pub fn every_word() -> Inputs {
     let script = [
         record(3, 0, 0, 0),
@@ -135,7 +135,7 @@ pub fn every_word() -> Inputs {
         record(1, 0, 0, 0),
         record(5, 0, 0, 0),
         record(1, 0, 0, 0),
-        record(3, 1, 0, 0),
+        record(3, 0, 0, 0),
         record(2, 0, 0, 4),
         record(0, 0, 0, 0),
         record(1, 1, 1, 0),

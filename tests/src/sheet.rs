@@ -1,4 +1,4 @@
-//! Sheet: what a reader group may see of a value.
+//! Sheet: what a reader group may see of a value. Document 01, and item 5 of document 02.
 
 use crate::groups::{Group, Groups};
 use crate::limits::SHEET_BYTES;
@@ -21,10 +21,11 @@ pub fn sheet_of(groups: &Groups, value: &Term, g: Group) -> Vec<[u8; SHEET_BYTES
         Term::Function(marks, _, _) => (4, marks, vec![]),
         _ => panic!("question 26: a value"),
     };
-    // "An object with r ⋢ g is written closed with groups 0, then its parts, each judged by its own r."
-    let own =
-        if groups.below(marks.r, g) { [kind, marks.r, marks.ir, 0] } else { [CLOSED, 0, 0, 0] };
-    let mut records = vec![own];
+    // "An object with r ⋢ g is written closed with groups 0." "A closed record now stands for its object and every part of it."
+    if !groups.below(marks.r, g) {
+        return vec![[CLOSED, 0, 0, 0]];
+    }
+    let mut records = vec![[kind, marks.r, marks.ir, 0]];
     for part in parts {
         records.extend(sheet_of(groups, part, g));
     }

@@ -597,6 +597,53 @@ fn a_stripped_script_keeps_its_shape() {
 // ---------------------------------------------------------------------------------------------
 // Sheets
 
+/// The sheet of a value for a group, in a buffer with some bytes more, which are kept.
+fn whole_sheet(world: &World, value: &Term, group: Group) -> Vec<u8> {
+    let inputs = inputs_of(world, value);
+    let (count, bytes) = sheet_in(&inputs, group.into(), inputs.script.len() + 4);
+    let length = count.expect("a value that fits") as usize * SHEET_BYTES;
+    assert_eq!(bytes[length..], filled(inputs.script.len() + 4)[length..]);
+    bytes[..length].to_vec()
+}
+
+/// How many parts a sheet record is followed by.
+fn parts_of(record: &[u8]) -> usize {
+    match record[0] {
+        1 | 2 => 1,
+        3 => 2,
+        _ => 0,
+    }
+}
+
+/// The records of the object that a sheet starts with, and what follows them.
+fn object(sheet: &[u8]) -> (&[u8], &[u8]) {
+    let (mut pending, mut at) = (1, 0);
+    while pending > 0 {
+        pending = pending - 1 + parts_of(&sheet[at..at + SHEET_BYTES]);
+        at += SHEET_BYTES;
+    }
+    sheet.split_at(at)
+}
+
+/// Is `low` the sheet `full` with the objects that group g may not read closed, and nothing else?
+fn is_closed_to(groups: &Groups, g: Group, mut low: &[u8], mut full: &[u8]) -> bool {
+    while !full.is_empty() && !low.is_empty() {
+        if groups.below(full[1], g) {
+            if low[..SHEET_BYTES] != full[..SHEET_BYTES] {
+                return false;
+            }
+            full = &full[SHEET_BYTES..];
+        } else {
+            if low[..SHEET_BYTES] != [CLOSED, 0, 0, 0] {
+                return false;
+            }
+            full = object(full).1;
+        }
+        low = &low[SHEET_BYTES..];
+    }
+    full.is_empty() && low.is_empty()
+}
+
 #[test]
 fn sheets_show_more_to_higher_groups() {
     examples(800, |rng| {
@@ -604,26 +651,80 @@ fn sheets_show_more_to_higher_groups() {
         let groups = groups_of(&world);
         let fuel = rng.below(40);
         let value = untyped_value(rng, &world.tables, fuel);
-        let inputs = inputs_of(&world, &value);
-        let sheet = |group: Group| {
-            let (count, bytes) = sheet_in(&inputs, group.into(), inputs.script.len() + 4);
-            let length = count.expect("a value that fits") as usize * SHEET_BYTES;
-            assert_eq!(bytes[length..], filled(inputs.script.len() + 4)[length..]);
-            bytes[..length].to_vec()
-        };
-        let top = sheet((groups.count() - 1) as Group);
-        let (g, h) = (any_group(rng, groups), any_group(rng, groups));
-        let (low, high) = (sheet(g), sheet(groups.join(g, h)));
+        let top = whole_sheet(&world, &value, (groups.count() - 1) as Group);
         assert!(top.chunks(4).all(|record| record[0] != CLOSED), "the top reads everything");
-        assert_eq!((low.len(), high.len()), (top.len(), top.len()));
-        for ((low, high), full) in low.chunks(4).zip(high.chunks(4)).zip(top.chunks(4)) {
-            let readable = groups.below(full[1], g);
-            assert_eq!(low, if readable { full } else { &[CLOSED, 0, 0, 0] });
-            if readable {
-                assert_eq!(high, full, "what g reads, a higher group reads");
+        let (g, h) = (any_group(rng, groups), any_group(rng, groups));
+        let (low, high) =
+            (whole_sheet(&world, &value, g), whole_sheet(&world, &value, groups.join(g, h)));
+        assert!(is_closed_to(groups, g, &low, &top), "closed to g, with all parts, and no other");
+        assert!(low.len() <= high.len(), "what g reads, a higher group reads");
+    });
+}
+
+/// The groups of a value's outermost object.
+fn own_marks(value: &Term) -> Marks {
+    match value {
+        Term::Unit(marks)
+        | Term::Function(marks, _, _)
+        | Term::Pair(marks, _, _)
+        | Term::Injection(_, marks, _, _) => *marks,
+        _ => panic!("a value"),
+    }
+}
+
+/// The value with what stands inside objects that group g may not read drawn anew, kind, groups and
+/// size too, and the bodies of open functions.
+fn redrawn_inside(rng: &mut Rng, world: &World, value: &Term, g: Group) -> Rc<Term> {
+    let closed = |value: &Term| !groups_of(world).below(own_marks(value).r, g);
+    if closed(value) {
+        // Another value that is closed too; a unit where none is drawn.
+        for _ in 0..20 {
+            let fuel = rng.below(12);
+            let other = untyped_value(rng, &world.tables, fuel);
+            if closed(&other) {
+                return other;
             }
         }
+        return Rc::new(Term::Unit(own_marks(value)));
+    }
+    Rc::new(match value {
+        Term::Unit(marks) => Term::Unit(*marks),
+        Term::Function(marks, parameter, _) => {
+            Term::Function(*marks, *parameter, untyped_value(rng, &world.tables, 3))
+        }
+        Term::Pair(marks, a, b) => {
+            let a = redrawn_inside(rng, world, a, g);
+            Term::Pair(*marks, a, redrawn_inside(rng, world, b, g))
+        }
+        Term::Injection(side, marks, sum, a) => {
+            Term::Injection(*side, *marks, *sum, redrawn_inside(rng, world, a, g))
+        }
+        _ => panic!("a value"),
+    })
+}
+
+#[test]
+fn what_is_closed_in_both_leaves_no_trace() {
+    let (mut differed, mut longer) = (0, 0);
+    let enough = examples(1500, |rng| {
+        let world = World::random(rng);
+        let groups = groups_of(&world);
+        let fuel = rng.below(40);
+        let value = untyped_value(rng, &world.tables, fuel);
+        let g = any_group(rng, groups);
+        let other = redrawn_inside(rng, &world, &value, g);
+        assert_eq!(whole_sheet(&world, &value, g), whole_sheet(&world, &other, g));
+        // Answers are equal in every room, too short ones too.
+        let room = rng.below(inputs_of(&world, &value).script.len() + 8);
+        let (one, two) = (
+            sheet_in(&inputs_of(&world, &value), g.into(), room),
+            sheet_in(&inputs_of(&world, &other), g.into(), room),
+        );
+        assert_eq!(one, two);
+        differed += (value != other) as u32;
+        longer += (value.write().len() != other.write().len()) as u32;
     });
+    assert!(!enough || differed > 0 && longer > 0, "values that differ were drawn");
 }
 
 #[test]

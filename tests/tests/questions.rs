@@ -850,21 +850,39 @@ fn question_27_the_answer_fits() {
 }
 
 #[test]
-fn sheets_close_each_object_by_its_own_readers() {
+fn sheets_close_objects_with_their_parts() {
     // A pair (1,0) of a second (2,2) of unit (0,0), and a function (3,1), seen by each group.
     let inputs =
         of(&[record(3, 1, 0, 0), record(5, 2, 2, 0), UNIT, record(2, 3, 1, 0), variable(0)]);
     let closed = [5, 0, 0, 0];
     let (pair, second, unit, function) = ([3, 1, 0, 0], [2, 2, 2, 0], [0; 4], [4, 3, 1, 0]);
     for (group, expected) in [
-        (0, [closed, closed, unit, closed]),
-        (1, [pair, closed, unit, closed]),
-        (2, [closed, second, unit, closed]),
-        (3, [pair, second, unit, function]),
+        (0, vec![closed]),
+        (1, vec![pair, closed, closed]),
+        (2, vec![closed]),
+        (3, vec![pair, second, unit, function]),
     ] {
-        let (answer, sheet) = sheet_in(&inputs, group, 16);
-        assert_eq!(answer, Ok(4));
+        // 27 asks for the shorter sheet.
+        let length = 4 * expected.len();
+        let (answer, sheet) = sheet_in(&inputs, group, length);
+        assert_eq!(answer, Ok(expected.len() as u32));
         assert_eq!(sheet, expected.concat());
+        let (answer, sheet) = sheet_in(&inputs, group, length - 1);
+        assert_eq!(answer, no(27, 0));
+        assert_eq!(sheet, filled(length - 1));
+    }
+}
+
+#[test]
+fn question_26_is_asked_inside_closed_objects() {
+    // A pair and an injection, closed to group 0, with a protect inside: no value, whatever is seen.
+    let protect = record(10, 0, 0, 0);
+    for inside in
+        [&[record(3, 1, 1, 0), UNIT, protect, UNIT][..], &[record(4, 1, 1, 0), protect, UNIT]]
+    {
+        let (answer, sheet) = sheet_in(&of(inside), 0, 40);
+        assert_eq!(answer, no(26, 0));
+        assert_eq!(sheet, filled(40));
     }
 }
 
