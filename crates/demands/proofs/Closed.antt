@@ -9,7 +9,7 @@ use Rattle.calculus.specs.Terms.{Side, first, second, choose, Term, var, unit, 
 use Rattle.rules.specs.Answer.{Bytes, accepted}
 use Rattle.rules.specs.Groups.{leq}
 use Rattle.rules.specs.Script.{term}
-use Rattle.rules.specs.Sheet.{shown, sheet}
+use Rattle.rules.specs.Sheet.{sheet-record, shown-parts, sheet}
 use Rattle.rules.specs.Calls.{script-check, sheeting}
 use Rattle.demands.specs.Closed.{Closed, closed-unit, closed-function, closed-pair, closed-injection, AlikeOutside, closed-in-both, units, functions, pairs, injections, ClosedCloses, ClosedObjectsClose}
 
@@ -27,8 +27,10 @@ module _ (g : Bytes) (group : ℕ) where
   alike-sheets (closed-in-both h h′) = closed-sheet h ∙ sym (closed-sheet h′)
   alike-sheets units = refl
   alike-sheets functions = refl
-  alike-sheets (pairs {k} h h′) = ap (shown g group 3 k) (ap₂ _++_ (alike-sheets h) (alike-sheets h′))
-  alike-sheets (injections {d} {k} h) = ap (shown g group (choose d 1 2) k) (alike-sheets h)
+  alike-sheets (pairs {k} h h′) =
+      ap (λ (parts : Bytes). sheet-record g group 3 k ++ shown-parts g group k parts) (ap₂ _++_ (alike-sheets h) (alike-sheets h′))
+  alike-sheets (injections {d} {k} h) =
+      ap (λ (parts : Bytes). sheet-record g group (choose d 1 2) k ++ shown-parts g group k parts) (alike-sheets h)
 
   -- a value as a sheet sees it
   data View : Term → Type 0 where

@@ -8,17 +8,21 @@ use Rattle.rules.specs.Answer.{Bytes}
 use Rattle.rules.specs.Groups.{leq}
 
 -- "4-byte records: kind, r, ir, 0. Kinds 0 unit, 1 first, 2 second, 3 pair, 4 function (body not shown), 5 closed."
--- "An object with r ⋢ g is written closed with groups 0", and "a closed record now stands for its object and every part of it".
-abbrev pub shown : Bytes → ℕ → ℕ → Property → Bytes → Bytes
-shown t g kind k parts = cond (leq t (k .r) g) ((kind ∷ k .r ∷ k .ir ∷ 0 ∷ []) ++ parts) (5 ∷ 0 ∷ 0 ∷ 0 ∷ [])
+-- "An object with r ⋢ g is written closed with groups 0."
+abbrev pub sheet-record : Bytes → ℕ → ℕ → Property → Bytes
+sheet-record t g kind k = cond (leq t (k .r) g) (kind ∷ k .r ∷ k .ir ∷ 0 ∷ []) (5 ∷ 0 ∷ 0 ∷ 0 ∷ [])
 
--- The sheet of a value for reader group g, in script order: an object and, unless it is closed, its parts.
+-- "A closed record now stands for its object and every part of it": parts follow an object that isn't closed.
+abbrev pub shown-parts : Bytes → ℕ → Property → Bytes → Bytes
+shown-parts t g k parts = cond (leq t (k .r) g) parts []
+
+-- the sheet of a value for reader group g, in script order
 unfoldable pub sheet : Bytes → ℕ → Term → Bytes
 sheet t g (var n) = []
-sheet t g (unit k) = shown t g 0 k []
-sheet t g (lam k i e) = shown t g 4 k []
-sheet t g (pair k a b) = shown t g 3 k (sheet t g a ++ sheet t g b)
-sheet t g (inj d k i e) = shown t g (choose d 1 2) k (sheet t g e)
+sheet t g (unit k) = sheet-record t g 0 k
+sheet t g (lam k i e) = sheet-record t g 4 k
+sheet t g (pair k a b) = sheet-record t g 3 k ++ shown-parts t g k (sheet t g a ++ sheet t g b)
+sheet t g (inj d k i e) = sheet-record t g (choose d 1 2) k ++ shown-parts t g k (sheet t g e)
 sheet t g (app w f a) = []
 sheet t g (proj d w e) = []
 sheet t g (case w i e a b) = []
