@@ -20,7 +20,7 @@ use Rattle.rules.specs.Script.{size}
 use Rattle.rules.specs.Typing.{left, right, q20, q21, q22, q23, q24, typing}
 use Rattle.rules.specs.Step.{End, at-value, moves, may-not, wrong-kind, too-big, exceeds, limited, step-in}
 use Rattle.rules.specs.Run.{Ran, run}
-use Rattle.rules.specs.Sheet.{sheet, sheet-record}
+use Rattle.rules.specs.Sheet.{sheet}
 
 -- ---- found types
 
@@ -186,23 +186,25 @@ module _ (S : Security) (tab : ℕ → Ty) (room : ℕ) where
 
 -- ---- sheets
 
-record-length : (t : Bytes) (g kind : ℕ) (k : Property) → length (sheet-record t g kind k) ≡ sheet-width
-record-length t g kind k = go (leq t (k .r) g)
-  where
-    go : (b : Bool) → length (cond b (kind ∷ k .r ∷ k .ir ∷ 0 ∷ []) (5 ∷ 0 ∷ 0 ∷ 0 ∷ [])) ≡ sheet-width
-    go true = refl
-    go false = refl
+-- an object's record, alone or with the sheets of its parts behind it
+own-record : (told : Bool) (kind r ir : ℕ) → length (cond told (kind ∷ r ∷ ir ∷ 0 ∷ []) (5 ∷ 0 ∷ 0 ∷ 0 ∷ [])) ≤ sheet-width
+own-record true kind r ir = omega arith
+own-record false kind r ir = omega arith
+
+with-parts : (told : Bool) (kind r ir : ℕ) (parts : Bytes) (n : ℕ) → length parts ≤ sheet-width * n
+    → length (cond told (kind ∷ r ∷ ir ∷ 0 ∷ []) (5 ∷ 0 ∷ 0 ∷ 0 ∷ []) ++ cond told parts []) ≤ sheet-width * (1 + n)
+with-parts true kind r ir parts n l = omega (arith, l)
+with-parts false kind r ir parts n l = omega arith
 
 pub sheet-length : (t : Bytes) (g : ℕ) (e : Term) → length (sheet t g e) ≤ sheet-width * size e
 unfolding sheet size
 sheet-length t g (var n) = omega arith
-sheet-length t g (unit k) = omega (arith, record-length t g 0 k)
-sheet-length t g (lam k i e) = omega (arith, record-length t g 4 k)
+sheet-length t g (unit k) = own-record (leq t (k .r) g) 0 (k .r) (k .ir)
+sheet-length t g (lam k i e) = omega (arith, own-record (leq t (k .r) g) 4 (k .r) (k .ir))
 sheet-length t g (pair k a b) =
-    omega
-    (arith, record-length t g 3 k, length-append (sheet-record t g 3 k) (sheet t g a ++ sheet t g b), length-append (sheet t g a) (sheet t g b), sheet-length t g a, sheet-length t g b)
-sheet-length t g (inj d k i e) =
-    omega (arith, record-length t g (choose d 1 2) k, length-append (sheet-record t g (choose d 1 2) k) (sheet t g e), sheet-length t g e)
+    with-parts (leq t (k .r) g) 3 (k .r) (k .ir) (sheet t g a ++ sheet t g b) (size a + size b)
+    (omega (arith, length-append (sheet t g a) (sheet t g b), sheet-length t g a, sheet-length t g b))
+sheet-length t g (inj d k i e) = with-parts (leq t (k .r) g) (choose d 1 2) (k .r) (k .ir) (sheet t g e) (size e) (sheet-length t g e)
 sheet-length t g (app w f a) = omega arith
 sheet-length t g (proj d w e) = omega arith
 sheet-length t g (case w i e a b) = omega arith

@@ -87,11 +87,11 @@ module _ (g t s : Bytes) (group : ℕ) (old : Bytes) where
     pub no-value : is-value (term s) ≡ false → Paged call old (the.Refused 26 0) old
     no-value v = no-sheet call old 26 0 (after-25 ∙ rw v)
 
-    pub no-room : is-value (term s) ≡ true → length old < sheet-width * lines (term s) → Paged call old (the.Refused 27 0) old
+    pub no-room : is-value (term s) ≡ true → length old < sheet-width * lines g group (term s) → Paged call old (the.Refused 27 0) old
     no-room v l =
         no-sheet call old 27 0 (after-25 ∙ rw (v, lt-leb (length (sheet g group (term s))) (length old) (omega (arith, sheet-length g group (term s)))))
 
-    pub written : is-value (term s) ≡ true → sheet-width * lines (term s) ≤ length old → (n : ℕ) → n ≡ lines (term s) → (new : Bytes)
+    pub written : is-value (term s) ≡ true → sheet-width * lines g group (term s) ≤ length old → (n : ℕ) → n ≡ lines g group (term s) → (new : Bytes)
         → new ≡ splice 0 (sheet g group (term s)) old → Paged call old (the.Written n) new
     written v l n h new e =
         the-sheet call (sheet g group (term s)) old new n

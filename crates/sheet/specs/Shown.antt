@@ -1,11 +1,11 @@
 -- An object's record on the sheet, from its record in the script.
-use mathlib.Core.Bool.{cond}
+use mathlib.Core.Bool.{Bool, cond}
 use mathlib.Core.List.{[], _∷_}
 use Prim.Native.Nat.{ℕ}
 use lib.Dec.{eqb}
 use Rattle.rules.specs.Answer.{Bytes}
+use Rattle.rules.specs.Groups.{leq}
 use Rattle.rules.specs.Script.{kind, r, ir}
-use Rattle.rules.specs.Sheet.{sheet-record}
 use Rattle.records.specs.Kinds as kinds
 use Rattle.sheet.specs.declared.Line.{Line}
 
@@ -15,10 +15,14 @@ shown-kind kind =
     cond (eqb kind kinds.function) 4
     (cond (eqb kind kinds.pair) 3 (cond (eqb kind kinds.first-injection) 1 (cond (eqb kind kinds.second-injection) 2 0)))
 
--- the object at record i, for a reader group
-unfoldable pub shown : Bytes → ℕ → Bytes → ℕ → Bytes
+-- the line of the object at record i, told or closed
+unfoldable pub line : Bool → Bytes → ℕ → Bytes
 unfolding shown-kind
-shown groups group s i = sheet-record groups group (shown-kind (kind s i)) (record { r = r s i; ir = ir s i })
+line told s i = cond told (shown-kind (kind s i) ∷ r s i ∷ ir s i ∷ 0 ∷ []) (5 ∷ 0 ∷ 0 ∷ 0 ∷ [])
+
+-- and for a reader group
+abbrev pub shown : Bytes → ℕ → Bytes → ℕ → Bytes
+shown groups group s i = line (leq groups (r s i) group) s i
 
 abbrev pub bytes-of : Line → Bytes
 bytes-of line = line .kind ∷ line .r .0 ∷ line .ir .0 ∷ 0 ∷ []

@@ -9,17 +9,18 @@ use records::PAIR;
 use records::SECOND_INJECTION;
 use records::UNIT;
 ghost use mathlib.Core.Path.{_≡_};
-ghost use mathlib.Core.Bool.{true};
-ghost use Prim.Native.Nat.{_*_, _/_, _≤_, _<_};
+ghost use mathlib.Core.Bool.{true, cond, _&&_};
+ghost use Prim.Native.Nat.{_+_, _*_, _/_, _^_, _≤_, _<_};
 ghost use lib.ListN.{length};
 ghost use Rattle.calculus.specs.Terms.{Term, is-value};
 ghost use Rattle.rules.specs.Limits.{sheet-width};
-ghost use Rattle.rules.specs.Script.{records, kind};
+ghost use Rattle.rules.specs.Groups.{leq};
+ghost use Rattle.rules.specs.Script.{records, kind, r, size};
 ghost use Rattle.rules.specs.Calls.{sheeting, sheet-records, sheet-after};
 ghost use Rattle.answer.specs.Said.{said};
 ghost use Rattle.records.specs.Place.{At, Here};
 ghost use Rattle.memory.specs.Splice.{splice};
-ghost use Rattle.sheet.specs.Shown.{shown-kind, shown, bytes-of};
+ghost use Rattle.sheet.specs.Shown.{shown-kind, line, bytes-of};
 ghost use Rattle.sheet.specs.Value.{looked, Room, Wrote};
 ghost use Rattle.sheet.specs.Said.{said-sheet, refused-sheet, before-26};
 
@@ -63,11 +64,43 @@ struct Reached {
     pub line: usize,
 }
 
-// Is the term at record i a value, where does it end, and how many records has the sheet by then? `count` are before it. Calls are
-// as deep as the value, which question 18 bounds.
-fn look(value: &[u8], i: usize, count: usize) -> Looked
+// Whether the object at record i is open to the group.
+fn is_open(groups: &[u8], value: &[u8], i: usize, group: Reader) -> bool
+    requires { ⌜ i < records (now value) ⌝ }
+    ensures { λ a. ⌜ a ≡ leq (now (groups .entry)) (r (now (value .entry)) i) (group .0) ⌝ }
+{
+    records::reader(value, i).at_or_below(groups, group)
+}
+
+// Whether the parts of the object at record i are shown: it is shown itself, and open.
+fn shows_parts(groups: &[u8], value: &[u8], i: usize, group: Reader, shown: bool) -> bool
+    requires { ⌜ i < records (now value) ⌝ }
+    ensures { λ a. ⌜ a ≡ (shown && leq (now (groups .entry)) (r (now (value .entry)) i) (group .0)) ⌝ }
+{
+    if shown {
+        return is_open(groups, value, i, group);
+    }
+    false
+}
+
+// The count with an object's own record, if it is shown.
+fn counted(shown: bool, count: usize) -> usize
+    requires { ⌜ count + 1 < 2 ^ 64 ⌝ }
+    ensures { λ a. ⌜ a ≡ count + cond shown 1 0 ⌝ }
+{
+    if shown {
+        return count + 1;
+    }
+    count
+}
+
+// Is the term at record i a value, where does it end, and how many records has the sheet by then? `count` are before it. All of the
+// value is looked at, but nothing inside a closed object is `shown` and counted. Calls are as deep as the value, which question 18
+// bounds.
+fn look(groups: &[u8], value: &[u8], i: usize, group: Reader, shown: bool, count: usize) -> Looked
     requires { ⌜ Here (now value) i × (count ≤ i) ⌝ }
-    ensures { λ a. ⌜ ((e : Term) → At (now (value .entry)) i e → a ≡ looked e i count) ⌝ }
+    ensures { λ a. ⌜ ((e : Term) → At (now (value .entry)) i e
+        → a ≡ looked (now (groups .entry)) (group .0) shown e i count) ⌝ }
 {
     let kind = records::kind(value, i);
     // A value's objects have kinds from UNIT to SECOND_INJECTION.
@@ -77,18 +110,20 @@ fn look(value: &[u8], i: usize, count: usize) -> Looked
     if SECOND_INJECTION < kind {
         return Looked::Other;
     }
+    let own = counted(shown, count);
     // A function's body is neither asked to be a value nor counted.
     if kind <= FUNCTION {
-        return Looked::Value(records::end_of(value, i), count + 1);
+        return Looked::Value(records::end_of(value, i), own);
     }
-    let first = look(value, i + 1, count + 1);
+    let inside = shows_parts(groups, value, i, group, shown);
+    let first = look(groups, value, i + 1, group, inside, own);
     let Looked::Value(next, so_far) = first else {
         return first;
     };
     if kind != PAIR {
         return first;
     }
-    look(value, next, so_far)
+    look(groups, value, next, group, inside, so_far)
 }
 
 // The sheet's kind for an object's kind.
@@ -104,14 +139,14 @@ fn shown_kind(kind: u8) -> u8
     }
 }
 
-// The sheet record of the object at record i: closed where r ⋢ group, and then nothing of it is told.
-fn line_of(groups: &[u8], value: &[u8], i: usize, group: Reader) -> Line
+// The sheet record of the object at record i: its kind and groups are told, or it is closed.
+fn line_of(value: &[u8], i: usize, told: bool) -> Line
     requires { ⌜ i < records (now value) ⌝ }
-    ensures { λ a. ⌜ bytes-of a ≡ shown (now (groups .entry)) (group .0) (now (value .entry)) i ⌝ }
+    ensures { λ a. ⌜ bytes-of a ≡ line told (now (value .entry)) i ⌝ }
 {
-    let r = records::reader(value, i);
-    if r.at_or_below(groups, group) {
+    if told {
         let kind = shown_kind(records::kind(value, i));
+        let r = records::reader(value, i);
         let ir = records::indirect(value, i);
         return Line { kind, r, ir };
     }
@@ -136,7 +171,18 @@ fn put(sheet: &mut [u8], at: usize, line: Line)
     sheet[i + 3] = 0;
 }
 
-// Writes the sheet of the value at record i from sheet record `at` on: the object, then its parts, each judged by its own r.
+// Where writing has come to after an object of which only its own record is written, to sheet record `at`.
+fn alone(value: &[u8], i: usize, at: usize) -> Reached
+    requires { ⌜ Here (now value) i × (at + 1 < 2 ^ 64) ⌝ }
+    ensures { λ a. ⌜ ((e : Term) → At (now (value .entry)) i e → a .next ≡ i + size e) × (a .line ≡ at + 1) ⌝ }
+{
+    Reached {
+        next: records::end_of(value, i),
+        line: at + 1,
+    }
+}
+
+// Writes the sheet of the value at record i from sheet record `at` on: the object and, where it is open, its parts.
 fn write(
     groups: &[u8],
     value: &[u8],
@@ -145,18 +191,19 @@ fn write(
     sheet: &mut [u8],
     at: usize,
 ) -> Reached
-    requires { ⌜ Room (now value) i (now sheet) at ⌝ }
+    requires { ⌜ Room (now groups) (group .0) (now value) i (now sheet) at ⌝ }
     ensures { λ a. ⌜ ((e : Term) → At (now (value .entry)) i e → is-value e ≡ true
         → Wrote (now (groups .entry)) (group .0) i at e (now (sheet .entry)) a (now (sheet .exit))) ⌝ }
 {
-    put(sheet, at, line_of(groups, value, i, group));
+    let open = is_open(groups, value, i, group);
+    put(sheet, at, line_of(value, i, open));
+    if !open {
+        return alone(value, i, at);
+    }
     let kind = records::kind(value, i);
     // Only pairs and injections have parts to show.
     if kind < PAIR {
-        return Reached {
-            next: records::end_of(value, i),
-            line: at + 1,
-        };
+        return alone(value, i, at);
     }
     let first = write(groups, value, i + 1, group, sheet, at + 1);
     if kind != PAIR {
@@ -205,13 +252,14 @@ pub fn page(groups: &[u8], types: &[u8], value: &[u8], group: u64, sheet: &mut [
     let Checked::Passed = a25 else {
         return refused(a25);
     };
-    let found = look(value, 0, 0);
+    let reader = Reader(group as u8);
+    let found = look(groups, value, 0, reader, true, 0);
     let Looked::Value(_, count) = found else {
         return Sheet::Refused(26, 0);
     };
     if sheet.len() < SHEET_WIDTH * count {
         return Sheet::Refused(27, 0);
     }
-    write(groups, value, 0, Reader(group as u8), sheet, 0);
+    write(groups, value, 0, reader, sheet, 0);
     Sheet::Written(count)
 }

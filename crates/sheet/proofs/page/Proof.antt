@@ -1,6 +1,7 @@
 -- `sheet::page` meets its contract: a script that passes is the encoding of its term, and a look tells whether that is a value and how
 -- many records its sheet has before any is written.
 use mathlib.Core.Path.{_≡_, sym, subst, _∙_}
+use mathlib.Core.Bool.{true}
 use native.Mathlib.Omega.{arith}
 use lib.ListN.{length}
 use Rattle.calculus.specs.Terms.{Term}
@@ -54,10 +55,10 @@ begin c = start (told c)
 abbrev the-value : tie.After-known-told → Term
 the-value c = term (value-of (begin c))
 
-is-found : (c : tie.After-known-told) → Found (the-value c) 0 0 (c .before .found .given .0 .0) (c .before .found .given .0 .1 .0)
-is-found c = found (the-value c) _ _ _ _ (sym (c .before .before .before .look .ensures (the-value c) (stands (told c))) ∙ c .before .found .given .1)
+is-found : (c : tie.After-known-told) → Found (groups-of (begin c)) (begin c .args .group) true (the-value c) 0 0 (c .before .found .given .0 .0) (c .before .found .given .0 .1 .0)
+is-found c = found _ _ true (the-value c) _ _ _ _ (sym (c .before .before .before .look .ensures (the-value c) (stands (told c))) ∙ c .before .found .given .1)
 
-count-is : (c : tie.After-known-told) → c .before .found .given .0 .1 .0 ≡ lines (the-value c)
+count-is : (c : tie.After-known-told) → c .before .found .given .0 .1 .0 ≡ lines (groups-of (begin c)) (begin c .args .group) (the-value c)
 count-is c = omega (arith, is-found c .count)
 
 asked-requires : tie.Need-asked-requires
@@ -80,6 +81,9 @@ returns c =
     let q = subst (λ a. Paged (sheeting (groups-of s) (types-of s) (value-of s) (s .args .group) (length (old s))) (old s) a (old s)) (sym (c .refused .ensures)) p in
     (q .answer, q .after)
 
+cast-t10 : tie.Need-cast-t10
+cast-t10 c = let s = start c in omega (arith, narrow (groups-of s) (types-of s) (value-of s) (s .args .group) (old s) (yes c) (octets c))
+
 look-requires : tie.Need-look-requires
 look-requires c κs = (here (stands c), omega arith)
 
@@ -93,12 +97,12 @@ returns-2 : tie.Need-returns-2
 returns-2 c =
     let d = c .before .before .before in
     let s = start d in
-    let v = lost (term (value-of s)) _ _ (c .before .before .look .result) (c .before .match2 .keys2) (c .before .before .look .ensures (term (value-of s)) (stands d)) in
+    let v = lost _ _ true (term (value-of s)) _ _ (c .before .before .look .result) (c .before .match2 .keys2) (c .before .before .look .ensures (term (value-of s)) (stands d)) in
     let p = no-value (groups-of s) (types-of s) (value-of s) (s .args .group) (old s) (yes d) v in
     (p .answer, p .after)
 
 mul-if1 : tie.Need-mul-if1
-mul-if1 c = omega (arith, count-is c, lines-size (the-value c), room _ _ _ (stands (told c)), begin c .good)
+mul-if1 c = omega (arith, count-is c, lines-size (groups-of (begin c)) (begin c .args .group) true (the-value c), room _ _ _ (stands (told c)), begin c .good)
 
 returns-3 : tie.Need-returns-3
 returns-3 c =
@@ -106,12 +110,6 @@ returns-3 c =
     let s = begin d in
     let p = no-room (groups-of s) (types-of s) (value-of s) (s .args .group) (old s) (yes (told d)) (is-found d .value) (omega (arith, count-is d, c .if1 .taken)) in
     (p .answer, p .after)
-
-cast-t13 : tie.Need-cast-t13
-cast-t13 c =
-    let d = c .before in
-    let s = begin d in
-    omega (arith, narrow (groups-of s) (types-of s) (value-of s) (s .args .group) (old s) (yes (told d)) (octets (told d)))
 
 write-requires : tie.Need-write-requires
 write-requires c κs =
@@ -145,13 +143,13 @@ page-spec =
     enum-told-2
     refused-requires
     returns
+    cast-t10
     look-requires
     enum-known-found
     enum-told-3
     returns-2
     mul-if1
     returns-3
-    cast-t13
     write-requires
     same-length
     returns-4)
