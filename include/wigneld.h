@@ -95,7 +95,8 @@ extern "C" {
 #define WIGNELD_KIND_PROTECT 10
 #define WIGNELD_KIND_RECURSION 11
 
-/* A sheet: a record for each object of a value that is shown, in the script's order. A closed one has groups 0; its parts follow. */
+/* A sheet: a record for each object of a value that is shown, in the script's order. A closed one has groups 0 and stands for its
+   object and every part of it. */
 #define WIGNELD_SHEET_RECORD_BYTES 4
 
 #define WIGNELD_SHEET_UNIT 0
