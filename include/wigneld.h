@@ -130,13 +130,13 @@ extern "C" {
 /*
  * The free stack that each function needs, whatever it is lent: the bytes between the caller's stack pointer, before the
  * arguments are put down, and the end of the stack. The deepest scripts, of depth 256 with types of 63 records, were seen to take
- * 122,288, 49,600 and 45,280 bytes; the numbers are these and at least a sixteenth more, in whole pages.
+ * 126,880, 49,600 and 45,280 bytes; the numbers are these and at least a sixteenth more, in whole pages.
  *
  * A thread's stack holds more than that: its own frames, and what the C library keeps there. With glibc
  * pthread_attr_setstacksize(&attributes, PTHREAD_STACK_MIN + WIGNELD_CHECK_STACK_BYTES) is enough for a thread that calls
  * wigneld_check from a shallow function.
  */
-#define WIGNELD_CHECK_STACK_BYTES 131072
+#define WIGNELD_CHECK_STACK_BYTES 135168
 #define WIGNELD_RUN_STACK_BYTES 53248
 #define WIGNELD_SHEET_STACK_BYTES 49152
 
