@@ -22,7 +22,7 @@ extern "C" {
 #endif
 
 /* Raised whenever a constant, a prototype or an answer changes. */
-#define WIGNELD_VERSION 1
+#define WIGNELD_VERSION 2
 
 /* The form of rows and records. Raised whenever a width below changes, or what a byte of a record means: files of another form
    are to be rewritten before they are lent. */

@@ -10,7 +10,7 @@ use Rattle.calculus.specs.Terms.{first, second, choose, Term, var, unit, lam, p
 use Rattle.rules.specs.Answer.{Bytes}
 use Rattle.rules.specs.Limits.{sheet-width}
 use Rattle.rules.specs.Groups.{leq}
-use Rattle.rules.specs.Script.{size, kind, r, ir}
+use Rattle.rules.specs.Script.{size, r}
 use Rattle.rules.specs.Sheet.{sheet, sheet-record}
 use Rattle.rules.proofs.PrefixLaws.{record-is}
 use Rattle.rules.proofs.RecordFields.{kind-is, r-is, ir-is}
@@ -21,10 +21,14 @@ use Rattle.records.specs.Operands.{first-operand, second-operand}
 use Rattle.records.proofs.Stands.{kind-of, at-first, at-second}
 use Rattle.memory.specs.Splice.{splice}
 use Rattle.memory.proofs.Laws.{join-next}
-use Rattle.sheet.specs.Shown.{line, shown, shown-kind}
+use Rattle.sheet.specs.Shown.{line, shown-kind}
 use Rattle.sheet.specs.Value.{lines, lines-if, Room, Wrote}
 use Rattle.sheet.specs.declared.Reached.{Reached}
 use Rattle.sheet.proofs.Values.{View, other, a-unit, a-function, a-pair, injection, view, own, Injects, Pairs, injects, pairs, first-part}
+
+-- the line of the object at record i for a reader group
+abbrev pub shown : Bytes → ℕ → Bytes → ℕ → Bytes
+shown g group s i = line (leq g (r s i) group) s i
 
 -- every record has the width of a sheet record
 pub line-length : (told : Bool) (s : Bytes) (i : ℕ) → length (line told s i) ≡ sheet-width

@@ -46,7 +46,7 @@ view (case w i e a b) = other {e = case w i e a b} refl (λ l. omega arith)
 view (protect m e) = other {e = protect m e} refl (λ l. omega arith)
 view (mu i e) = other {e = mu i e} refl (λ l. omega arith)
 
--- what readers a value's object has
+-- the readers of an object: r of its own record
 abbrev pub own : Term → ℕ
 own e = r (term-head e) 0
 

@@ -4,7 +4,6 @@ use mathlib.Core.List.{[], _∷_}
 use Prim.Native.Nat.{ℕ}
 use lib.Dec.{eqb}
 use Rattle.rules.specs.Answer.{Bytes}
-use Rattle.rules.specs.Groups.{leq}
 use Rattle.rules.specs.Script.{kind, r, ir}
 use Rattle.records.specs.Kinds as kinds
 use Rattle.sheet.specs.declared.Line.{Line}
@@ -19,10 +18,6 @@ shown-kind kind =
 unfoldable pub line : Bool → Bytes → ℕ → Bytes
 unfolding shown-kind
 line told s i = cond told (shown-kind (kind s i) ∷ r s i ∷ ir s i ∷ 0 ∷ []) (5 ∷ 0 ∷ 0 ∷ 0 ∷ [])
-
--- and for a reader group
-abbrev pub shown : Bytes → ℕ → Bytes → ℕ → Bytes
-shown groups group s i = line (leq groups (r s i) group) s i
 
 abbrev pub bytes-of : Line → Bytes
 bytes-of line = line .kind ∷ line .r .0 ∷ line .ir .0 ∷ 0 ∷ []

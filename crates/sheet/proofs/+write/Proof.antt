@@ -18,10 +18,10 @@ use Rattle.records.specs.Place.{At}
 use Rattle.records.specs.Operands.{first-operand, second-operand}
 use Rattle.records.proofs.Stands.{kind-of, here, there, stands-kind, at-first, at-second}
 use Rattle.memory.specs.Splice.{splice}
-use Rattle.sheet.specs.Shown.{line, shown}
+use Rattle.sheet.specs.Shown.{line}
 use Rattle.sheet.specs.Value.{Room, Wrote}
 use Rattle.sheet.proofs.Values.{view, own, own-at, first-part, pairs}
-use Rattle.sheet.proofs.Sheets.{without, closed, object, first-of, second-value, wrote-alone, wrote-injection, wrote-pair, room-first, room-second}
+use Rattle.sheet.proofs.Sheets.{shown, without, closed, object, first-of, second-value, wrote-alone, wrote-injection, wrote-pair, room-first, room-second}
 use Rattle.sheet.proofs.write.Reads as write
 use Rattle.sheet.proofs.write.Kinds as write-kinds
 use Rattle.sheet.proofs.+write.Lts-write as lts
