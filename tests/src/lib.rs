@@ -23,3 +23,4 @@ pub mod steps;
 pub mod strip;
 pub mod types;
 pub mod typing;
+pub mod words;

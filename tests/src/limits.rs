@@ -27,6 +27,10 @@ pub const ANSWER_BYTES: usize = MOST_TYPE_RECORDS * TYPE_BYTES;
 /// Question 1, work buffer: one such type for each depth, 64,512 bytes.
 pub const WORK_BYTES: usize = MOST_DEPTH * ANSWER_BYTES;
 
+/// Document 02, item 7: "six records of 12 bytes", 72 in all.
+pub const WORD_BYTES: usize = 12;
+pub const WORDS_BYTES: usize = 6 * WORD_BYTES;
+
 /// Report program: "two buffers of 49,152 bytes".
 pub const REPORT_RUN_BYTES: usize = MOST_SCRIPT_RECORDS * SCRIPT_BYTES;
 /// Report program: "a buffer of 8,192 sheet records".

@@ -6,20 +6,29 @@ use crate::limits::{
     WORK_BYTES,
 };
 use crate::refusal::Answer;
-use crate::sheet::WORDS;
 use crate::steps::End;
+use crate::words::{read_words, OURS};
 
 /// "checks, runs in two buffers of 49,152 bytes with budget 1,000, sheet for group 0 in a buffer of
-/// 8,192 sheet records; numbers in decimal." A missing file is an empty slice.
-pub fn report(groups: &[u8], types: &[u8], script: &[u8]) -> Vec<u8> {
+/// 8,192 sheet records; numbers in decimal." A missing file is an empty slice, but for the words': "A missing file means ours.
+/// The table is tried before question 1, and the report prints only a refusal line if it fails."
+pub fn report(words: Option<&[u8]>, groups: &[u8], types: &[u8], script: &[u8]) -> Vec<u8> {
     let mut text = String::new();
-    if let Err(refusal) = lines(groups, types, script, &mut text) {
+    if let Err(refusal) = lines(words, groups, types, script, &mut text) {
         text += &format!("refused {} at {}\n", refusal.question, refusal.place);
     }
     text.into_bytes()
 }
 
-fn lines(groups: &[u8], types: &[u8], script: &[u8], text: &mut String) -> Answer<()> {
+fn lines(
+    words: Option<&[u8]>,
+    groups: &[u8],
+    types: &[u8],
+    script: &[u8],
+    text: &mut String,
+) -> Answer<()> {
+    let ours = || Ok(OURS.map(String::from).to_vec());
+    let words = words.map_or_else(ours, read_words)?;
     let records = check(groups, types, script, &mut [0; WORK_BYTES], &mut [0; ANSWER_BYTES])?;
     *text += &format!("accepted {records}\n");
 
@@ -34,7 +43,7 @@ fn lines(groups: &[u8], types: &[u8], script: &[u8], text: &mut String) -> Answe
         let mut seen = vec![0; REPORT_SHEET_BYTES];
         let count = sheet(groups, types, value, 0, &mut seen)?;
         for record in seen.chunks(SHEET_BYTES).take(count as usize) {
-            *text += &format!("{} {} {}\n", WORDS[record[0] as usize], record[1], record[2]);
+            *text += &format!("{} {} {}\n", words[record[0] as usize], record[1], record[2]);
         }
     }
     Ok(())

@@ -4,13 +4,11 @@ use crate::groups::{Group, Groups};
 use crate::limits::SHEET_BYTES;
 use crate::script::{Side, Term};
 
-/// "Kinds 0 unit, 1 first, 2 second, 3 pair, 4 function, 5 closed, whose words are".
-pub const WORDS: [&str; 6] = ["unit", "first", "second", "pair", "function", "closed"];
-
 /// The kind of closed objects.
 pub const CLOSED: u8 = 5;
 
-/// "For a reader group g and a value, 4-byte records: kind, r, ir, 0, in script order."
+/// "For a reader group g and a value, 4-byte records: kind, r, ir, 0, in script order. Kinds 0 unit, 1 first,
+/// 2 second, 3 pair, 4 function, 5 closed."
 pub fn sheet_of(groups: &Groups, value: &Term, g: Group) -> Vec<[u8; SHEET_BYTES]> {
     // "4 function (body not shown)": a function has no parts here.
     let (kind, marks, parts) = match value {

@@ -9,7 +9,8 @@ use wigneld_tests::groups::read_groups;
 use wigneld_tests::report::report;
 
 fn report_of(inputs: &Inputs) -> String {
-    String::from_utf8(report(&inputs.groups, &inputs.types, &inputs.script)).expect("plain text")
+    String::from_utf8(report(None, &inputs.groups, &inputs.types, &inputs.script))
+        .expect("plain text")
 }
 
 #[test]

@@ -8,7 +8,8 @@ fn prints_expected(name: &str) {
     let folder = Path::new(env!("CARGO_MANIFEST_DIR")).join("../examples").join(name);
     let read =
         |file: &str| fs::read(folder.join(file)).unwrap_or_else(|e| panic!("{name}/{file}: {e}"));
-    let printed = report(&read("groups"), &read("types"), &read("script"));
+    let words = fs::read(folder.join("words")).ok();
+    let printed = report(words.as_deref(), &read("groups"), &read("types"), &read("script"));
     assert_eq!(
         String::from_utf8(printed).expect("plain text"),
         String::from_utf8(read("expected")).expect("plain text")
