@@ -41,6 +41,7 @@ mod raw {
         ) -> u64;
 
         pub fn probe_bit(word: u32, h: u64) -> u64;
+        pub fn probe_words_check(words: *const u8, words_length: usize) -> u64;
         pub fn probe_groups_check(groups: *const u8, groups_length: usize) -> u64;
         pub fn probe_types_check(
             groups: *const u8, groups_length: usize,
@@ -147,6 +148,10 @@ pub fn compare(groups: &[u8], types: &[u8], first: u64, second: u64) -> u64 {
 
 pub fn bit(row: u32, h: u64) -> u64 {
     unsafe { raw::probe_bit(row, h) }
+}
+
+pub fn words_check(words: &[u8]) -> u64 {
+    unsafe { raw::probe_words_check(words.as_ptr(), words.len()) }
 }
 
 pub fn groups_check(groups: &[u8]) -> u64 {

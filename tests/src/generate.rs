@@ -5,7 +5,10 @@ use std::env;
 use std::rc::Rc;
 
 use crate::groups::{Group, Groups};
-use crate::limits::{MOST_DEPTH, MOST_GROUPS, MOST_TABLE_RECORDS, MOST_TYPE_RECORDS, SCRIPT_BYTES};
+use crate::limits::{
+    MOST_DEPTH, MOST_GROUPS, MOST_TABLE_RECORDS, MOST_TYPE_RECORDS, SCRIPT_BYTES, WORDS_BYTES,
+    WORD_BYTES,
+};
 use crate::script::{names_ir, names_number, names_r, operand_count, Record, Side, Term, OPERANDS};
 use crate::types::{at_or_below, read_tables, Form, Marks, Tables, Type};
 use crate::typing::type_of;
@@ -907,4 +910,26 @@ pub fn unit_types(count: usize) -> Vec<u8> {
 pub fn chain_groups(count: usize) -> Vec<u8> {
     let row = |g: usize| (g..count.min(32)).fold(0u32, |word, h| word | 1 << h);
     (0..count).flat_map(|g| row(g).to_le_bytes()).collect()
+}
+
+/// A table of words, most of them well formed and all different; some damaged in a byte, a word or their length.
+pub fn words_table(rng: &mut Rng) -> Vec<u8> {
+    let mut table = Vec::new();
+    for _ in 0..WORDS_BYTES / WORD_BYTES {
+        let letters = if rng.one_in(3) { 1 + rng.below(2) } else { 1 + rng.below(WORD_BYTES) };
+        let word: Vec<u8> = (0..letters).map(|_| b'a' + rng.below(26) as u8).collect();
+        table.extend(word.iter().chain(std::iter::repeat(&0)).take(WORD_BYTES));
+    }
+    let at = rng.below(WORDS_BYTES);
+    match rng.below(8) {
+        0 => table[at] = *rng.pick(&[0, b'a' - 1, b'a', b'z', b'z' + 1, b'A', 255]),
+        1 => {
+            let (from, to) = (rng.below(6) * WORD_BYTES, rng.below(6) * WORD_BYTES);
+            table.copy_within(from..from + WORD_BYTES, to);
+        }
+        2 => table.truncate(at),
+        3 => table.extend(rng.bytes(1 + at)),
+        _ => {}
+    }
+    table
 }

@@ -16,6 +16,7 @@ use wigneld_tests::limits::*;
 use wigneld_tests::script::{Side, Term};
 use wigneld_tests::steps::End;
 use wigneld_tests::strip::ONE_GROUP;
+use wigneld_tests::words::read_words;
 
 fn inputs_of(world: &World, term: &Term) -> Inputs {
     Inputs { groups: world.groups.clone(), types: world.types.clone(), script: term.write() }
@@ -267,6 +268,18 @@ fn bits_of_rows() {
             assert_eq!(engine::bit(row, h), bit(row, h as usize) as u64, "bit {h} of {row}");
         }
     }
+}
+
+#[test]
+fn tables_of_words() {
+    let mut answers = std::collections::BTreeSet::new();
+    examples(20_000, |rng| {
+        let table = words_table(rng);
+        let expected = read_words(&table).map(|_| ());
+        assert_eq!(engine::words_check(&table), engine::packed_nothing(&expected), "{table:?}");
+        answers.insert(expected.err().map_or(0, |refusal| refusal.question));
+    });
+    assert_eq!(answers.into_iter().collect::<Vec<_>>(), [0, 32, 33, 34]);
 }
 
 #[test]

@@ -7,8 +7,8 @@ use std::fs;
 use std::path::{Path, PathBuf};
 use wigneld_tests::limits::*;
 use wigneld_tests::script::OPERANDS;
-use wigneld_tests::sheet::WORDS;
 use wigneld_tests::steps::End;
+use wigneld_tests::words::OURS;
 
 fn root() -> PathBuf {
     Path::new(env!("CARGO_MANIFEST_DIR")).join("..")
@@ -215,7 +215,7 @@ fn every_constant_is_the_engines() {
 fn as_many_kinds_as_the_document_has() {
     assert_eq!(KINDS.1.len(), OPERANDS.len());
     let words: Vec<String> = SHEETS.1.iter().map(|(name, _)| name.to_lowercase()).collect();
-    assert_eq!(words, WORDS);
+    assert_eq!(words, OURS);
 }
 
 /// The report program reads one byte more than the longest.
