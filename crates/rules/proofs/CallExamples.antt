@@ -6,10 +6,11 @@ use Rattle.rules.specs.Script.{encode, size, depth, subterm}
 use Rattle.rules.specs.Step.{exceeds}
 use Rattle.rules.specs.Strip.{strip-from}
 use Rattle.rules.specs.Calls.{checking, type-records, stepping, running, run-report, sheeting, sheet-records}
-use Rattle.rules.specs.Report.{text, decimal, word, run-text, report}
+use Rattle.rules.specs.Report.{text, decimal, our-words, run-text, report}
+use Rattle.rules.specs.Words.{word}
 
 pub call-examples : CallExamples
-unfolding encode-type encode size depth subterm exceeds strip-from checking type-records stepping running run-report sheeting sheet-records text decimal word run-text report
+unfolding encode-type encode size depth subterm exceeds strip-from checking type-records stepping running run-report sheeting sheet-records text decimal our-words word run-text report
 call-examples = record {
   records-found = refl;
   none-found = refl;
@@ -68,13 +69,6 @@ call-examples = record {
   smallest = refl;
   three-digits = refl;
   largest = refl;
-  word-0 = refl;
-  word-1 = refl;
-  word-2 = refl;
-  word-3 = refl;
-  word-4 = refl;
-  word-5 = refl;
-  no-word = refl;
   value-printed = refl;
   spent-printed = refl;
   may-not-printed = refl;

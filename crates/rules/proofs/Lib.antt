@@ -24,4 +24,5 @@ pub mod TypeTables
 pub mod SecureTables
 pub mod Cases
 pub mod CallExamples
+pub mod WordExamples
 pub mod Examples

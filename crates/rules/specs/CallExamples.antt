@@ -2,6 +2,7 @@
 use mathlib.Core.Path.{_≡_}
 use mathlib.Core.Bool.{true, false}
 use mathlib.Core.List.{[], _∷_, _++_}
+use mathlib.Core.Option.{none}
 use Prim.Native.Nat.{ℕ, zero, suc}
 use Rattle.calculus.specs.Terms.{Term}
 use Rattle.calculus.specs.Terms as terms
@@ -11,8 +12,7 @@ use Rattle.rules.specs.Step.{exceeds}
 use Rattle.rules.specs.Strip.{strip-script, strip-types}
 use Rattle.rules.specs.Calls.{type-records, answer-after, work-after, stepping, StepReport, step-report, written-after, running, run-report, first-after, scratch-after, sheeting, sheet-records, sheet-after}
 use Rattle.rules.specs.Reach.{verdict}
-use Rattle.rules.specs.Report.{text, decimal, run-text, report}
-use Rattle.rules.specs.Report as printed
+use Rattle.rules.specs.Report.{text, decimal, our-words, run-text, report}
 use Rattle.rules.specs.Cases.{ty, groups, types, case-term, loop, ran, ends}
 use Rattle.rules.specs.Examples.{var, unit, pair, app, proj, protect, diamond}
 
@@ -25,7 +25,7 @@ step-ends end count = accepted (record { end = end; count = count })
 
 -- what a report prints of a run with this budget, in two buffers of so many bytes
 abbrev pub printed-run : ℕ → ℕ → Bytes → Bytes
-printed-run budget room s = run-text groups types (running groups types s budget room room)
+printed-run budget room s = run-text our-words groups types (running groups types s budget room room)
 
 -- a projection (7 first, 8 second) of a pair (1,1) of units (0,0) and (1,0)
 abbrev pub projection : ℕ → Bytes
@@ -127,22 +127,15 @@ pub record CallExamples : Type 0 where
   pub sheet-uncounted : sheet-records (sheeting groups types (unit 0 0) 0 3) ≡ refused 27 0
   pub sheet-kept : sheet-after (sheeting groups types (unit 1 0) 1 5) (9 ∷ 9 ∷ 9 ∷ 9 ∷ 9 ∷ []) ≡ ty 0 1 0 ++ (9 ∷ [])
   pub sheet-unchanged : sheet-after (sheeting groups types (unit 0 0) 0 3) (9 ∷ 9 ∷ 9 ∷ []) ≡ 9 ∷ 9 ∷ 9 ∷ []
-  -- texts: letters by their codes, numbers of up to 64 bits, the six words and no other
+  -- texts: letters by their codes, numbers of up to 64 bits
   pub letters : text "unit 0\n" ≡ 117 ∷ 110 ∷ 105 ∷ 116 ∷ 32 ∷ 48 ∷ 10 ∷ []
   pub smallest : decimal 0 ≡ text "0"
   pub three-digits : decimal 256 ≡ text "256"
   pub largest : decimal 18446744073709551615 ≡ text "18446744073709551615"
-  pub word-0 : printed.word 0 ≡ text "unit"
-  pub word-1 : printed.word 1 ≡ text "first"
-  pub word-2 : printed.word 2 ≡ text "second"
-  pub word-3 : printed.word 3 ≡ text "pair"
-  pub word-4 : printed.word 4 ≡ text "function"
-  pub word-5 : printed.word 5 ≡ text "closed"
-  pub no-word : printed.word 6 ≡ []
   -- the sheet only at end 0
   pub value-printed : printed-run 2 49152 (case-term 1 1 1) ≡ text "end 0 steps 2 records 2\nclosed 0 0\n"
   pub spent-printed : printed-run 1 49152 (case-term 1 1 1) ≡ text "end 1 steps 1 records 3\n"
   pub may-not-printed : printed-run 9 49152 (case-term 1 1 0) ≡ text "end 2 steps 0 records 7\n"
   pub too-big-printed : printed-run 9 72 (loop 0) ≡ text "end 4 steps 0 records 7\n"
-  pub whole-report : report groups types (pair 0 0 ++ unit 1 1 ++ script-record 5 0 0 0 ++ unit 0 0)
+  pub whole-report : report none groups types (pair 0 0 ++ unit 1 1 ++ script-record 5 0 0 0 ++ unit 0 0)
       ≡ text "accepted 5\nend 0 steps 0 records 4\npair 0 0\nclosed 0 0\nsecond 0 0\nunit 0 0\n"

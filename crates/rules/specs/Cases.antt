@@ -1,6 +1,7 @@
 -- Document 01, 'Cases A to L', each statement a field of one record.
 use mathlib.Core.Path.{_≡_}
 use mathlib.Core.List.{_++_, _∷_, []}
+use mathlib.Core.Option.{none}
 use Prim.Native.Nat.{ℕ}
 use Rattle.rules.specs.Answer.{Bytes, Answer, accepted, refused}
 use Rattle.rules.specs.Groups.{join}
@@ -67,10 +68,10 @@ ends end steps count = accepted (record { end = end; steps = steps; count = coun
 pub record Cases : Type 0 where
   pub A-refused : check types (case-term 1 1 0) ≡ refused 21 0
   pub A-run : ran 1000 49152 (case-term 1 1 0) ≡ ends 2 0 7
-  pub A-report : report groups types (case-term 1 1 0) ≡ text "refused 21 at 0\n"
+  pub A-report : report none groups types (case-term 1 1 0) ≡ text "refused 21 at 0\n"
   pub B-type : check types (case-term 1 1 1) ≡ accepted (ty 1 1 1 ++ ty 0 0 0 ++ ty 0 0 0)
   pub B-run : ran 1000 49152 (case-term 1 1 1) ≡ ends 0 2 2
-  pub B-report : report groups types (case-term 1 1 1)
+  pub B-report : report none groups types (case-term 1 1 1)
       ≡ text "accepted 3\n" ++ text "end 0 steps 2 records 2\n" ++ text "closed 0 0\n"
   pub C-type : check types (case-term 1 0 1) ≡ accepted (ty 1 0 0 ++ ty 0 0 0 ++ ty 0 0 0)
   pub C-run : ran 1000 49152 (case-term 1 0 1) ≡ ends 0 2 2

@@ -11,7 +11,9 @@ pub mod Strip
 pub mod Sheet
 pub mod Calls
 pub mod Reach
+pub mod Words
 pub mod Report
 pub mod Cases
 pub mod Examples
 pub mod CallExamples
+pub mod WordExamples

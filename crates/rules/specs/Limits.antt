@@ -1,4 +1,4 @@
--- The sizes of document 01, each under one name.
+-- The sizes of documents 01 and 02, each under one name.
 use Prim.Native.Nat.{ℕ, _*_}
 use Rattle.calculus.specs.Types.{type-limit}
 
@@ -28,9 +28,19 @@ script-limit = 8192
 abbrev pub depth-limit : ℕ
 depth-limit = 256
 
--- the document's last question
+-- "six records of 12 bytes": a words table has 72 bytes
+abbrev pub word-width : ℕ
+word-width = 12
+
+abbrev pub word-limit : ℕ
+word-limit = 6
+
+abbrev pub words-length : ℕ
+words-length = word-limit * word-width
+
+-- the last question: 34, of a words table
 abbrev pub last-question : ℕ
-last-question = 27
+last-question = 34
 
 -- Question 1's lengths: a type for the answer, and a type for each level of a script for the work.
 abbrev pub answer-length : ℕ

@@ -1,20 +1,22 @@
--- Document 01, 'Report program': the whole text that it prints, as a function of the bytes of its three files.
+-- Document 01, 'Report program', and document 02, item 7: the whole text that it prints, as a function of the bytes of its files.
 use mathlib.Core.Bool.{true, false}
 use mathlib.Core.List.{_∷_, _++_}
 use mathlib.Core.List as list
+use mathlib.Core.Option.{Option, none, some}
 use Prim.Native.Nat.{ℕ, zero, suc, _+_, _/_, _%_}
 use Prim.Native.Char.{code}
 use Prim.Native.String.{String}
 use Prim.Native.String as string
 use lib.Dec.{ltb, eqb}
-use lib.ListN.{getD}
+use lib.ListN.{take}
 use Rattle.calculus.specs.Types.{Ty, sizeT}
 use Rattle.rules.specs.Answer.{Bytes, Answer, accepted, refused}
-use Rattle.rules.specs.Limits.{report-budget, report-buffer, report-sheet}
+use Rattle.rules.specs.Limits.{word-width, report-budget, report-buffer, report-sheet}
 use Rattle.rules.specs.Script.{encode, size}
 use Rattle.rules.specs.Run.{Ran}
-use Rattle.rules.specs.Calls.{checking, running, sheeting}
+use Rattle.rules.specs.Calls.{zeros, checking, running, sheeting}
 use Rattle.rules.specs.Reach.{verdict}
+use Rattle.rules.specs.Words.{word, words-check}
 
 -- the bytes of a text of letters, spaces and newlines
 unfoldable pub text : String → Bytes
@@ -31,10 +33,14 @@ unfoldable pub decimal : ℕ → Bytes
 unfolding digits
 decimal n = digits 20 n list.[]
 
--- "whose words are unit, first, second, pair, function, closed"
-unfoldable pub word : ℕ → Bytes
+-- a word as a record of a words table: its letters, then zero bytes
+abbrev pub word-record : String → Bytes
+word-record s = take word-width (text s ++ zeros word-width)
+
+-- "whose words are unit, first, second, pair, function, closed", as a words table
+unfoldable pub our-words : Bytes
 unfolding text
-word kind = getD (text "unit" ∷ text "first" ∷ text "second" ∷ text "pair" ∷ text "function" ∷ text "closed" ∷ list.[]) kind list.[]
+our-words = word-record "unit" ++ word-record "first" ++ word-record "second" ++ word-record "pair" ++ word-record "function" ++ word-record "closed"
 
 -- a word and a number
 abbrev pub named : String → ℕ → Bytes
@@ -53,41 +59,52 @@ unfoldable pub run-line : ℕ → ℕ → ℕ → Bytes
 unfolding text decimal
 run-line end steps records = named "end " end ++ named " steps " steps ++ named " records " records ++ text "\n"
 
--- "word, r, ir" of a record of the sheet
-unfoldable pub sheet-line : ℕ → ℕ → ℕ → Bytes
+-- "word, r, ir" of a record of the sheet, in the words of a table w
+unfoldable pub sheet-line : Bytes → ℕ → ℕ → ℕ → Bytes
 unfolding text decimal word
-sheet-line kind r ir = word kind ++ named " " r ++ named " " ir ++ text "\n"
+sheet-line w kind r ir = word w kind ++ named " " r ++ named " " ir ++ text "\n"
 
 -- a line for each of its records
-unfoldable pub sheet-lines : Bytes → Bytes
+unfoldable pub sheet-lines : Bytes → Bytes → Bytes
 unfolding sheet-line
-sheet-lines list.[] = list.[]
-sheet-lines (k ∷ list.[]) = list.[]
-sheet-lines (k ∷ r ∷ list.[]) = list.[]
-sheet-lines (k ∷ r ∷ ir ∷ list.[]) = list.[]
-sheet-lines (k ∷ r ∷ ir ∷ z ∷ b) = sheet-line k r ir ++ sheet-lines b
+sheet-lines w list.[] = list.[]
+sheet-lines w (k ∷ list.[]) = list.[]
+sheet-lines w (k ∷ r ∷ list.[]) = list.[]
+sheet-lines w (k ∷ r ∷ ir ∷ list.[]) = list.[]
+sheet-lines w (k ∷ r ∷ ir ∷ z ∷ b) = sheet-line w k r ir ++ sheet-lines w b
 
 -- An accepted script's run and sheet aren't refused; these lines are here because a text has to be given for every answer.
-abbrev pub sheet-text : Answer Bytes → Bytes
-sheet-text (accepted b) = sheet-lines b
-sheet-text (refused q p) = refusal-line q p
+abbrev pub sheet-text : Bytes → Answer Bytes → Bytes
+sheet-text w (accepted b) = sheet-lines w b
+sheet-text w (refused q p) = refusal-line q p
 
 -- "only when the end is 0": the sheet of the run's last term for group 0
-unfoldable pub value-text : Bytes → Bytes → Ran → Bytes
+unfoldable pub value-text : Bytes → Bytes → Bytes → Ran → Bytes
 unfolding sheeting encode sheet-lines refusal-line
-value-text g t x = elim (eqb (x .end) 0) [ true ↦ sheet-text (sheeting g t (encode (x .last)) 0 report-sheet) | false ↦ list.[] ]
+value-text w g t x = elim (eqb (x .end) 0) [ true ↦ sheet-text w (sheeting g t (encode (x .last)) 0 report-sheet) | false ↦ list.[] ]
 
-unfoldable pub run-text : Bytes → Bytes → Answer Ran → Bytes
+unfoldable pub run-text : Bytes → Bytes → Bytes → Answer Ran → Bytes
 unfolding run-line value-text refusal-line size
-run-text g t (accepted x) = run-line (x .end) (x .steps) (size (x .last)) ++ value-text g t x
-run-text g t (refused q p) = refusal-line q p
+run-text w g t (accepted x) = run-line (x .end) (x .steps) (size (x .last)) ++ value-text w g t x
+run-text w g t (refused q p) = refusal-line q p
 
-unfoldable pub checked-text : Bytes → Bytes → Bytes → Answer Ty → Bytes
+unfoldable pub checked-text : Bytes → Bytes → Bytes → Bytes → Answer Ty → Bytes
 unfolding accepted-line run-text refusal-line running sizeT
-checked-text g t s (accepted type) = accepted-line (sizeT type) ++ run-text g t (running g t s report-budget report-buffer report-buffer)
-checked-text g t s (refused q p) = refusal-line q p
+checked-text w g t s (accepted type) = accepted-line (sizeT type) ++ run-text w g t (running g t s report-budget report-buffer report-buffer)
+checked-text w g t s (refused q p) = refusal-line q p
 
 -- "Checks, runs in two buffers of 49,152 bytes with budget 1,000, sheet for group 0 in a buffer of 8,192 sheet records."
-unfoldable pub report : Bytes → Bytes → Bytes → Bytes
+unfoldable pub script-text : Bytes → Bytes → Bytes → Bytes → Bytes
 unfolding checked-text checking
-report groups types script = checked-text groups types script (verdict groups types script)
+script-text w groups types script = checked-text w groups types script (verdict groups types script)
+
+-- "the report prints only a refusal line if it fails": the rest follows a yes
+abbrev pub after-words : Answer (Unit {0}) → Bytes → Bytes
+after-words (accepted u) rest = rest
+after-words (refused q p) rest = refusal-line q p
+
+-- "A missing file means ours. The table is tried before question 1": none stands for no file `words`.
+unfoldable pub report : Option Bytes → Bytes → Bytes → Bytes → Bytes
+unfolding script-text refusal-line words-check our-words
+report none groups types script = script-text our-words groups types script
+report (some w) groups types script = after-words (words-check w) (script-text w groups types script)

@@ -9,48 +9,57 @@ use Rattle.rules.specs.Answer.{Bytes, byte, Answer, _>>_, ask, each, fir
 use Rattle.rules.specs.Limits.{word-width, word-limit, words-length}
 
 -- byte j of word i
-abbrev pub letter : Bytes → ℕ → ℕ → ℕ
-letter w i j = byte w (word-width * i + j)
+abbrev pub word-byte : Bytes → ℕ → ℕ → ℕ
+word-byte w i j = byte w (word-width * i + j)
 
 -- "letters a to z"
 abbrev pub is-letter : ℕ → Bool
 is-letter c = leb 97 c && leb c 122
 
-abbrev pub or-all : Option ℕ → ℕ
-or-all none = word-width
-or-all (some n) = n
+-- the found number, or 12
+abbrev pub or-12 : Option ℕ → ℕ
+or-12 none = word-width
+or-12 (some n) = n
 
--- how many letters word i starts with
+-- how many letters word i starts with: the place of its first byte that is none
 unfoldable pub letters : Bytes → ℕ → ℕ
 unfolding first-from
-letters w i = or-all (first-below (λ j. not (is-letter (letter w i j))) word-width)
+letters w i = or-12 (first-below (λ j. not (is-letter (word-byte w i j))) word-width)
 
--- the word of index i: its letters
-unfoldable pub word-at : Bytes → ℕ → Bytes
+-- the text of word i: its letters
+unfoldable pub word : Bytes → ℕ → Bytes
 unfolding letters
-word-at w i = take (letters w i) (drop (word-width * i) w)
+word w i = take (letters w i) (drop (word-width * i) w)
 
 -- 32. "Place 0 goes with 32 when the length isn't 72,"
 abbrev pub q32 : Bytes → Answer (Unit {0})
 q32 w = ask 32 0 (eqb (length w) words-length)
 
--- 33. "and the record's index with 33 for a badly formed word": at least one letter, and after the letters zero bytes.
+-- is word i zero bytes from byte n on?
+abbrev pub zeros-from : Bytes → ℕ → ℕ → Bool
+zeros-from w i n = all-below (λ j. leb n j ⇒ eqb (word-byte w i j) 0) word-width
+
+-- 33. "and the record's index with 33 for a badly formed word": at least one letter, and after the letters zero bytes?
 unfoldable pub ok33 : Bytes → ℕ → Bool
 unfolding letters first-from
-ok33 w i = leb 1 (letters w i) && all-below (λ j. leb (letters w i) j ⇒ eqb (letter w i j) 0) word-width
+ok33 w i = leb 1 (letters w i) && zeros-from w i (letters w i)
 
 abbrev pub q33 : Bytes → Answer (Unit {0})
 q33 w = each 33 word-limit (ok33 w)
 
--- 34. "and, all words tried by 33 first, 34 for one equal to an earlier one."
-unfoldable pub ok34 : Bytes → ℕ → Bool
+-- 34. "and, all words tried by 33 first, 34 for one equal to an earlier one": does it differ from each before it?
+unfoldable pub same-word : Bytes → ℕ → ℕ → Bool
 unfolding first-from
-ok34 w i = all-below (λ j. not (all-below (λ k. eqb (letter w i k) (letter w j k)) word-width)) i
+same-word w i j = all-below (λ k. eqb (word-byte w i k) (word-byte w j k)) word-width
+
+unfoldable pub ok34 : Bytes → ℕ → Bool
+unfolding first-from same-word
+ok34 w i = all-below (λ j. not (same-word w i j)) i
 
 abbrev pub q34 : Bytes → Answer (Unit {0})
 q34 w = each 34 word-limit (ok34 w)
 
--- "The table is tried before question 1."
+-- questions 32 to 34
 unfoldable pub words-check : Bytes → Answer (Unit {0})
 unfolding first-from ok33 ok34
 words-check w = do
