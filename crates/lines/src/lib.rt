@@ -3,9 +3,11 @@
 use lattice::Indirect;
 use lattice::Reader;
 use sheet::SHEET_WIDTH;
+ghost use mathlib.Core.Path.{_≡_};
 ghost use mathlib.Core.List.{_++_};
 ghost use Prim.Native.Nat.{_+_, _≤_};
 ghost use lib.ListN.{length};
+ghost use Rattle.rules.specs.Limits.{words-length};
 ghost use Rattle.rules.specs.Report.{decimal, refusal-line, accepted-line, run-line, sheet-line, sheet-lines};
 ghost use Rattle.text.specs.Written.{Written};
 
@@ -48,21 +50,21 @@ pub fn run_line(end: u64, steps: u64, records: u64, out: &mut [u8], at: usize) -
     text::put(b"\n", out, c)
 }
 
-// "closed 0 0"
-fn sheet_line(kind: u8, r: Reader, ir: Indirect, out: &mut [u8], at: usize) -> usize
-    requires { ⌜ at + length (sheet-line kind (r .0) (ir .0)) ≤ length (now out) ⌝ }
-    ensures { λ end. ⌜ Written at (sheet-line kind (r .0) (ir .0)) (now (out .entry)) end (now (out .exit)) ⌝ }
+// "closed 0 0", in the words of a table
+fn sheet_line(words: &[u8], kind: u8, r: Reader, ir: Indirect, out: &mut [u8], at: usize) -> usize
+    requires { ⌜ (length (now words) ≡ words-length) × (at + length (sheet-line (now words) kind (r .0) (ir .0)) ≤ length (now out)) ⌝ }
+    ensures { λ end. ⌜ Written at (sheet-line (now (words .entry)) kind (r .0) (ir .0)) (now (out .entry)) end (now (out .exit)) ⌝ }
 {
-    let a = text::word(kind, out, at);
+    let a = text::word(words, kind, out, at);
     let b = named(b" ", r.0 as u64, out, a);
     let c = named(b" ", ir.0 as u64, out, b);
     text::put(b"\n", out, c)
 }
 
-// A line for each whole record of a sheet.
-pub fn sheet_lines(sheet: &[u8], out: &mut [u8], at: usize) -> usize
-    requires { ⌜ at + length (sheet-lines (now sheet)) ≤ length (now out) ⌝ }
-    ensures { λ end. ⌜ Written at (sheet-lines (now (sheet .entry))) (now (out .entry)) end (now (out .exit)) ⌝ }
+// A line for each whole record of a sheet, in the words of a table.
+pub fn sheet_lines(words: &[u8], sheet: &[u8], out: &mut [u8], at: usize) -> usize
+    requires { ⌜ (length (now words) ≡ words-length) × (at + length (sheet-lines (now words) (now sheet)) ≤ length (now out)) ⌝ }
+    ensures { λ end. ⌜ Written at (sheet-lines (now (words .entry)) (now (sheet .entry))) (now (out .entry)) end (now (out .exit)) ⌝ }
 {
     let n = sheet.len() / SHEET_WIDTH;
     let mut end = at;
@@ -71,7 +73,7 @@ pub fn sheet_lines(sheet: &[u8], out: &mut [u8], at: usize) -> usize
         let k = SHEET_WIDTH * i;
         let r = Reader(sheet[k + 1]);
         let ir = Indirect(sheet[k + 2]);
-        end = sheet_line(sheet[k], r, ir, out, end);
+        end = sheet_line(words, sheet[k], r, ir, out, end);
         i += 1;
     }
     end

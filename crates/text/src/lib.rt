@@ -1,10 +1,15 @@
 // Words and numbers, written over a lent buffer from an offset on. Each function answers the offset after its piece, so that
 // one goes on where another ended.
 
+use words::WORD_LIMIT;
+use words::WORD_WIDTH;
+ghost use mathlib.Core.Path.{_≡_};
 ghost use mathlib.Core.List.{[], _∷_};
 ghost use Prim.Native.Nat.{_+_, _≤_};
 ghost use lib.ListN.{length};
-ghost use Rattle.rules.specs.Report.{decimal, word};
+ghost use Rattle.rules.specs.Limits.{words-length};
+ghost use Rattle.rules.specs.Words.{word};
+ghost use Rattle.rules.specs.Report.{decimal};
 ghost use Rattle.text.specs.Written.{Written};
 
 // Bytes as they are: a fixed byte string of the text.
@@ -37,19 +42,17 @@ pub fn decimal(n: u64, out: &mut [u8], at: usize) -> usize
     digit(n % 10, out, last)
 }
 
-// The word of a sheet record's kind: fixed byte strings. They are put into the buffer that the report program writes, and not
-// written one by one: what a program writes is in no contract, and what a buffer holds is.
-pub fn word(kind: u8, out: &mut [u8], at: usize) -> usize
-    requires { ⌜ at + length (word kind) ≤ length (now out) ⌝ }
-    ensures { λ end. ⌜ Written at (word kind) (now (out .entry)) end (now (out .exit)) ⌝ }
+// The letters of a sheet record's word, by the table's record of its kind. They are put into the buffer that the report program
+// writes, and not written one by one: what a program writes is in no contract, and what a buffer holds is.
+pub fn word(words: &[u8], kind: u8, out: &mut [u8], at: usize) -> usize
+    requires { ⌜ (length (now words) ≡ words-length) × (at + length (word (now words) kind) ≤ length (now out)) ⌝ }
+    ensures { λ end. ⌜ Written at (word (now (words .entry)) kind) (now (out .entry)) end (now (out .exit)) ⌝ }
 {
-    match kind {
-        0 => put(b"unit", out, at),
-        1 => put(b"first", out, at),
-        2 => put(b"second", out, at),
-        3 => put(b"pair", out, at),
-        4 => put(b"function", out, at),
-        5 => put(b"closed", out, at),
-        _ => at,
+    let i = kind as usize;
+    if WORD_LIMIT <= i {
+        return at;
     }
+    let n = words::letters(words, i);
+    memory::copy_part(words, WORD_WIDTH * i, n, out, at);
+    at + n
 }

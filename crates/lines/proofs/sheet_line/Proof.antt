@@ -1,9 +1,10 @@
--- `lines::sheet_line` meets its contract: a word, two numbers, and the end of the line.
+-- `lines::sheet_line` meets its contract: a word of the table, two numbers, and the end of the line.
 use mathlib.Core.List.{_++_}
 use Prim.Native.Nat.{_+_, _≤_}
 use lib.ListN.{length}
 use Rattle.rules.specs.Answer.{Bytes}
-use Rattle.rules.specs.Report.{text, word, named, sheet-line}
+use Rattle.rules.specs.Words.{word}
+use Rattle.rules.specs.Report.{text, named, sheet-line}
 use Rattle.text.specs.Written.{Written}
 use Rattle.text.proofs.Placed.{room-first, room-next, both}
 use borrow.Author.Needs.{needs}
@@ -12,7 +13,7 @@ use Rattle.lines.proofs.sheet_line.Tie as tie
 
 -- the line, a piece longer each time
 abbrev front-1 : tie.Start → Bytes
-front-1 s = word (s .args .kind)
+front-1 s = word (s .args .words .now) (s .args .kind)
 
 abbrev front-2 : tie.Start → Bytes
 front-2 s = front-1 s ++ named " " (s .args .r .0)
@@ -26,7 +27,7 @@ front-4 s = front-3 s ++ text "\n"
 -- and the room for each
 room-4 : (s : tie.Start) → s .args .at + length (front-4 s) ≤ length (s .args .out .now)
 unfolding sheet-line
-room-4 s = s .pre
+room-4 s = s .pre .1
 
 room-3 : (s : tie.Start) → s .args .at + length (front-3 s) ≤ length (s .args .out .now)
 room-3 s = room-first (s .args .at) (front-3 s) (text "\n") (s .args .out .now) (room-4 s)
@@ -39,9 +40,9 @@ room-1 s = room-first (s .args .at) (front-1 s) (named " " (s .args .r .0)) (s .
 
 -- what is written after each of them
 abbrev start-1 : tie.After-word → tie.Start
-start-1 c = c .before .before .before
+start-1 c = c .before .before .before .before
 
-wrote-1 : (c : tie.After-word) → let s = start-1 c in Written (s .args .at) (front-1 s) (s .args .out .now) (c .word .result) (c .word .last .1 .0)
+wrote-1 : (c : tie.After-word) → let s = start-1 c in Written (s .args .at) (front-1 s) (s .args .out .now) (c .word .result) (c .word .last .1 .1 .0)
 unfolding text
 wrote-1 c = c .word .ensures
 
@@ -60,7 +61,7 @@ unfolding text
 wrote-3 c = both (room-3 (start-3 c)) (wrote-2 (c .before .before .before .before .before .before)) (c .named2 .ensures)
 
 word-requires : tie.Need-word-requires
-word-requires c κs = room-1 (c .before .before)
+word-requires c κs = let s = c .before .before .before in (s .pre .0, room-1 s)
 
 slice-aggregate-named : tie.Need-slice-aggregate-named
 slice-aggregate-named c = search needs
