@@ -1,11 +1,11 @@
--- Room in the written buffer: no text of the report is longer, whatever the three files hold. A number has at most 20 digits, and
--- a word at most 8 letters.
+-- Room in the written buffer: no text of the report is longer, whatever the files hold. A number has at most 20 digits, and a word
+-- at most 12 letters.
 use Prim.Native.Nat.{ℕ, _+_, _*_}
 use Rattle.rules.specs.Limits.{script-limit}
 
--- the sheet's lines, at most 51 bytes each
+-- the sheet's lines, at most 55 bytes each
 abbrev pub value-room : ℕ
-value-room = 51 * script-limit
+value-room = 55 * script-limit
 
 -- and the run's line before them
 abbrev pub run-room : ℕ

@@ -12,7 +12,7 @@ unopened-requires : tie.Need-unopened-requires
 unopened-requires c κs = search needs
 
 returns : tie.Need-returns
-returns c = λ n e. omega (arith, c .unopened .ensures n e)
+returns c = λ n e. absurd (c .unopened .ensures n e)
 
 read-full-requires : tie.Need-read-full-requires
 read-full-requires c κs = search needs

@@ -4,6 +4,7 @@ use Prim.Native.Nat.{_≤_}
 use native.Mathlib.Omega.{arith}
 use lib.ListN.{length}
 use lib.Seq.{length-take-le}
+use Rattle.report.specs.Supplied.{file}
 use Rattle.report.proofs.Texts.{report-length}
 use borrow.Author.Needs.{needs}
 use Rattle.report.proofs.print_report.Statement.{statement}
@@ -15,16 +16,16 @@ slice-aggregate-write-report c = search needs
 write-report-requires : tie.Need-write-report-requires
 write-report-requires c κs = omega arith
 
-fits : (c : tie.After-write-report) → c .write-report .result ≤ length (c .write-report .last .1 .1 .1 .0)
+fits : (c : tie.After-write-report) → c .write-report .result ≤ length (c .write-report .last .1 .1 .1 .1 .1 .0)
 fits c =
-    let s = c .before .before .before .before .before in
-    omega (arith, c .write-report .ensures .ends, report-length (s .args .groups .now) (s .args .types .now) (s .args .script .now))
+    let s = c .before .before .before .before .before .before in
+    omega (arith, c .write-report .ensures .ends, report-length (file (s .args .supplied) (s .args .words .now)) (s .args .groups .now) (s .args .types .now) (s .args .script .now))
 
 array-share-prefix-out : tie.Need-array-share-prefix-out
 array-share-prefix-out c = fits (c .before)
 
 slice-aggregate-write-all : tie.Need-slice-aggregate-write-all
-slice-aggregate-write-all c = let w = c .before .before in sym (length-take-le (w .write-report .result) (w .write-report .last .1 .1 .1 .0) (fits w))
+slice-aggregate-write-all c = let w = c .before .before in sym (length-take-le (w .write-report .result) (w .write-report .last .1 .1 .1 .1 .1 .0) (fits w))
 
 write-all-requires : tie.Need-write-all-requires
 write-all-requires c κs = search needs

@@ -40,7 +40,7 @@ answer s = running (s .args .groups .now) (s .args .types .now) (s .args .script
 
 -- where it ended, the numbers that it ended with
 abbrev start : tie.After-known-told → tie.Start
-start c = c .before .before .before .before .before .before .before .before .before .before .before .before
+start c = c .before .before .before .before .before .before .before .before .before .before .before .before .before
 
 abbrev end-of : tie.After-known-told → ℕ
 end-of c = c .before .a .given .0 .0
@@ -60,7 +60,7 @@ run-of c = ended (answer (start c)) (end-of c) (steps-of c) (records-of c) (sym 
 few : (c : tie.After-known-told) → records-of c ≤ script-limit
 few c =
     let s = start c in
-    let o : Octets (s .args .script .now) = λ j. omega (arith, c .before .before .before .before .before .before .before .before .before .shared-slice-known3 .given j) in
+    let o : Octets (s .args .script .now) = λ j. omega (arith, c .before .before .before .before .before .before .before .before .before .shared-slice-known4 .given j) in
     few-records (s .args .groups .now) (s .args .types .now) (s .args .script .now) report-budget report-buffer report-buffer (end-of c) (steps-of c) (records-of c) o (run-of c)
 
 -- its last term, in front of the first buffer
@@ -71,7 +71,7 @@ last-of : (c : tie.After-known-told) → encode (run-of c .ran .last) ≡ take (
 last-of c = last-in-front (answer (start c)) (end-of c) (steps-of c) (records-of c) _ (first-of c) (run-of c) (c .before .before .before .before .before .run .ensures .1)
 
 run-line-requires : tie.Need-run-line-requires
-run-line-requires c κs = run-line-fits _ _ _ _ _ (omega (arith, start (c .before) .pre))
+run-line-requires c κs = run-line-fits _ _ _ _ _ (omega (arith, start (c .before) .pre .1))
 
 mul-bytes : tie.Need-mul-bytes
 mul-bytes c = omega (arith, few (c .before .before .before .before))
@@ -87,13 +87,14 @@ abbrev line : tie.After-known-told → Bytes
 line c = run-line (end-of c) (steps-of c) (records-of c)
 
 room : (c : tie.After-known-told) → start c .args .at + length (line c) ≤ length (start c .args .out .now)
-room c = run-line-fits (end-of c) (steps-of c) (records-of c) _ _ (omega (arith, start c .pre))
+room c = run-line-fits (end-of c) (steps-of c) (records-of c) _ _ (omega (arith, start c .pre .1))
 
 value-text-requires : tie.Need-value-text-requires
 value-text-requires c κs =
     let k = c .before .before .before .before .before .before in
     let w = c .before .before .before .before .run-line .ensures in
-    omega (arith, w .ends, keeps w (room k), run-length (end-of k) (steps-of k) (records-of k), start k .pre)
+    let p = start k .pre in
+    (p .0, omega (arith, w .ends, keeps w (room k), run-length (end-of k) (steps-of k) (records-of k), p .1))
 
 enum-known-a-2 : tie.Need-enum-known-a-2
 enum-known-a-2 c = search needs
@@ -102,7 +103,7 @@ cast-refusal-line : tie.Need-cast-refusal-line
 cast-refusal-line c = search needs
 
 refusal-line-requires : tie.Need-refusal-line-requires
-refusal-line-requires c κs = refusal-fits _ _ _ _ (omega (arith, c .before .before .before .before .before .before .before .before .before .before .before .before .before .pre))
+refusal-line-requires c κs = refusal-fits _ _ _ _ (omega (arith, c .before .before .before .before .before .before .before .before .before .before .before .before .before .before .pre .1))
 
 same-length : tie.Need-same-length
 same-length c = search needs
@@ -113,8 +114,8 @@ returns c =
     let s = start k in
     let x = run-of k in
     let v = c .before .before .value-text in
-    subst (λ (b : Bytes). Written (s .args .at) b (s .args .out .now) (v .result) (v .last .1 .1 .1 .1 .0))
-    (sym (run-accepted (s .args .groups .now) (s .args .types .now) (answer s) (end-of k) (steps-of k) (records-of k) x))
+    subst (λ (b : Bytes). Written (s .args .at) b (s .args .out .now) (v .result) (v .last .1 .1 .1 .1 .1 .0))
+    (sym (run-accepted (s .args .words .now) (s .args .groups .now) (s .args .types .now) (answer s) (end-of k) (steps-of k) (records-of k) x))
     (then (c .before .before .before .before .before .before .before .run-line .ensures) (v .ensures (x .ran) (x .end-is) (last-of k)) (room k))
 
 same-length-2 : tie.Need-same-length-2
@@ -122,11 +123,11 @@ same-length-2 c = search needs
 
 returns-2 : tie.Need-returns-2
 returns-2 c =
-    let s = c .before .before .before .before .before .before .before .before .before .before .before .before .before .before .before .before in
+    let s = c .before .before .before .before .before .before .before .before .before .before .before .before .before .before .before .before .before in
     let a = c .before .before .before .before .before .a2 .given in
     let r = c .before .before .refusal-line in
     subst (λ (b : Bytes). Written (s .args .at) b (s .args .out .now) (r .result) (r .last .1 .1 .0))
-    (sym (run-refused (s .args .groups .now) (s .args .types .now) (answer s) (a .0 .0) (a .0 .1 .0) (sym (ap said-run (a .1)) ∙ c .before .before .before .before .before .before .before .before .before .run .ensures .0)))
+    (sym (run-refused (s .args .words .now) (s .args .groups .now) (s .args .types .now) (answer s) (a .0 .0) (a .0 .1 .0) (sym (ap said-run (a .1)) ∙ c .before .before .before .before .before .before .before .before .before .run .ensures .0)))
     (r .ensures)
 
 pub run-text-spec : {M : Type 1} → statement M

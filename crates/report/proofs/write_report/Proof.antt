@@ -1,81 +1,103 @@
--- `report::write_report` meets its contract: the first line, and then the run's text.
-use mathlib.Core.Path.{sym, ap, subst, _∙_}
+-- `report::write_report` meets its contract: the words are asked first, or ours are used; then comes the script's text.
+use mathlib.Core.Path.{_≡_, sym, ap, subst, _∙_}
 use native.Mathlib.Omega.{arith}
-use Rattle.rules.specs.Answer.{Bytes}
-use Rattle.typing.specs.Said.{said}
+use Rattle.rules.specs.Answer.{Bytes, accepted}
+use Rattle.rules.specs.Words.{words-check}
+use Rattle.answer.specs.Said.{said}
+use Rattle.answer.proofs.Passed.{accepts}
 use Rattle.text.specs.Written.{Written}
-use Rattle.text.proofs.Placed.{then}
-use Rattle.report.specs.Room.{run-room}
-use Rattle.report.proofs.Texts.{report-accepted, report-refused, refusal-fits, accepted-fits, after-accepted}
+use Rattle.report.proofs.Texts.{ours-report, own-report, words-refused, words-whole, refusal-fits}
 use borrow.Author.Needs.{needs}
 use Rattle.report.proofs.write_report.Statement.{statement}
 use Rattle.report.proofs.write_report.Tie as tie
 
-slice-aggregate-checking : tie.Need-slice-aggregate-checking
-slice-aggregate-checking c = search needs
+slice-aggregate-our-words : tie.Need-slice-aggregate-our-words
+slice-aggregate-our-words c = search needs
 
-slice-aggregate-checking-2 : tie.Need-slice-aggregate-checking-2
-slice-aggregate-checking-2 c = search needs
+our-words-requires : tie.Need-our-words-requires
+our-words-requires c κs = search needs
 
-checking-requires : tie.Need-checking-requires
-checking-requires c κs = search needs
+slice-aggregate-script-text : tie.Need-slice-aggregate-script-text
+slice-aggregate-script-text c = search needs
 
-enum-known-a : tie.Need-enum-known-a
-enum-known-a c = search needs
-
-accepted-line-requires : tie.Need-accepted-line-requires
-accepted-line-requires c κs = accepted-fits _ 0 _ (omega (arith, c .before .before .before .before .before .before .before .before .before .before .before .before .before .pre))
-
-run-text-requires : tie.Need-run-text-requires
-run-text-requires c κs = after-accepted _ run-room (c .before .before .before .accepted-line .ensures) (omega (arith, c .before .before .before .before .before .before .before .before .before .before .before .before .before .before .before .before .before .pre))
-
-enum-known-a-2 : tie.Need-enum-known-a-2
-enum-known-a-2 c = search needs
-
-cast-refusal-line : tie.Need-cast-refusal-line
-cast-refusal-line c = search needs
-
-refusal-line-requires : tie.Need-refusal-line-requires
-refusal-line-requires c κs = refusal-fits _ _ 0 _ (omega (arith, c .before .before .before .before .before .before .before .before .before .before .before .before .before .pre))
+script-text-requires : tie.Need-script-text-requires
+script-text-requires c κs = search needs
 
 same-length : tie.Need-same-length
 same-length c = search needs
 
 returns : tie.Need-returns
 returns c =
-    let s = c .before .before .before .before .before .before .before .before .before .before .before .before .before .before .before .before .before .before .before .before in
-    let a = c .before .before .before .before .before .before .before .before .before .a .given in
-    let r = c .before .before .run-text in
-    subst (λ (b : Bytes). Written 0 b (s .args .out .now) (r .result) (r .last .1 .1 .1 .0))
-    (sym (report-accepted (s .args .groups .now) (s .args .types .now) (s .args .script .now) (a .0 .0) (sym (ap said (a .1)) ∙ c .before .before .before .before .before .before .before .before .before .before .before .before .before .checking .ensures .0)))
-    (then (c .before .before .before .before .before .before .accepted-line .ensures) (r .ensures) (accepted-fits _ 0 _ (omega (arith, s .pre))))
+    let s = c .before .before .before .before .before .before .before .before .before .before .before .before .before .before in
+    let x = c .before .before .script-text in
+    subst (λ (b : Bytes). Written 0 b (s .args .out .now) (x .result) (x .last .1 .1 .1 .1 .0))
+    (ours-report (s .args .words .now) _ (s .args .groups .now) (s .args .types .now) (s .args .script .now) (s .args .supplied) (c .before .before .before .before .before .before .before .before .if1 .taken) (c .before .before .before .before .before .before .our-words .ensures))
+    (x .ensures)
+
+words-check-requires : tie.Need-words-check-requires
+words-check-requires c κs = search needs
+
+enum-told : tie.Need-enum-told
+enum-told c = search needs
+
+-- a studio's own words pass
+passed : (c : tie.After-enum-told) → words-check (c .before .before .before .before .before .before .before .before .before .args .words .now) ≡ accepted tt
+passed c = accepts (c .before .before .words-check .result) _ (c .before .match .keys1) (c .before .before .words-check .ensures)
+
+script-text-requires-2 : tie.Need-script-text-requires-2
+script-text-requires-2 c κs =
+    let s = c .before .before .before .before .before .before .before .before .before .before in
+    (words-whole (s .args .words .now) (passed (c .before)), s .pre)
+
+enum-known-a : tie.Need-enum-known-a
+enum-known-a c = search needs
+
+cast-refusal-line : tie.Need-cast-refusal-line
+cast-refusal-line c = search needs
+
+refusal-line-requires : tie.Need-refusal-line-requires
+refusal-line-requires c κs = refusal-fits _ _ 0 _ (omega (arith, c .before .before .before .before .before .before .before .before .before .before .before .pre))
 
 same-length-2 : tie.Need-same-length-2
 same-length-2 c = search needs
 
 returns-2 : tie.Need-returns-2
 returns-2 c =
-    let s = c .before .before .before .before .before .before .before .before .before .before .before .before .before .before .before .before in
-    let a = c .before .before .before .before .before .a2 .given in
+    let s = c .before .before .before .before .before .before .before .before .before .before .before .before .before in
+    let x = c .before .before .script-text2 in
+    subst (λ (b : Bytes). Written 0 b (s .args .out .now) (x .result) (x .last .1 .1 .1 .1 .0))
+    (own-report (s .args .words .now) (s .args .groups .now) (s .args .types .now) (s .args .script .now) (s .args .supplied) (c .before .before .before .before .before .before .before .if1 .left) (passed (c .before .before .before .before)))
+    (x .ensures)
+
+same-length-3 : tie.Need-same-length-3
+same-length-3 c = search needs
+
+returns-3 : tie.Need-returns-3
+returns-3 c =
+    let s = c .before .before .before .before .before .before .before .before .before .before .before .before .before .before in
+    let a = c .before .before .before .before .before .a .given in
     let r = c .before .before .refusal-line in
     subst (λ (b : Bytes). Written 0 b (s .args .out .now) (r .result) (r .last .1 .1 .0))
-    (sym (report-refused (s .args .groups .now) (s .args .types .now) (s .args .script .now) (a .0 .0) (a .0 .1 .0) (sym (ap said (a .1)) ∙ c .before .before .before .before .before .before .before .before .before .checking .ensures .0)))
+    (words-refused (s .args .words .now) (s .args .groups .now) (s .args .types .now) (s .args .script .now) (s .args .supplied) (a .0 .0) (a .0 .1 .0) (c .before .before .before .before .before .before .before .before .if1 .left) (sym (c .before .before .before .before .before .before .before .words-check .ensures) ∙ ap said (a .1)))
     (r .ensures)
 
 pub write-report-spec : {M : Type 1} → statement M
 write-report-spec =
     tie.close
     (tie.spec
-    slice-aggregate-checking
-    slice-aggregate-checking-2
-    checking-requires
-    enum-known-a
-    accepted-line-requires
-    run-text-requires
-    enum-known-a-2
-    cast-refusal-line
-    refusal-line-requires
+    slice-aggregate-our-words
+    our-words-requires
+    slice-aggregate-script-text
+    script-text-requires
     same-length
     returns
+    words-check-requires
+    enum-told
+    script-text-requires-2
+    enum-known-a
+    cast-refusal-line
+    refusal-line-requires
     same-length-2
-    returns-2)
+    returns-2
+    same-length-3
+    returns-3)
