@@ -10,12 +10,13 @@ use lib.Dec.{eqb, leb, ltb}
 use lib.ListN.{length, getD}
 use Rattle.calculus.specs.Terms.{is-value}
 use Rattle.rules.specs.Answer.{Bytes, Octets, Answer, accepted, refused, _>>=_, _>>_, ask, first-from, refused-at, each, all-below}
-use Rattle.rules.specs.Limits.{row-width, type-width, script-width, group-limit, table-limit, script-limit, last-question, work-length, answer-length}
+use Rattle.rules.specs.Limits.{row-width, type-width, script-width, group-limit, table-limit, script-limit, word-limit, words-length, last-question, work-length, answer-length}
 use Rattle.rules.specs.Groups.{rows, readers, ok3, ok4, ok5, ok6, ok7, q2, q3, q4, q5, q6}
 use Rattle.rules.specs.Types.{type-count, type-at, ok9, ok10, ok11, ok12, q8, q9, q10, q11}
 use Rattle.rules.specs.Script.{records, arity, kind, term, size, depths, binders, term-end, exactly, ok14, ok15, ok16, ok18, ok19, q13, q14, q15, q16, q17, q18}
 use Rattle.rules.specs.Typing.{typing}
 use Rattle.rules.specs.Sheet.{sheet}
+use Rattle.rules.specs.Words.{q32, q33, q34, ok33, ok34, words-check}
 use Rattle.rules.specs.Calls.{q1, q25, q26, q27, groups-check, types-check, comparing, script-check, checking, stepping, running, sheeting}
 use Rattle.rules.proofs.ScriptLength.{q13-fitting}
 use Rattle.rules.proofs.Scripts.{whole}
@@ -69,6 +70,13 @@ groups-bounded g =
     then (q5 g) _ (each-bounded 5 (rows g) (ok5 g) (omega arith) (omega arith) n) λ e5.
     then (q6 g) _ (each-bounded 6 (rows g) (ok6 g) (omega arith) (omega arith) n) λ e6.
     front 7 (ok7 g) (omega arith) (omega arith)
+
+pub words-bounded : (w : Bytes) → Bounded (words-check w)
+unfolding words-check
+words-bounded w =
+    then (q32 w) _ (front 32 (eqb (length w) words-length) (omega arith) (omega arith)) λ e32.
+    then (q33 w) _ (each-bounded 33 word-limit (ok33 w) (omega arith) (omega arith) (omega arith)) λ e33.
+    each-bounded 34 word-limit (ok34 w) (omega arith) (omega arith) (omega arith)
 
 pub types-bounded : (g t : Bytes) → Bounded (types-check g t)
 unfolding types-check

@@ -6,6 +6,7 @@ ghost use Prim.Native.Nat.{min};
 ghost use lib.ListN.{length, take};
 ghost use Rattle.rules.specs.Groups.{bit};
 ghost use Rattle.rules.specs.Script.{subterm};
+ghost use Rattle.rules.specs.Words.{words-check};
 ghost use Rattle.rules.specs.Strip.{strip-script, strip-types};
 ghost use Rattle.rules.specs.Calls.{fill-front, groups-check, types-check, stepping, step-report, written-after};
 ghost use Rattle.answer.specs.Said.{said};
@@ -37,6 +38,13 @@ pub extern "C" fn probe_types_check(groups: &[u8], types: &[u8]) -> u64
     ensures { λ n. ⌜ n ≡ packed (passed (types-check (now (groups .entry)) (now (types .entry)))) ⌝ }
 {
     checked(types_table::types_check(groups, types))
+}
+
+#[no_mangle]
+pub extern "C" fn probe_words_check(words: &[u8]) -> u64
+    ensures { λ n. ⌜ n ≡ packed (passed (words-check (now (words .entry)))) ⌝ }
+{
+    checked(words::words_check(words))
 }
 
 fn one_or_zero(yes: bool) -> u64
