@@ -1,5 +1,5 @@
 /*
- * Writes the example folders' files groups, types and script:
+ * Writes the example folders' files groups, types and script, and words where a studio has its own:
  *
  *     cc -o make examples/make.c && ./make examples
  *
@@ -197,6 +197,35 @@ static void leak_script(void)
         loan_entry();
 }
 
+/* ---- a page in a studio's own words */
+
+static void page_types(void)
+{
+    choice_type(ANYONE); /* STATE, as above */
+}
+
+static void page_script(void)
+{
+    pair(ANYONE);
+        choice(1, ANYONE, STATE); /* loose */
+        pair(ANYONE);
+            function(ANYONE, STATE); /* what becomes of a state: nothing */
+                variable(0);
+            record(1, BENCH, BENCH, 0); /* a mark of the bench's own */
+}
+
+/* Six records of 12 bytes: the letters of a word, then zero bytes. The order is that of the sheet's kinds. */
+static void own_words(const char *folder, const char *name)
+{
+    static const char words[6][13] = { "einheit", "erstes", "zweites", "paar", "funktion", "verschlossen" };
+
+    start(folder, name, "words");
+    for (int i = 0; i < 6; i++)
+        for (int j = 0; j < 12; j++)
+            byte((unsigned char)words[i][j]);
+    fclose(file);
+}
+
 static void example(const char *folder, const char *name, void (*types)(void), void (*script)(void))
 {
     groups(folder, name);
@@ -217,5 +246,7 @@ int main(int count, char **words)
     example(words[1], "bench-record", bench_types, bench_script);
     example(words[1], "loan-sheet", loan_types, loan_script);
     example(words[1], "loan-leak", loan_types, leak_script);
+    example(words[1], "own-words", page_types, page_script);
+    own_words(words[1], "own-words");
     return 0;
 }

@@ -78,6 +78,8 @@ try 'no name' 2 'usage: report [FOLDER]' report ''
 try 'no folder' 2 'there is no folder gone' report gone
 try 'a file' 2 'loan/groups is no folder' report loan/groups
 try 'none of the files' 2 'has none of the files' report "$work/empty"
+touch "$work/empty/words"
+try 'words alone' 2 'has none of the files' report "$work/empty"
 
 mv "$work/tools/rt" "$work/rt"
 try 'no rt' 2 'there is no rt' report loan

@@ -30,3 +30,8 @@ fn loan_sheet() {
 fn loan_leak() {
     prints_expected("loan-leak");
 }
+
+#[test]
+fn own_words() {
+    prints_expected("own-words");
+}
