@@ -18,9 +18,9 @@
 extern "C" {
 #endif
 
-/* The free stack that wigneld_compare needs, whatever it is lent. Two types of 63 records, as deep as they can be, were seen to take
-   8,408 bytes. */
-#define WIGNELD_COMPARE_STACK_BYTES 12288
+/* The free stack that wigneld_compare needs, whatever it is lent, as wigneld.h means it. Two types of 63 records, as deep as they can
+   be, were seen to take 8,400 bytes; the number is this and at least a sixteenth more. */
+#define WIGNELD_COMPARE_STACK_BYTES 10240
 
 /*
  * Compares two types of one table, each named by the index of its first record: questions 2 to 12 and 25, whose place is 0 for the

@@ -1,8 +1,8 @@
 /*
- * The stack that each function needs, held against the header.
+ * The stack that each function needs, held against the headers.
  *
  * For each function, many scripts as deep as a script may be: each kind of record on the way down, and below it what goes
- * deepest, over types as deep as 63 records can be. A script is tried in child processes, in a thread with ever less free stack,
+ * deepest, over types as deep as 63 records can be; for the comparison these types themselves. A script is tried in child processes, in a thread with ever less free stack,
  * until the least that it doesn't crash with is known. The header's number is the most of these and a margin. Then each of the
  * scripts is run in a thread with just what the header says, and in one of the size that the header advises.
  */
@@ -17,7 +17,7 @@
 #include <sys/wait.h>
 #include <unistd.h>
 
-#include "wigneld.h"
+#include "wigneld_office.h"
 
 static void fail(const char *what)
 {
@@ -58,6 +58,7 @@ static void put_types(void)
 struct script {
     uint8_t bytes[WIGNELD_SCRIPT_LONGEST_BYTES];
     size_t count, owed;
+    unsigned type; /* the index that a comparison is given twice */
     unsigned depth, binders;
 };
 
@@ -225,12 +226,13 @@ static void sheet_script(struct script *s, enum way way)
     pay(s);
 }
 
-/* The three calls, in buffers that stand apart from the stack. */
+/* The calls, in buffers that stand apart from the stack. */
 
-enum call { CHECK, RUN, SHEET, CALLS };
+enum call { CHECK, RUN, SHEET, COMPARE, CALLS };
 
-static const char *const names[CALLS] = { "wigneld_check", "wigneld_run", "wigneld_sheet" };
-static const size_t promised[CALLS] = { WIGNELD_CHECK_STACK_BYTES, WIGNELD_RUN_STACK_BYTES, WIGNELD_SHEET_STACK_BYTES };
+static const char *const names[CALLS] = { "wigneld_check", "wigneld_run", "wigneld_sheet", "wigneld_compare" };
+static const size_t promised[CALLS] = { WIGNELD_CHECK_STACK_BYTES, WIGNELD_RUN_STACK_BYTES, WIGNELD_SHEET_STACK_BYTES,
+                                        WIGNELD_COMPARE_STACK_BYTES };
 
 /* A call in a thread, with `wanted` bytes of free stack, or however much there is. */
 struct job {
@@ -263,6 +265,9 @@ __attribute__((noinline)) static void make_call(struct job *job)
         break;
     case SHEET:
         job->answer = wigneld_sheet(groups, sizeof groups, types, sizeof types, script, length, 0, sheet, sizeof sheet);
+        break;
+    case COMPARE:
+        job->answer = wigneld_compare(groups, sizeof groups, types, sizeof types, job->script->type, job->script->type);
         break;
     case CALLS: break;
     }
@@ -406,6 +411,12 @@ static int script_of(enum call call, unsigned number, struct script *s)
             return 0;
         sheet_script(s, values[number]);
         return 1;
+    case COMPARE:
+        /* A type beside itself: only related types are walked to their end. */
+        if (number >= COMBS)
+            return 0;
+        s->type = number * RECORDS_OF_A_COMB;
+        return 1;
     case CALLS: break;
     }
     return 0;
@@ -435,6 +446,8 @@ static unsigned hold(enum call call)
         /* Refused before anything goes deep, a script tries nothing. */
         if (wigneld_question(answer) != 0 && wigneld_question(answer) < 20)
             fail("a script is no whole term of depth 256");
+        if (call == COMPARE && wigneld_comparison(answer) != WIGNELD_COMPARE_SAME)
+            fail("a type is not the same as itself");
     }
     return number;
 }

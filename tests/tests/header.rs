@@ -1,6 +1,6 @@
-//! `include/wigneld.h`: every constant is the engine's, by its Rattle sources, and the second implementation's; every prototype is
-//! that of an exported function, and none is missing. The stack's three numbers are held by `c/stack.c`, the readers of answers by
-//! `c/client.c`.
+//! `include/wigneld.h`: every constant is the engine's, by its Rattle sources, and the second implementation's. Of it and of
+//! `include/wigneld_office.h` every prototype is that of an exported function, and none is missing. The stack's numbers are held by
+//! `c/stack.c`, the readers of answers by `c/client.c` and `c/office.c`, which holds the comparison's numbers too.
 
 use std::collections::BTreeMap;
 use std::fs;
@@ -14,8 +14,9 @@ fn root() -> PathBuf {
     Path::new(env!("CARGO_MANIFEST_DIR")).join("..")
 }
 
-fn header() -> String {
-    fs::read_to_string(root().join("include/wigneld.h")).expect("include/wigneld.h")
+fn header(archive: &str) -> String {
+    let path = root().join(format!("include/{archive}.h"));
+    fs::read_to_string(&path).unwrap_or_else(|e| panic!("{path:?}: {e}"))
 }
 
 /// A product of numbers and names, with brackets around it or not.
@@ -31,7 +32,7 @@ fn product(text: &str, named: &dyn Fn(&str) -> usize) -> usize {
 /// The header's constants by name, without their prefix.
 fn constants() -> BTreeMap<String, usize> {
     let mut found = BTreeMap::new();
-    for line in header().lines() {
+    for line in header("wigneld").lines() {
         let Some((name, value)) =
             line.strip_prefix("#define WIGNELD_").and_then(|rest| rest.split_once(' '))
         else {
@@ -264,8 +265,8 @@ fn tidy(text: &str) -> String {
 }
 
 /// The prototypes in the header, by name.
-fn prototypes() -> BTreeMap<String, String> {
-    let text = header();
+fn prototypes(archive: &str) -> BTreeMap<String, String> {
+    let text = header(archive);
     let starts = text.match_indices("\nuint64_t wigneld_");
     starts
         .map(|(at, _)| {
@@ -276,9 +277,10 @@ fn prototypes() -> BTreeMap<String, String> {
         .collect()
 }
 
-/// The exported functions of the engine, as C declares them: a slice is a pointer and a length.
-fn exports() -> BTreeMap<String, String> {
-    let text = fs::read_to_string(root().join("crates/wigneld/src/lib.rt")).expect("wigneld");
+/// The exported functions of an archive, as C declares them: a slice is a pointer and a length.
+fn exports(archive: &str) -> BTreeMap<String, String> {
+    let path = root().join(format!("crates/{archive}/src/lib.rt"));
+    let text = fs::read_to_string(&path).unwrap_or_else(|e| panic!("{path:?}: {e}"));
     let starts = text.match_indices("#[no_mangle]\npub extern \"C\" fn ");
     starts
         .map(|(at, start)| {
@@ -306,6 +308,8 @@ fn exports() -> BTreeMap<String, String> {
 
 #[test]
 fn every_prototype_is_an_exported_functions() {
-    assert!(!prototypes().is_empty());
-    assert_eq!(prototypes(), exports());
+    for archive in ["wigneld", "wigneld_office"] {
+        assert!(!prototypes(archive).is_empty());
+        assert_eq!(prototypes(archive), exports(archive));
+    }
 }
