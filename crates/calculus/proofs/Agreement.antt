@@ -101,7 +101,7 @@ module _ (S : Security) (tab : ℕ → Ty) where
   step-says (proj d w e) = operand-says (in-proj d w hole) e _ _ (step-says e) λ v. redex-says (project-redex S tab d w e v)
   step-says (case w i e a b) = operand-says (in-case w i hole a b) e _ _ (step-says e) λ v. redex-says (branch-redex S tab w i e a b v)
   step-says (protect m e) = operand-says (in-protect m hole) e _ _ (step-says e) λ v. redex-says (contracting (c-protect v))
-  step-says (mu i e) = redex-says (unroll-redex S tab i e (tab i) refl)
+  step-says (mu w i e) = redex-says (unroll-redex S tab w i e (tab i) refl)
 
   redex-at : {e r : Term} {x : Outcome} (E : Context) → e ≡ plug E r → Redex S tab r x → step S tab e ≡ within (plug E) x
   redex-at E p r = rw p (plug-step S tab E _ _ (redex-unfinished r) (redex-step S tab r))

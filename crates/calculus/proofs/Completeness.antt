@@ -129,9 +129,9 @@ module _ {S : Security} {tab : ℕ → Ty} (L : Laws S) (T : Table S tab) where
       → InferredBelow S tab Γ (protect m e) (raiseT S t m)
   protect-below m h x = record { least = _; inferred = i-protect h (x .inferred); below = raise-directed L m m (x .below) (L .leI-refl m h) }
 
-  mu-below : {Γ : List Ty} {k : Property} {s t : Ty} {e : Term} (i : ℕ) → tab i ≡ node function k s t → So (S .absorbs k (top t))
-      → InferredBelow S tab (tab i ∷ Γ) e (tab i) → InferredBelow S tab Γ (mu i e) (tab i)
-  mu-below i e h x = record { least = tab i; inferred = i-mu e h (x .inferred) (x .below); below = directed-refl L below (tab i) (T .secure i) }
+  mu-below : {Γ : List Ty} {k : Property} {s t : Ty} {e : Term} (w : Reader) (i : ℕ) → tab i ≡ node function k s t → So (S .permits k (S .caller k w))
+      → So (S .absorbs k (top t)) → InferredBelow S tab (tab i ∷ Γ) e (tab i) → InferredBelow S tab Γ (mu w i e) (tab i)
+  mu-below w i e m h x = record { least = tab i; inferred = i-mu e m h (x .inferred) (x .below); below = directed-refl L below (tab i) (T .secure i) }
 
   extend-table : {Γ Δ : List Ty} (i : ℕ) → Narrower S Γ Δ → Narrower S (tab i ∷ Γ) (tab i ∷ Δ)
   extend-table i N = n-extend (subtype-reflexive L (tab i) (T .secure i)) N
@@ -153,7 +153,7 @@ module _ {S : Security} {tab : ℕ → Ty} (L : Laws S) (T : Table S tab) where
       case-below w i (x .inferred) (x .below) m
       (λ s z. typed-inferred q (n-extend (directed-subtype z) N)) (λ t z. typed-inferred q′ (n-extend (directed-subtype z) N))
   typed-inferred (t-protect {m = m} h p) N = protect-below m h (typed-inferred p N)
-  typed-inferred (t-mu {i = i} e h p) N = mu-below i e h (typed-inferred p (extend-table i N))
+  typed-inferred (t-mu {w = w} {i = i} e m h p) N = mu-below w i e m h (typed-inferred p (extend-table i N))
 
   same-context : {Γ : List Ty} → SecureContext S Γ → Narrower S Γ Γ
   same-context sc-empty = n-empty

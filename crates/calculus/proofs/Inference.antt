@@ -8,7 +8,7 @@ use Rattle.calculus.specs.Security.{Security}
 use Rattle.calculus.specs.Types.{Former, sum, product, function, Ty, one, node, same, top, fits, when, Parts, parts}
 use Rattle.calculus.specs.Subtyping.{below, subtype}
 use Rattle.calculus.specs.Terms.{choose, Term, var, unit, lam, pair, inj, app, proj, case, protect, mu}
-use Rattle.calculus.specs.Typing.{infer, _>>=_}
+use Rattle.calculus.specs.Typing.{_>>=_, recurs, infer}
 use Rattle.calculus.proofs.Booleans.{both, and-left, and-right}
 use Rattle.calculus.proofs.Directed.{directed-test, test-directed, same-eq}
 use Rattle.calculus.proofs.Inferred.{Inferred, i-var, i-unit, i-lam, i-pair, i-inj, i-app, i-proj, i-case, i-protect, i-mu}
@@ -28,7 +28,7 @@ inferred-infer (i-proj p m) = rw (inferred-infer p) (when-holds _ m)
 inferred-infer (i-case p m q s q′ s′) =
     rw (inferred-infer p, inferred-infer q, inferred-infer q′) (when-holds _ (both m (both (directed-test s) (directed-test s′))))
 inferred-infer (i-protect h p) = rw (inferred-infer p) (when-holds _ h)
-inferred-infer (i-mu e h p s) = rw (inferred-infer p, e) (when-holds _ (both h (rw e at (directed-test s))))
+inferred-infer (i-mu e m h p s) = rw (inferred-infer p, e) (when-holds _ (both (both m h) (rw e at (directed-test s))))
 
 -- What an answer says of the questions before it, in continuation form: what is found is then a variable.
 
@@ -95,9 +95,11 @@ infer-inferred {S} {tab} {Γ} (protect m b) t h =
     bind-some (infer S tab Γ b) _ h λ s p h1.
     when-some (S .secureI m) _ h1 λ x e.
     rw (← e) (i-protect x (infer-inferred b s p))
-infer-inferred {S} {tab} {Γ} (mu i b) t h =
+infer-inferred {S} {tab} {Γ} (mu w i b) t h =
     bind-some (parts function (tab i)) _ h λ z q h1.
     parts-some function (tab i) q λ i-is.
     bind-some (infer S tab (tab i ∷ Γ) b) _ h1 λ s p h2.
-    when-some (S .absorbs (z .own) (top (z .rhs)) && subtype S below s (tab i)) _ h2 λ x e.
-    rw (← e) (i-mu i-is (and-left _ _ x) (infer-inferred b s p) (test-directed below _ _ (and-right (S .absorbs (z .own) (top (z .rhs))) _ x)))
+    when-some (recurs S z w && subtype S below s (tab i)) _ h2 λ x e.
+    let y = and-left (recurs S z w) _ x in
+    rw (← e) (i-mu i-is (and-left _ _ y) (and-right (S .permits (z .own) (S .caller (z .own) w)) _ y) (infer-inferred b s p)
+    (test-directed below _ _ (and-right (recurs S z w) _ x)))

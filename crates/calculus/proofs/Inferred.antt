@@ -29,5 +29,5 @@ pub data Inferred (S : Security) (tab : ℕ → Ty) : List Ty → Term → Ty �
       → Inferred S tab Γ (case w i e a b) (raiseT S (tab i) (S .influence k w))
   i-protect : {Γ : List Ty} {m : Indirect} {e : Term} {t : Ty} → So (S .secureI m) → Inferred S tab Γ e t
       → Inferred S tab Γ (protect m e) (raiseT S t m)
-  i-mu : {Γ : List Ty} {i : ℕ} {e : Term} {k : Property} {s t u : Ty} → tab i ≡ node function k s t → So (S .absorbs k (top t))
-      → Inferred S tab (tab i ∷ Γ) e u → Directed S below u (tab i) → Inferred S tab Γ (mu i e) (tab i)
+  i-mu : {Γ : List Ty} {w : Reader} {i : ℕ} {e : Term} {k : Property} {s t u : Ty} → tab i ≡ node function k s t → So (S .permits k (S .caller k w))
+      → So (S .absorbs k (top t)) → Inferred S tab (tab i ∷ Γ) e u → Directed S below u (tab i) → Inferred S tab Γ (mu w i e) (tab i)

@@ -1,4 +1,5 @@
 pub mod Booleans
+pub mod Properties
 pub mod Sides
 pub mod Directed
 pub mod Subtyping
@@ -21,5 +22,7 @@ pub mod Unrolling
 pub mod TypedContexts
 pub mod Preservation
 pub mod Progress
-pub mod ErasedTerms
+pub mod RelabelledTerms
+pub mod Relabelling
 pub mod Erasure
+pub mod Callers

@@ -43,7 +43,7 @@ module _ {S : Security} {tab : ℕ → Ty} (L : Laws S) (T : Table S tab) where
   raised-typed m g x (i-proj q y) = absurd (false≢true x)
   raised-typed m g x (i-case q y r s r′ s′) = absurd (false≢true x)
   raised-typed m g x (i-protect h q) = absurd (false≢true x)
-  raised-typed m g x (i-mu e h q s) = absurd (false≢true x)
+  raised-typed m g x (i-mu e y h q s) = absurd (false≢true x)
 
   -- lemma A.4
   contraction : {e e′ : Term} {t : Ty} → Contracts S tab e e′ → Inferred S tab [] e t → HasType S tab [] e′ t
@@ -55,9 +55,9 @@ module _ {S : Security} {tab : ℕ → Ty} (L : Laws S) (T : Table S tab) where
       let y = table-parts T i e in
       protected w h m (branch-typed d (subsumption (closed-typed L T q) z (side-secure d y))
       (subsumption (bound-typed L T _ (y .left) p) s (T .secure j)) (subsumption (bound-typed L T _ (y .right) p′) s′ (T .secure j)))
-  contraction (c-mu {i = i} x) (i-mu y a p s) =
+  contraction (c-mu {i = i} x) (i-mu y m a p s) =
       let q = subsumption (bound-typed L T (tab i) (T .secure i) p) s (T .secure i) in
-      rw (ap top (sym x ∙ y)) (substitution (unrolled-typed L T i y a (t-mu y a q)) [] q)
+      rw (ap top (sym x ∙ y)) (substitution (unrolled-typed L T i y m a (t-mu y m a q)) [] q)
   contraction (c-protect {m = m} x) (i-protect h p) = raised-typed m h x p
 
   inferred-preservation : {e e′ : Term} {t : Ty} → Inferred S tab [] e t → Reduces S tab e e′ → HasType S tab [] e′ t

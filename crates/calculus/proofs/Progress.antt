@@ -47,7 +47,7 @@ canonical-forms f x (i-app p q s m) = absurd (false≢true x)
 canonical-forms f x (i-proj p m) = absurd (false≢true x)
 canonical-forms f x (i-case p m q s q′ s′) = absurd (false≢true x)
 canonical-forms f x (i-protect h p) = absurd (false≢true x)
-canonical-forms f x (i-mu e h p s) = absurd (false≢true x)
+canonical-forms f x (i-mu e m h p s) = absurd (false≢true x)
 
 abbrev Untyped : Security → (ℕ → Ty) → (Term → Type 0) → Type 0
 Untyped S tab P = (e : Term) (t : Ty) → P e → Inferred S tab [] e t → ⊥
@@ -64,7 +64,7 @@ module _ {S : Security} {tab : ℕ → Ty} where
   wrong-untyped (wrong-app x y g) (i-app p q s m) = false≢true (sym g ∙ canonical-forms function x p)
   wrong-untyped (wrong-proj x g) (i-proj p m) = false≢true (sym g ∙ canonical-forms product x p)
   wrong-untyped (wrong-case x g) (i-case p m q s q′ s′) = false≢true (sym g ∙ canonical-forms sum x p)
-  wrong-untyped (wrong-mu g) (i-mu e h p s) = Option·none-ne-some _ (sym g ∙ ap (parts function) e)
+  wrong-untyped (wrong-mu g) (i-mu e m h p s) = Option·none-ne-some _ (sym g ∙ ap (parts function) e)
 
   module _ (L : Laws S) (T : Table S tab) where
     inferred-nowhere : {P : Term → Type 0} {e : Term} {t : Ty} → Untyped S tab P → Inferred S tab [] e t → At P e → ⊥

@@ -69,7 +69,7 @@ module _ (S : Security) (tab : ℕ → Ty) where
   apply-redex w (proj d u e) v h g = sticking (wrong-app h g refl)
   apply-redex w (case u i e a b) v h g = sticking (wrong-app h g refl)
   apply-redex w (protect m e) v h g = sticking (wrong-app h g refl)
-  apply-redex w (mu i e) v h g = sticking (wrong-app h g refl)
+  apply-redex w (mu u i e) v h g = sticking (wrong-app h g refl)
 
   pair-values : (k : Property) (a b : Term) → So (is-value (pair k a b)) → So (is-value a) × So (is-value b)
   unfolding is-value
@@ -87,7 +87,7 @@ module _ (S : Security) (tab : ℕ → Ty) where
   project-redex d w (proj c u e) h = sticking (wrong-proj h refl)
   project-redex d w (case u i e a b) h = sticking (wrong-proj h refl)
   project-redex d w (protect m e) h = sticking (wrong-proj h refl)
-  project-redex d w (mu i e) h = sticking (wrong-proj h refl)
+  project-redex d w (mu u i e) h = sticking (wrong-proj h refl)
 
   inj-value : (d : Side) (k : Property) (i : ℕ) (e : Term) → So (is-value (inj d k i e)) → So (is-value e)
   unfolding is-value
@@ -104,14 +104,14 @@ module _ (S : Security) (tab : ℕ → Ty) where
   branch-redex w j (proj d u e) a b h = sticking (wrong-case h refl)
   branch-redex w j (case u i e f g) a b h = sticking (wrong-case h refl)
   branch-redex w j (protect m e) a b h = sticking (wrong-case h refl)
-  branch-redex w j (mu i e) a b h = sticking (wrong-case h refl)
+  branch-redex w j (mu u i e) a b h = sticking (wrong-case h refl)
 
-  pub unroll-redex : (i : ℕ) (e : Term) (t : Ty) → tab i ≡ t → Redex S tab (mu i e) (unroll S i e t)
+  pub unroll-redex : (w : Reader) (i : ℕ) (e : Term) (t : Ty) → tab i ≡ t → Redex S tab (mu w i e) (unroll S w i e t)
   unfolding unroll
-  unroll-redex i e (one k) h = sticking (wrong-mu (ap (parts function) h))
-  unroll-redex i e (node sum k s t) h = sticking (wrong-mu (ap (parts function) h))
-  unroll-redex i e (node product k s t) h = sticking (wrong-mu (ap (parts function) h))
-  unroll-redex i e (node function k s t) h = contracting (c-mu h)
+  unroll-redex w i e (one k) h = sticking (wrong-mu (ap (parts function) h))
+  unroll-redex w i e (node sum k s t) h = sticking (wrong-mu (ap (parts function) h))
+  unroll-redex w i e (node product k s t) h = sticking (wrong-mu (ap (parts function) h))
+  unroll-redex w i e (node function k s t) h = contracting (c-mu h)
 
   -- Where the kind is wrong, the outcome is no other.
 
@@ -155,7 +155,7 @@ module _ (S : Security) (tab : ℕ → Ty) where
   wrong-step (wrong-proj {d = d} {w = w} {v = v} x h) = rw (value-step S tab v x) (wrong-stuck (project-redex d w v x) (wrong-proj x h))
   wrong-step (wrong-case {w = w} {i = i} {v = v} {a = a} {b = b} x h) =
       rw (value-step S tab v x) (wrong-stuck (branch-redex w i v a b x) (wrong-case x h))
-  wrong-step (wrong-mu {i = i} {e = e} h) = wrong-stuck (unroll-redex i e (tab i) refl) (wrong-mu h)
+  wrong-step (wrong-mu {w = w} {i = i} {e = e} h) = wrong-stuck (unroll-redex w i e (tab i) refl) (wrong-mu h)
 
   pub redex-step : {e : Term} {x : Outcome} → Redex S tab e x → step S tab e ≡ x
   redex-step (contracting c) = contracts-step c

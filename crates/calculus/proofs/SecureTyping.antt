@@ -5,7 +5,7 @@ use mathlib.Core.List.{List, [], _∷_}
 use mathlib.Core.Option.{some, Option·some-injective, Option·none-ne-some}
 use Prim.Native.Nat.{ℕ, suc, zero}
 use Rattle.calculus.specs.Security.{Property, Reader, Security, Laws}
-use Rattle.calculus.specs.Types.{Former, Ty, one, node, raiseT, secureT}
+use Rattle.calculus.specs.Types.{Former, Ty, one, node, top, raiseT, secureT}
 use Rattle.calculus.specs.Terms.{Side, choose, Term}
 use Rattle.calculus.specs.Typing.{lookup, HasType, t-sub, t-var, t-unit, t-lam, t-pair, t-inj, t-app, t-proj, t-case, t-protect, t-mu, Table}
 use Rattle.calculus.proofs.Booleans.{both, and-left, and-right}
@@ -33,6 +33,11 @@ unfolding secureT
 secure-parts S f k s t h =
     let h1 = and-right (S .secure k) _ h in
     record { own = and-left _ _ h; left = and-left _ _ h1; right = and-right (secureT S s) _ h1 }
+
+pub top-secure : (S : Security) (t : Ty) → So (secureT S t) → So (S .secure (top t))
+unfolding secureT
+top-secure S (one k) h = h
+top-secure S (node f k s t) h = and-left _ _ h
 
 pub side-secure : {S : Security} {k : Property} {s t : Ty} (d : Side) → SecureParts S k s t → So (secureT S (choose d s t))
 side-secure {S} d x = choose-each (λ u. So (secureT S u)) d (x .left) (x .right)
@@ -68,4 +73,4 @@ module _ {S : Security} {tab : ℕ → Ty} (L : Laws S) (T : Table S tab) where
       let x = secure-parts S _ _ _ _ (typed-secure C p) in read-secure _ w _ (x .own) m (side-secure d x)
   typed-secure C (t-case {w = w} {i = i} p m q q′) = let x = secure-parts S _ _ _ _ (typed-secure C p) in read-secure _ w _ (x .own) m (T .secure i)
   typed-secure C (t-protect h p) = raise-secure L _ _ (typed-secure C p) h
-  typed-secure C (t-mu {i = i} e h p) = T .secure i
+  typed-secure C (t-mu {i = i} e m h p) = T .secure i

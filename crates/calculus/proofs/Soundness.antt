@@ -47,7 +47,7 @@ module _ {S : Security} {tab : ℕ → Ty} (L : Laws S) (T : Table S tab) where
       let x = secure-parts S _ _ _ _ (typed-secure L T C e) in
       case-typed e m (inferred-typed (sc-extend (x .left) C) q) s (inferred-typed (sc-extend (x .right) C) q′) s′
   inferred-typed C (i-protect h p) = t-protect h (inferred-typed C p)
-  inferred-typed C (i-mu {i = i} e h p s) = t-mu e h (subsumption (inferred-typed (sc-extend (T .secure i) C) p) s (T .secure i))
+  inferred-typed C (i-mu {i = i} e m h p s) = t-mu e m h (subsumption (inferred-typed (sc-extend (T .secure i) C) p) s (T .secure i))
 
   pub infer-sound : {Γ : List Ty} (e : Term) (t : Ty) → SecureContext S Γ → infer S tab Γ e ≡ some t → HasType S tab Γ e t
   infer-sound e t C h = inferred-typed C (infer-inferred e t h)

@@ -1,8 +1,11 @@
 pub mod Security
+pub mod Groups
 pub mod Types
 pub mod Subtyping
 pub mod Terms
 pub mod Reduction
 pub mod Stuck
 pub mod Typing
+pub mod Relabelling
 pub mod Erasure
+pub mod Callers

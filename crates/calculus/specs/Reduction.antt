@@ -6,10 +6,10 @@ use Rattle.calculus.specs.Security.{Property, Reader, Indirect, Security
 use Rattle.calculus.specs.Types.{sum, product, function, Ty, one, node}
 use Rattle.calculus.specs.Terms.{Side, choose, Term, var, unit, lam, pair, inj, app, proj, case, protect, mu, is-value, subst, raise-value}
 
--- (λx : s₁. (μf : s. e) x)_(r, ir), which stands for f when μf : s. e unrolls. The left side of type i is type i + 1, and
--- "unrolling's inner application, unmarked in the source, is made as r of the recursion's type".
-abbrev pub unrolled : Security → ℕ → Property → Term → Term
-unrolled S i k e = lam k (suc i) (app (S .caller k) (mu i e) (var zero))
+-- (λx : s₁. ((μf : s. e)_r′ x)_r′)_(r, ir), which stands for f when (μf : s. e)_r′ unrolls. The left side of type i is type i + 1.
+-- Item 6: "Studios want the unrolled application's group written. Byte 1 of a recursion now holds it."
+abbrev pub unrolled : Security → Reader → ℕ → Property → Term → Term
+unrolled S w i k e = lam k (suc i) (app (S .caller k w) (mu w i e) (var zero))
 
 -- Table 1, line by line. `tab i` is the type with index i.
 pub data Contracts (S : Security) (tab : ℕ → Ty) : Term → Term → Type 0 where
@@ -19,7 +19,8 @@ pub data Contracts (S : Security) (tab : ℕ → Ty) : Term → Term → Type 0 
       → Contracts S tab (proj d w (pair k v v′)) (protect (S .influence k w) (choose d v v′))
   c-case : {d : Side} {k : Property} {i j : ℕ} {v a b : Term} {w : Reader} → So (is-value v) → So (S .permits k w)
       → Contracts S tab (case w j (inj d k i v) a b) (protect (S .influence k w) (subst zero v (choose d a b)))
-  c-mu : {i : ℕ} {e : Term} {k : Property} {s t : Ty} → tab i ≡ node function k s t → Contracts S tab (mu i e) (subst zero (unrolled S i k e) e)
+  c-mu : {w : Reader} {i : ℕ} {e : Term} {k : Property} {s t : Ty} → tab i ≡ node function k s t
+      → Contracts S tab (mu w i e) (subst zero (unrolled S w i k e) e)
   c-protect : {m : Indirect} {v : Term} → So (is-value v) → Contracts S tab (protect m v) (raise-value S v m)
 
 -- E ::= [ ] | (E e)_r | (v E)_r | (proj_i E)_r | (inj_i E)_κ | ⟨E, e⟩_κ | ⟨v, E⟩_κ | (protect_ir E) | (case E of ..)_r
@@ -87,7 +88,7 @@ apply S w (app u f a) v = stuck
 apply S w (proj d u e) v = stuck
 apply S w (case u i e a b) v = stuck
 apply S w (protect m e) v = stuck
-apply S w (mu i e) v = stuck
+apply S w (mu u i e) v = stuck
 
 -- (proj_d v)_w of a value
 unfoldable pub project : Security → Side → Reader → Term → Outcome
@@ -100,7 +101,7 @@ project S d w (app u f a) = stuck
 project S d w (proj c u e) = stuck
 project S d w (case u i e a b) = stuck
 project S d w (protect m e) = stuck
-project S d w (mu i e) = stuck
+project S d w (mu u i e) = stuck
 
 -- (case v of inj₁(x). a | inj₂(x). b)_w of a value
 unfoldable pub branch : Security → Reader → Term → Term → Term → Outcome
@@ -113,14 +114,14 @@ branch S w (app u f e) a b = stuck
 branch S w (proj d u e) a b = stuck
 branch S w (case u i e f g) a b = stuck
 branch S w (protect m e) a b = stuck
-branch S w (mu i e) a b = stuck
+branch S w (mu u i e) a b = stuck
 
 -- μf : s. e, where s has to be a function type
-unfoldable pub unroll : Security → ℕ → Term → Ty → Outcome
-unroll S i e (one k) = stuck
-unroll S i e (node sum k s t) = stuck
-unroll S i e (node product k s t) = stuck
-unroll S i e (node function k s t) = moved (subst zero (unrolled S i k e) e)
+unfoldable pub unroll : Security → Reader → ℕ → Term → Ty → Outcome
+unroll S w i e (one k) = stuck
+unroll S w i e (node sum k s t) = stuck
+unroll S w i e (node product k s t) = stuck
+unroll S w i e (node function k s t) = moved (subst zero (unrolled S w i k e) e)
 
 -- One step: "left to right, never inside a function or branch".
 unfoldable pub step : Security → (ℕ → Ty) → Term → Outcome
@@ -133,4 +134,4 @@ step S tab (app w f a) = operand-first (step S tab f) (λ e. app w e a) (operand
 step S tab (proj d w e) = operand-first (step S tab e) (λ x. proj d w x) (project S d w e)
 step S tab (case w i e a b) = operand-first (step S tab e) (λ x. case w i x a b) (branch S w e a b)
 step S tab (protect m e) = operand-first (step S tab e) (λ x. protect m x) (moved (raise-value S e m))
-step S tab (mu i e) = unroll S i e (tab i)
+step S tab (mu w i e) = unroll S w i e (tab i)

@@ -29,8 +29,8 @@ pub record Security : Type 0 where
   pub permits : Property → Reader → Bool
   -- what the result of such a reading is protected by
   pub influence : Property → Reader → Indirect
-  -- the label of the application that unrolling a recursion of this property makes
-  pub caller : Property → Reader
+  -- the group as which a recursion of this property, labelled with this group, is called when it unrolls
+  pub caller : Property → Reader → Reader
   -- document 01's condition on a recursion: may its result, of the second property, be read through the first?
   pub absorbs : Property → Property → Bool
   -- ir ⊑ r, and both are groups
@@ -48,8 +48,7 @@ pub record Laws (S : Security) : Type 0 where
   pub raise-comm : (k : Property) (m n : Indirect) → So (S .secure k) → So (S .secureI m) → So (S .secureI n)
       → S .raise (S .raise k m) n ≡ S .raise (S .raise k n) m
   pub permits-mono : (k l : Property) (w : Reader) → So (S .le k l) → So (S .permits l w) → So (S .permits k w)
-  pub permits-caller : (k : Property) → So (S .secure k) → So (S .permits k (S .caller k))
   pub influence-mono : (k l : Property) (w : Reader) → So (S .le k l) → So (S .permits l w) → So (S .leI (S .influence k w) (S .influence l w))
   pub influence-secure : (k : Property) (w : Reader) → So (S .secure k) → So (S .permits k w) → So (S .secureI (S .influence k w))
-  pub absorption : (k l : Property) → So (S .secure k) → So (S .secure l) → So (S .absorbs k l)
-      → So (S .le (S .raise l (S .influence k (S .caller k))) l)
+  pub absorption : (k l : Property) (w : Reader) → So (S .secure k) → So (S .secure l) → So (S .permits k w) → So (S .absorbs k l)
+      → So (S .le (S .raise l (S .influence k w)) l)

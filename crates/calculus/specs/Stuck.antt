@@ -19,7 +19,7 @@ built-by f (app w g a) = false
 built-by f (proj d w e) = false
 built-by f (case w i e a b) = false
 built-by f (protect m e) = false
-built-by f (mu i e) = false
+built-by f (mu w i e) = false
 
 -- A destructor whose label may not read what it meets: a left side of table 1 whose condition r ⊑ r′ fails.
 pub data Denied (S : Security) : Term → Type 0 where
@@ -35,7 +35,7 @@ pub data Wrong (tab : ℕ → Ty) : Term → Type 0 where
   wrong-app : {w : Reader} {f v : Term} → So (is-value f) → So (is-value v) → built-by function f ≡ false → Wrong tab (app w f v)
   wrong-proj : {d : Side} {w : Reader} {v : Term} → So (is-value v) → built-by product v ≡ false → Wrong tab (proj d w v)
   wrong-case : {w : Reader} {i : ℕ} {v a b : Term} → So (is-value v) → built-by sum v ≡ false → Wrong tab (case w i v a b)
-  wrong-mu : {i : ℕ} {e : Term} → parts function (tab i) ≡ none → Wrong tab (mu i e)
+  wrong-mu : {w : Reader} {i : ℕ} {e : Term} → parts function (tab i) ≡ none → Wrong tab (mu w i e)
 
 -- E[e₀], where P holds of e₀
 pub record At (P : Term → Type 0) (e : Term) : Type 0 where

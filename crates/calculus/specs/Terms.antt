@@ -29,8 +29,8 @@ pub data Term : Type 0 where
   case : Reader → ℕ → Term → Term → Term → Term
   -- (protect_ir e)
   protect : Indirect → Term → Term
-  -- (μf : s. e): function type, body under one binder
-  mu : ℕ → Term → Term
+  -- (μf : s. e)_r: label of the application that unrolling makes, function type, body under one binder
+  mu : Reader → ℕ → Term → Term
 
 -- "Values: units, functions, and pairs and injections of values."
 unfoldable pub is-value : Term → Bool
@@ -43,7 +43,7 @@ is-value (app w f a) = false
 is-value (proj d w e) = false
 is-value (case w i e a b) = false
 is-value (protect m e) = false
-is-value (mu i e) = false
+is-value (mu w i e) = false
 
 -- e[v/x] for a closed value v and the variable x that n binders separate from its own. Reduction never goes under a binder,
 -- so x is the only free variable of e: nothing is shifted in v, and no other number falls.
@@ -57,7 +57,7 @@ subst n v (app w f a) = app w (subst n v f) (subst n v a)
 subst n v (proj d w e) = proj d w (subst n v e)
 subst n v (case w i e a b) = case w i (subst n v e) (subst (suc n) v a) (subst (suc n) v b)
 subst n v (protect m e) = protect m (subst n v e)
-subst n v (mu i e) = mu i (subst (suc n) v e)
+subst n v (mu w i e) = mu w i (subst (suc n) v e)
 
 -- bv_κ • ir is bv_(κ • ir)
 unfoldable pub raise-value : Security → Term → Indirect → Term
@@ -70,4 +70,4 @@ raise-value S (app w f a) m = app w f a
 raise-value S (proj d w e) m = proj d w e
 raise-value S (case w i e a b) m = case w i e a b
 raise-value S (protect n e) m = protect n e
-raise-value S (mu i e) m = mu i e
+raise-value S (mu w i e) m = mu w i e

@@ -1,11 +1,11 @@
 -- Table 3 with document 01's departures and limits: as a relation with subsumption, and as a function.
 use mathlib.Core.Path.{_≡_}
-use mathlib.Core.Bool.{_&&_, So}
+use mathlib.Core.Bool.{Bool, _&&_, So}
 use mathlib.Core.List.{List, [], _∷_}
 use mathlib.Core.Option.{Option, none, some}
 use Prim.Native.Nat.{ℕ, suc, zero}
 use Rattle.calculus.specs.Security.{Property, Reader, Indirect, Security}
-use Rattle.calculus.specs.Types.{Former, sum, product, function, Ty, one, node, top, raiseT, secureT, fits, when, parts}
+use Rattle.calculus.specs.Types.{Former, sum, product, function, Ty, one, node, top, raiseT, secureT, fits, when, Parts, parts}
 use Rattle.calculus.specs.Subtyping.{Subtype, subtype, below}
 use Rattle.calculus.specs.Terms.{Side, choose, Term, var, unit, lam, pair, inj, app, proj, case, protect, mu}
 
@@ -16,7 +16,7 @@ lookup (t ∷ Γ) zero = some t
 lookup (t ∷ Γ) (suc n) = lookup Γ n
 
 -- Table 3, Γ ⊢ e : s. `tab i` is the type with index i. Types are secure types, so [Sub] leads to no other.
--- Question 24 is the last premise of [Lam] and [Pair], and question 23 a premise of [Rec].
+-- Question 24 is the last premise of [Lam] and [Pair], and questions 21 and 23 are premises of [Rec].
 pub data HasType (S : Security) (tab : ℕ → Ty) : List Ty → Term → Ty → Type 0 where
   t-sub : {Γ : List Ty} {e : Term} {s s′ : Ty} → HasType S tab Γ e s → Subtype S s s′ → So (secureT S s′) → HasType S tab Γ e s′
   t-var : {Γ : List Ty} {n : ℕ} {s : Ty} → lookup Γ n ≡ some s → HasType S tab Γ (var n) s
@@ -38,9 +38,10 @@ pub data HasType (S : Security) (tab : ℕ → Ty) : List Ty → Term → Ty →
       → HasType S tab Γ (case w i e a b) (raiseT S (tab i) (S .influence k w))
   t-protect : {Γ : List Ty} {m : Indirect} {e : Term} {t : Ty} → So (S .secureI m) → HasType S tab Γ e t
       → HasType S tab Γ (protect m e) (raiseT S t m)
+  -- "21 is put to the recursion before 23, with r of its type against the written group."
   -- "A recursion of type (s1 → s2, (r, ir)) needs ir ⊑ the indirect readers of s2."
-  t-mu : {Γ : List Ty} {i : ℕ} {e : Term} {k : Property} {s t : Ty} → tab i ≡ node function k s t → So (S .absorbs k (top t))
-      → HasType S tab (tab i ∷ Γ) e (tab i) → HasType S tab Γ (mu i e) (tab i)
+  t-mu : {Γ : List Ty} {w : Reader} {i : ℕ} {e : Term} {k : Property} {s t : Ty} → tab i ≡ node function k s t → So (S .permits k (S .caller k w))
+      → So (S .absorbs k (top t)) → HasType S tab (tab i ∷ Γ) e (tab i) → HasType S tab Γ (mu w i e) (tab i)
 
 -- A table of types as the theory needs it: secure types within the limit, in which the left side of type i is type i + 1.
 pub record Table (S : Security) (tab : ℕ → Ty) : Type 0 where
@@ -51,6 +52,10 @@ pub record Table (S : Security) (tab : ℕ → Ty) : Type 0 where
 abbrev pub _>>=_ : {A B : Type 0} → Option A → (A → Option B) → Option B
 _>>=_ none f = none
 _>>=_ (some a) f = f a
+
+-- questions 21 and 23 of a recursion labelled w, of a type with these parts
+abbrev pub recurs : Security → Parts → Reader → Bool
+recurs S p w = S .permits (p .own) (S .caller (p .own) w) && S .absorbs (p .own) (top (p .rhs))
 
 -- The least type that the rules give, if any.
 unfoldable pub infer : Security → (ℕ → Ty) → List Ty → Term → Option Ty
@@ -85,7 +90,7 @@ infer S tab Γ (case w i e a b) = do
 infer S tab Γ (protect m e) = do
   t ← infer S tab Γ e
   when (S .secureI m) (raiseT S t m)
-infer S tab Γ (mu i e) = do
+infer S tab Γ (mu w i e) = do
   p ← parts function (tab i)
   t ← infer S tab (tab i ∷ Γ) e
-  when (S .absorbs (p .own) (top (p .rhs)) && subtype S below t (tab i)) (tab i)
+  when (recurs S p w && subtype S below t (tab i)) (tab i)

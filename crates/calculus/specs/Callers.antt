@@ -1,0 +1,35 @@
+-- Item 6: the group that a recursive call is made as, and "we rewrite existing scripts by putting in r of the recursion's type".
+use Prim.Native.Nat.{ℕ}
+use Rattle.calculus.specs.Security.{Property, Reader, Security}
+use Rattle.calculus.specs.Types.{Ty, top}
+use Rattle.calculus.specs.Terms.{Term}
+use Rattle.calculus.specs.Relabelling.{Labels, relabel}
+
+-- the same rules, but for the group that a recursive call is made as
+abbrev pub called-as : (Property → Reader → Reader) → Security → Security
+called-as caller S = record {
+  le = S .le;
+  leI = S .leI;
+  raise = S .raise;
+  permits = S .permits;
+  influence = S .influence;
+  caller = caller;
+  absorbs = S .absorbs;
+  secure = S .secure;
+  secureI = S .secureI;
+}
+
+-- "Byte 1 of a recursion now holds it": the group that is written.
+abbrev pub as-written : Property → Reader → Reader
+as-written k w = w
+
+-- Document 01: "unrolling's inner application, unmarked in the source, is made as r of the recursion's type". What is written isn't read.
+abbrev pub as-typed : Property → Reader → Reader
+as-typed k w = k .r
+
+-- r of its type written into every recursion
+abbrev pub written : (ℕ → Ty) → Labels
+written tab = record { property = λ k. k; reader = λ w. w; indirect = λ m. m; recursion = λ i w. top (tab i) .r }
+
+abbrev pub write : (ℕ → Ty) → Term → Term
+write tab e = relabel (written tab) e
