@@ -58,7 +58,7 @@ module _ (deeper bound : ℕ → ℕ) where
   under n (proj d w e) = deeper n ∷ []
   under n (case w i e a b) = deeper n ∷ bound n ∷ bound n ∷ []
   under n (protect m e) = deeper n ∷ []
-  under n (mu i e) = bound n ∷ []
+  under n (mu w i e) = bound n ∷ []
 
   under-length : (n : ℕ) (e : Term) → length (under n e) ≡ length (term-operands e)
   under-length n (var m) = refl
@@ -70,7 +70,7 @@ module _ (deeper bound : ℕ → ℕ) where
   under-length n (proj d w e) = refl
   under-length n (case w i e a b) = refl
   under-length n (protect m e) = refl
-  under-length n (mu i e) = refl
+  under-length n (mu w i e) = refl
 
   abbrev pub numbered : ℕ × Term → List (ℕ × Term)
   numbered p = zip (under (p .0) (p .1)) (term-operands (p .1))
@@ -96,7 +96,7 @@ module _ (deeper bound : ℕ → ℕ) where
   counts-is n (proj d w e) = rw (append-nil (counts deeper bound (deeper n) e))
   counts-is n (case w i e a b) = rw (append-nil (counts deeper bound (bound n) b))
   counts-is n (protect m e) = rw (append-nil (counts deeper bound (deeper n) e))
-  counts-is n (mu i e) = rw (append-nil (counts deeper bound (bound n) e))
+  counts-is n (mu w i e) = rw (append-nil (counts deeper bound (bound n) e))
 
   abbrev pub count-code : Code counted
   count-code =

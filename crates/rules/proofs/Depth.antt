@@ -35,7 +35,7 @@ module _ (limit : ℕ) where
       omega
       (arith, lows-depth e (suc n) (every-below h .0), lows-depth a (suc n) (every-below h .1 .0), lows-depth b (suc n) (every-below h .1 .1 .0))
   lows-depth (protect m e) n h = omega (arith, lows-depth e (suc n) (every-below h .0))
-  lows-depth (mu i e) n h = omega (arith, lows-depth e (suc n) (every-below h .0))
+  lows-depth (mu w i e) n h = omega (arith, lows-depth e (suc n) (every-below h .0))
 
   depth-lows : (e : Term) (n : ℕ) → n + depth e ≤ suc limit → Lows n e
   unfolding depth
@@ -50,7 +50,7 @@ module _ (limit : ℕ) where
       every-node (omega arith)
       (depth-lows e (suc n) (omega arith), (depth-lows a (suc n) (omega arith), (depth-lows b (suc n) (omega arith), tt)))
   depth-lows (protect m e) n h = every-node (omega arith) (depth-lows e (suc n) (omega arith), tt)
-  depth-lows (mu i e) n h = every-node (omega arith) (depth-lows e (suc n) (omega arith), tt)
+  depth-lows (mu w i e) n h = every-node (omega arith) (depth-lows e (suc n) (omega arith), tt)
 
   -- every entry of the depths against the depth
   pub depths-depth : (e : Term) → ((j : ℕ) → j < size e → getD (depths e) j 0 ≤ limit) → depth e ≤ limit

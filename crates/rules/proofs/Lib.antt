@@ -7,6 +7,7 @@ pub mod WayBack
 pub mod Nodes
 pub mod Octets
 pub mod Strip
+pub mod Callers
 pub mod TermCode
 pub mod TypeCode
 pub mod RecordFields

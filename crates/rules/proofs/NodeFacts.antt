@@ -26,7 +26,7 @@ module _ (g : Bytes) where
   Labelled (proj d w e) = w < rows g
   Labelled (case w i e a b) = w < rows g
   Labelled (protect m e) = m < rows g
-  Labelled (mu i e) = Unit {0}
+  Labelled (mu w i e) = w < rows g
 
   label : (k : Property) → (ltb (k .r) (rows g) && (ltb (k .ir) (rows g) && leq g (k .ir) (k .r))) ≡ true → Label k
   label k h =
@@ -56,7 +56,7 @@ module _ (g : Bytes) where
   labelled (proj second w e) h = group w h
   labelled (case w i e a b) h = group w h
   labelled (protect m e) h = group m h
-  labelled (mu i e) h = tt
+  labelled (mu w i e) h = group w h
 
   pub labelled-ok15 : (c : Term) → Labelled c → ok15 g (term-head c) 0 ≡ true
   unfolding ok15
@@ -71,7 +71,7 @@ module _ (g : Bytes) where
   labelled-ok15 (proj second w e) h = ungroup w h
   labelled-ok15 (case w i e a b) h = ungroup w h
   labelled-ok15 (protect m e) h = ungroup m h
-  labelled-ok15 (mu i e) h = refl
+  labelled-ok15 (mu w i e) h = ungroup w h
 
 module _ (t : Bytes) where
   -- the type with this index is of a kind
@@ -88,7 +88,7 @@ module _ (t : Bytes) where
   Named (proj d w e) = Unit {0}
   Named (case w i e a b) = i < type-count t
   Named (protect m e) = Unit {0}
-  Named (mu i e) = Of-kind 3 i
+  Named (mu w i e) = Of-kind 3 i
 
   -- the number as its record holds it
   abbrev Stored : (ℕ → Bool) → ℕ → Type 0
@@ -135,7 +135,7 @@ module _ (t : Bytes) where
   named (proj second w e) h = tt
   named (case w i e a b) h = existing i h
   named (protect m e) h = tt
-  named (mu i e) h = a-function i h
+  named (mu w i e) h = a-function i h
 
   store-index : (i : ℕ) → i < type-count t → Stored exists i
   store-index i h = store exists i (and-eq-true-iff _ _ .1 (lt-ltb i (type-count t) h, refl))
@@ -160,4 +160,4 @@ module _ (t : Bytes) where
   named-ok16 (proj second w e) h = refl
   named-ok16 (case w i e a b) h = store-index i h
   named-ok16 (protect m e) h = refl
-  named-ok16 (mu i e) h = store-function i h
+  named-ok16 (mu w i e) h = store-function i h

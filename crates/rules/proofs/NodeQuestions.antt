@@ -44,7 +44,7 @@ head-ok14 (proj first w e) = refl
 head-ok14 (proj second w e) = refl
 head-ok14 (case w i e a b) = refl
 head-ok14 (protect m e) = refl
-head-ok14 (mu i e) = refl
+head-ok14 (mu w i e) = refl
 
 -- every encoding passes 14, so a term that was reached passes it again
 pub q14-encode : (e : Term) → q14 (encode e) ≡ accepted tt

@@ -26,7 +26,7 @@ Scoped n (app w f a) = Scoped n f × Scoped n a
 Scoped n (proj d w e) = Scoped n e
 Scoped n (case w i e a b) = Scoped n e × Scoped (suc n) a × Scoped (suc n) b
 Scoped n (protect m e) = Scoped n e
-Scoped n (mu i e) = Scoped (suc n) e
+Scoped n (mu w i e) = Scoped (suc n) e
 
 -- question 19 of a record with its count
 abbrev Bound : ℕ → Bytes → Type 0
@@ -47,7 +47,7 @@ bounds-scoped (proj d w e) n h = bounds-scoped e n (every-below h .0)
 bounds-scoped (case w i e a b) n h =
     (bounds-scoped e n (every-below h .0), bounds-scoped a (suc n) (every-below h .1 .0), bounds-scoped b (suc n) (every-below h .1 .1 .0))
 bounds-scoped (protect m e) n h = bounds-scoped e n (every-below h .0)
-bounds-scoped (mu i e) n h = bounds-scoped e (suc n) (every-below h .0)
+bounds-scoped (mu w i e) n h = bounds-scoped e (suc n) (every-below h .0)
 
 scoped-bounds : (e : Term) (n : ℕ) → Scoped n e → Bounds n e
 unfolding ok19
@@ -63,7 +63,7 @@ scoped-bounds (proj second w e) n h = every-node refl (scoped-bounds e n h, tt)
 scoped-bounds (case w i e a b) n h =
     every-node refl (scoped-bounds e n (h .0), (scoped-bounds a (suc n) (h .1), (scoped-bounds b (suc n) (h .2), tt)))
 scoped-bounds (protect m e) n h = every-node refl (scoped-bounds e n h, tt)
-scoped-bounds (mu i e) n h = every-node refl (scoped-bounds e (suc n) h, tt)
+scoped-bounds (mu w i e) n h = every-node refl (scoped-bounds e (suc n) h, tt)
 
 pub q19-scoped : (e : Term) → q19 (encode e) ≡ accepted tt → Scoped 0 e
 q19-scoped e q =

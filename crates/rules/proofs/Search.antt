@@ -27,6 +27,17 @@ from-some test (suc n) i j a b h e =
 pub each-accepted : (q n : ℕ) (ok : ℕ → Bool) → ((k : ℕ) → k < n → ok k ≡ true) → each q n ok ≡ accepted tt
 each-accepted q n ok h = ap (refused-at q) (from-none (λ i. not (ok i)) n 0 (λ k a b. ap not (h k (omega arith))))
 
+-- two tests that say the same of every record
+pub from-same : (test test′ : ℕ → Bool) (n i : ℕ) → ((k : ℕ) → i ≤ k → k < i + n → test k ≡ test′ k) → first-from test n i ≡ first-from test′ n i
+unfolding first-from
+from-same test test′ zero i h = refl
+from-same test test′ (suc n) i h =
+    let rest = from-same test test′ n (suc i) (λ k a b. h k (omega arith) (omega arith)) in
+    λ j. elim (h i (omega arith) (omega arith) j) [ true ↦ some i | false ↦ rest j ]
+
+pub each-same : (q n : ℕ) (ok ok′ : ℕ → Bool) → ((k : ℕ) → k < n → ok k ≡ ok′ k) → each q n ok ≡ each q n ok′
+each-same q n ok ok′ h = ap (refused-at q) (from-same (λ i. not (ok i)) (λ i. not (ok′ i)) n 0 (λ k a b. ap not (h k (omega arith))))
+
 -- record i is the first that fails
 pub each-refused : (q n : ℕ) (ok : ℕ → Bool) (i : ℕ) → i < n → ((k : ℕ) → k < i → ok k ≡ true) → ok i ≡ false → each q n ok ≡ refused q i
 each-refused q n ok i l h e =

@@ -23,7 +23,7 @@ term-operands (app w f a) = f ∷ a ∷ []
 term-operands (proj d w e) = e ∷ []
 term-operands (case w i e a b) = e ∷ a ∷ b ∷ []
 term-operands (protect m e) = e ∷ []
-term-operands (mu i e) = e ∷ []
+term-operands (mu w i e) = e ∷ []
 
 abbrev pub term-head : Term → Bytes
 term-head (var n) = script-record 0 0 0 n
@@ -35,7 +35,7 @@ term-head (app w f a) = script-record 6 w 0 0
 term-head (proj d w e) = script-record (choose d 7 8) w 0 0
 term-head (case w i e a b) = script-record 9 w 0 i
 term-head (protect m e) = script-record 10 0 m 0
-term-head (mu i e) = script-record 11 0 0 i
+term-head (mu w i e) = script-record 11 w 0 i
 
 pub term-size-is : (e : Term) → size e ≡ suc (total size (term-operands e))
 unfolding size
@@ -48,7 +48,7 @@ term-size-is (app w f a) = omega arith
 term-size-is (proj d w e) = omega arith
 term-size-is (case w i e a b) = omega arith
 term-size-is (protect m e) = omega arith
-term-size-is (mu i e) = omega arith
+term-size-is (mu w i e) = omega arith
 
 pub term-induction : (P : Term → Type 0) → ((e : Term) → All P (term-operands e) → P e) → (e : Term) → P e
 term-induction P f (var n) = f (var n) tt
@@ -60,7 +60,7 @@ term-induction P f (app w g a) = f (app w g a) (term-induction P f g, (term-indu
 term-induction P f (proj d w e) = f (proj d w e) (term-induction P f e, tt)
 term-induction P f (case w i e a b) = f (case w i e a b) (term-induction P f e, (term-induction P f a, (term-induction P f b, tt)))
 term-induction P f (protect m e) = f (protect m e) (term-induction P f e, tt)
-term-induction P f (mu i e) = f (mu i e) (term-induction P f e, tt)
+term-induction P f (mu w i e) = f (mu w i e) (term-induction P f e, tt)
 
 abbrev pub term-shape : Shape Term
 term-shape = record { operands = term-operands; size = size; size-is = term-size-is; induction = term-induction }
@@ -75,7 +75,7 @@ term-head-length (app w f a) = refl
 term-head-length (proj d w e) = refl
 term-head-length (case w i e a b) = refl
 term-head-length (protect m e) = refl
-term-head-length (mu i e) = refl
+term-head-length (mu w i e) = refl
 
 pub term-encode-is : (e : Term) → encode e ≡ term-head e ++ joined encode (term-operands e)
 unfolding encode
@@ -90,7 +90,7 @@ term-encode-is (proj first w e) = rw (append-nil (encode e))
 term-encode-is (proj second w e) = rw (append-nil (encode e))
 term-encode-is (case w i e a b) = rw (append-nil (encode b))
 term-encode-is (protect m e) = rw (append-nil (encode e))
-term-encode-is (mu i e) = rw (append-nil (encode e))
+term-encode-is (mu w i e) = rw (append-nil (encode e))
 
 abbrev pub term-code : Code term-shape
 term-code =
@@ -109,7 +109,7 @@ term-head-arity (proj first w e) = refl
 term-head-arity (proj second w e) = refl
 term-head-arity (case w i e a b) = refl
 term-head-arity (protect m e) = refl
-term-head-arity (mu i e) = refl
+term-head-arity (mu w i e) = refl
 
 -- a number from its two bytes
 pub two-bytes : (n : ℕ) → n % 256 + 256 * (n / 256) ≡ n
@@ -128,7 +128,7 @@ term-parse-node (proj first w e) s ts h = rw h
 term-parse-node (proj second w e) s ts h = rw h
 term-parse-node (case w i e a b) s ts h = rw (h, two-bytes i)
 term-parse-node (protect m e) s ts h = rw h
-term-parse-node (mu i e) s ts h = rw (h, two-bytes i)
+term-parse-node (mu w i e) s ts h = rw (h, two-bytes i)
 
 -- What question 14 says of a record's fields.
 record Fields (f : Signature) (k r ir z n : ℕ) : Type 0 where
@@ -195,7 +195,7 @@ node-of (suc (suc (suc (suc (suc (suc (suc zero))))))) r ir z lo hi ts F l m = l
 node-of (suc (suc (suc (suc (suc (suc (suc (suc zero)))))))) r ir z lo hi ts F l m = let n0 = F .number-unnamed refl in (six 8 refl (sym (F .ir-unnamed refl)) (sym (F .zero-is)) (omega arith) (omega arith), one-term ts m)
 node-of (suc (suc (suc (suc (suc (suc (suc (suc (suc zero))))))))) r ir z lo hi ts F l m = (six 9 refl (sym (F .ir-unnamed refl)) (sym (F .zero-is)) (omega arith) (omega arith), three-terms ts m)
 node-of (suc (suc (suc (suc (suc (suc (suc (suc (suc (suc zero)))))))))) r ir z lo hi ts F l m = let n0 = F .number-unnamed refl in (six 10 (sym (F .r-unnamed refl)) refl (sym (F .zero-is)) (omega arith) (omega arith), one-term ts m)
-node-of (suc (suc (suc (suc (suc (suc (suc (suc (suc (suc (suc zero))))))))))) r ir z lo hi ts F l m = (six 11 (sym (F .r-unnamed refl)) (sym (F .ir-unnamed refl)) (sym (F .zero-is)) (omega arith) (omega arith), one-term ts m)
+node-of (suc (suc (suc (suc (suc (suc (suc (suc (suc (suc (suc zero))))))))))) r ir z lo hi ts F l m = (six 11 refl (sym (F .ir-unnamed refl)) (sym (F .zero-is)) (omega arith) (omega arith), one-term ts m)
 node-of (suc (suc (suc (suc (suc (suc (suc (suc (suc (suc (suc (suc k)))))))))))) r ir z lo hi ts F l m = let h = F .known in absurd (omega arith)
 
 -- A record passes question 14, and its bytes are bytes.

@@ -10,12 +10,12 @@ use Rattle.calculus.specs.Security.{Property}
 use Rattle.calculus.specs.Types.{Former, sum, product, function, Parts, Ty, one, node, top, sizeT}
 use Rattle.rules.specs.Answer.{Bytes, byte}
 use Rattle.rules.specs.Limits.{type-width}
-use Rattle.rules.specs.Types.{type-count, type-kind, former-kind, encode-type, no-type, parse-types, type-at, type-end}
+use Rattle.rules.specs.Types.{type-count, type-kind, type-r, former-kind, encode-type, no-type, parse-types, type-at, type-end}
 use Rattle.rules.proofs.Prefix.{record-at}
 use Rattle.rules.proofs.PrefixLaws.{record-is, round-trip, tree-end}
 use Rattle.rules.proofs.Nodes.{Every, to-nodes, operand-at}
 use Rattle.rules.proofs.TypeCode.{type-shape, type-code, type-prefix, type-head}
-use Rattle.rules.proofs.RecordFields.{type-kind-is}
+use Rattle.rules.proofs.RecordFields.{type-kind-is, type-r-is}
 
 -- the type at a place where one is written
 pub type-at-is : (t : Bytes) (i : ℕ) (e : Ty) (rest : Bytes) → drop (type-width * i) t ≡ encode-type e ++ rest → type-at t i ≡ e
@@ -83,6 +83,9 @@ property h = record { r = byte h 1; ir = byte h 2 }
 top-of-head : (e : Ty) → property (type-head e) ≡ top e
 top-of-head (one k) = refl
 top-of-head (node f k s t) = refl
+
+pub r-at : (t : Bytes) (i : ℕ) → Standing t i → type-r t i ≡ top (type-at t i) .r
+r-at t i st = sym (type-r-is t i) ∙ ap (λ h. byte h 1) (own-record t i st) ∙ ap (λ (k : Property). k .r) (top-of-head (type-at t i))
 
 -- what one record's question says of every node of the type that stands at i
 pub asked-of-type : (ok : Bytes → ℕ → Bool) → ((t : Bytes) (i : ℕ) → ok (record-at type-width t i) 0 ≡ ok t i) → (t : Bytes)

@@ -10,10 +10,11 @@ use Rattle.rules.specs.Answer.{Bytes, Answer, accepted, refused}
 use Rattle.rules.specs.Script.{script-record, no-term, subterm}
 use Rattle.rules.specs.Step.{exceeds}
 use Rattle.rules.specs.Strip.{strip-script, strip-types}
+use Rattle.rules.specs.Callers.{write-callers, callers-written}
 use Rattle.rules.specs.Calls.{type-records, answer-after, work-after, stepping, StepReport, step-report, written-after, running, run-report, first-after, scratch-after, sheeting, sheet-records, sheet-after}
 use Rattle.rules.specs.Reach.{verdict}
 use Rattle.rules.specs.Report.{text, decimal, our-words, run-text, report}
-use Rattle.rules.specs.Cases.{ty, groups, types, case-term, loop, ran, ends}
+use Rattle.rules.specs.Cases.{ty, groups, types-with, types, case-term, loop, ran, ends}
 use Rattle.rules.specs.Examples.{var, unit, pair, app, proj, protect, diamond}
 
 -- what a step reports that writes to a buffer of so many bytes
@@ -31,19 +32,17 @@ printed-run budget room s = run-text our-words groups types (running groups type
 abbrev pub projection : ℕ → Bytes
 projection kind = script-record kind 1 0 0 ++ pair 1 1 ++ unit 0 0 ++ unit 1 0
 
--- a recursion over type 3 with groups (1,0) in record 3, of a function, unrolled once
-abbrev pub higher-types : Bytes
-higher-types = ty 1 0 0 ++ ty 0 0 0 ++ ty 0 0 0 ++ ty 3 1 0 ++ ty 0 0 0 ++ ty 0 0 0
+-- a recursion over type 3, called as w, of a function
+abbrev pub recursion : ℕ → Bytes
+recursion w = script-record 11 w 0 3 ++ script-record 2 0 0 4 ++ var 1
 
-abbrev pub recursion : Bytes
-recursion = script-record 11 0 0 3 ++ script-record 2 0 0 4 ++ var 1
-
-abbrev pub unrolling : Bytes
-unrolling =
+-- the same unrolled once, where record 3 has groups (r,0)
+abbrev pub unrolling : ℕ → ℕ → Bytes
+unrolling r w =
     script-record 2 0 0 4
-    ++ script-record 2 1 0 4
-    ++ script-record 6 1 0 0
-    ++ script-record 11 0 0 3
+    ++ script-record 2 r 0 4
+    ++ script-record 6 w 0 0
+    ++ script-record 11 w 0 3
     ++ script-record 2 0 0 4
     ++ var 1
     ++ var 0
@@ -69,20 +68,22 @@ pub record CallExamples : Type 0 where
   pub work-unchanged-at-19 : work-after (verdict groups types (var 0)) (9 ∷ 9 ∷ []) ≡ 9 ∷ 9 ∷ []
   -- a step reports its end and the script's own count, or the new term's if it moved
   pub value-reports : stepped 18 (pair 0 0 ++ unit 0 0 ++ unit 0 0) ≡ step-ends 0 3
-  pub moved-reports : stepped 78 (loop 0) ≡ step-ends 1 13
+  pub moved-reports : stepped 78 (loop 0 0) ≡ step-ends 1 13
   pub may-not-reports : stepped 42 (case-term 1 1 0) ≡ step-ends 2 7
   pub wrong-kind-reports : stepped 12 (proj 0 ++ unit 0 0) ≡ step-ends 3 2
-  pub too-big-reports : stepped 72 (loop 0) ≡ step-ends 4 7
+  pub too-big-reports : stepped 72 (loop 0 0) ≡ step-ends 4 7
   pub refusal-reports : stepped 6 (var 0) ≡ refused 19 0
   -- it writes the new term, and nothing unless it moved
   pub joined-value : written-after (stepping diamond types (protect 2 ++ unit 1 1) 6) (9 ∷ 9 ∷ 9 ∷ 9 ∷ 9 ∷ 9 ∷ 9 ∷ []) ≡ unit 3 3 ++ (9 ∷ [])
-  pub too-big-unwritten : written-after (stepping groups types (loop 0) 72) (9 ∷ 9 ∷ []) ≡ 9 ∷ 9 ∷ []
+  pub too-big-unwritten : written-after (stepping groups types (loop 0 0) 72) (9 ∷ 9 ∷ []) ≡ 9 ∷ 9 ∷ []
   pub refusal-unwritten : written-after (stepping groups types (var 0) 6) (9 ∷ 9 ∷ []) ≡ 9 ∷ 9 ∷ []
   -- either projection moves, to a protect by the pair's ir
   pub first-projected : written-after (stepping groups types (projection 7) 12) [] ≡ protect 1 ++ unit 0 0
   pub second-projected : written-after (stepping groups types (projection 8) 12) [] ≡ protect 1 ++ unit 1 0
-  -- unrolling: the function's property is the recursion's, its parameter type the next index, its application made as r
-  pub unrolled : written-after (stepping groups higher-types recursion 42) [] ≡ unrolling
+  -- unrolling: the function's property is that of the recursion's type, its parameter type the next index, its application made as the
+  -- written group
+  pub unrolled : written-after (stepping groups (types-with 1 0) (recursion 0) 42) [] ≡ unrolling 1 0
+  pub unrolled-as-1 : written-after (stepping groups (types-with 0 0) (recursion 1) 42) [] ≡ unrolling 0 1
   -- too big is more than 8,192 records, more than the buffer holds, or a depth over 256
   pub 8192-fit : exceeds 60000 (around 1 (full 12)) ≡ false
   pub 8193-exceed : exceeds 60000 (around 2 (full 12)) ≡ true
@@ -93,26 +94,33 @@ pub record CallExamples : Type 0 where
   -- at the budget a value ends 0 and any other term 1, whatever its next step would say; the largest budget costs nothing
   pub value-at-budget : ran 2 49152 (case-term 1 1 1) ≡ ends 0 2 2
   pub denied-at-budget : ran 0 49152 (case-term 1 1 0) ≡ ends 1 0 7
-  pub big-at-budget : ran 0 72 (loop 0) ≡ ends 1 0 7
+  pub big-at-budget : ran 0 72 (loop 0 0) ≡ ends 1 0 7
   pub largest-budget : ran 18446744073709551615 49152 (case-term 1 1 1) ≡ ends 0 2 2
   -- wrong kind before the reader; any value lets its argument move first
   pub kind-before-reader : ran 9 49152 (proj 0 ++ unit 1 1) ≡ ends 3 0 2
   pub argument-moves : ran 9 49152 (app 0 ++ unit 0 0 ++ protect 0 ++ unit 0 0) ≡ ends 3 1 3
   -- the shorter buffer decides
-  pub short-scratch : run-report (running groups types (loop 0) 1 49152 72) ≡ ends 4 0 7
-  pub short-first : run-report (running groups types (loop 0) 1 72 49152) ≡ ends 4 0 7
+  pub short-scratch : run-report (running groups types (loop 0 0) 1 49152 72) ≡ ends 4 0 7
+  pub short-first : run-report (running groups types (loop 0 0) 1 72 49152) ≡ ends 4 0 7
   -- a run's buffers: the last term and then zeros, all zeros, over their whole lengths
   pub first-filled : first-after (running groups types (protect 1 ++ unit 0 0) 1 13 13) (9 ∷ 9 ∷ 9 ∷ 9 ∷ 9 ∷ 9 ∷ 9 ∷ 9 ∷ 9 ∷ 9 ∷ 9 ∷ 9 ∷ 9 ∷ [])
       ≡ unit 1 1 ++ (0 ∷ 0 ∷ 0 ∷ 0 ∷ 0 ∷ 0 ∷ 0 ∷ [])
   pub scratch-cleared : scratch-after (running groups types (unit 0 0) 0 6 7) (9 ∷ 9 ∷ 9 ∷ 9 ∷ 9 ∷ 9 ∷ 9 ∷ []) ≡ 0 ∷ 0 ∷ 0 ∷ 0 ∷ 0 ∷ 0 ∷ 0 ∷ []
   pub first-unchanged : first-after (running groups types (var 0) 1 6 6) (9 ∷ []) ≡ 9 ∷ []
   -- the look-up
-  pub part : subterm (loop 0) 3 ≡ app 0 ++ var 1 ++ var 0
-  pub no-part : subterm (loop 0) 7 ≡ []
+  pub part : subterm (loop 0 0) 3 ≡ app 0 ++ var 1 ++ var 0
+  pub no-part : subterm (loop 0 0) 7 ≡ []
   pub no-term : subterm (pair 0 0 ++ unit 0 0) 1 ≡ []
   -- stripping, with a last record that is cut short
   pub stripped-script : strip-script (4 ∷ 1 ∷ 1 ∷ 7 ∷ 3 ∷ 2 ∷ 1 ∷ 1 ∷ []) ≡ 4 ∷ 0 ∷ 0 ∷ 7 ∷ 3 ∷ 2 ∷ 1 ∷ 0 ∷ []
   pub stripped-types : strip-types (3 ∷ 1 ∷ 1 ∷ 7 ∷ 2 ∷ 1 ∷ []) ≡ 3 ∷ 0 ∷ 0 ∷ 7 ∷ 2 ∷ 0 ∷ []
+  -- r of the type in byte 1 of a recursion, and in no other record: not where the type doesn't exist, nor in a record that is cut short
+  pub caller-written : write-callers (types-with 1 1) (loop 1 0) ≡ loop 1 1
+  pub caller-replaced : write-callers types (loop 1 1) ≡ loop 1 0
+  pub no-such-caller : write-callers (types-with 1 1) (script-record 11 0 0 6 ++ unit 0 0) ≡ script-record 11 0 0 6 ++ unit 0 0
+  pub caller-cut-short : write-callers (types-with 1 1) (recursion 0 ++ (11 ∷ 0 ∷ 0 ∷ 0 ∷ 3 ∷ [])) ≡ recursion 1 ++ (11 ∷ 0 ∷ 0 ∷ 0 ∷ 3 ∷ [])
+  pub one-written : callers-written types (loop 0 0) ≡ 1
+  pub none-written : callers-written types (script-record 11 0 0 6 ++ case-term 0 0 0 ++ (11 ∷ 0 ∷ 0 ∷ 0 ∷ 3 ∷ [])) ≡ 0
   -- the sheet: a closed object stands for its parts; neither they nor a function's body are shown; 25 to 27
   pub closed-with-parts : sheeting groups types (pair 1 1 ++ unit 0 0 ++ unit 1 0) 0 4 ≡ accepted (ty 5 0 0)
   pub closed-inside : sheeting groups types (pair 0 0 ++ pair 1 1 ++ unit 0 0 ++ unit 0 0 ++ unit 0 0) 0 12 ≡ accepted (ty 3 0 0 ++ ty 5 0 0 ++ ty 0 0 0)
@@ -136,6 +144,6 @@ pub record CallExamples : Type 0 where
   pub value-printed : printed-run 2 49152 (case-term 1 1 1) ≡ text "end 0 steps 2 records 2\nclosed 0 0\n"
   pub spent-printed : printed-run 1 49152 (case-term 1 1 1) ≡ text "end 1 steps 1 records 3\n"
   pub may-not-printed : printed-run 9 49152 (case-term 1 1 0) ≡ text "end 2 steps 0 records 7\n"
-  pub too-big-printed : printed-run 9 72 (loop 0) ≡ text "end 4 steps 0 records 7\n"
+  pub too-big-printed : printed-run 9 72 (loop 0 0) ≡ text "end 4 steps 0 records 7\n"
   pub whole-report : report none groups types (pair 0 0 ++ unit 1 1 ++ script-record 5 0 0 0 ++ unit 0 0)
       ≡ text "accepted 5\nend 0 steps 0 records 4\npair 0 0\nclosed 0 0\nsecond 0 0\nunit 0 0\n"

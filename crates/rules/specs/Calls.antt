@@ -5,6 +5,7 @@ use mathlib.Core.List.{List, [], _∷_, _++_}
 use Prim.Native.Nat.{ℕ, _-_, _/_, min}
 use lib.Dec.{leb, ltb}
 use lib.ListN.{length, drop, replicate}
+use Rattle.calculus.specs.Security.{Security}
 use Rattle.calculus.specs.Types.{Ty, sizeT}
 use Rattle.calculus.specs.Subtyping.{subtype}
 use Rattle.calculus.specs.Terms.{Term, subst, raise-value, is-value}
@@ -79,13 +80,17 @@ script-check rooms g t s = do
 abbrev pub q1 : ℕ → ℕ → Answer (Unit {0})
 q1 work answer = ask 1 0 (leb work-length work && leb answer-length answer)
 
--- "Checking: 1 to 24", with the lengths of the work and the answer buffer: the found type.
-unfoldable pub checking : ℕ → ℕ → Bytes → Bytes → Bytes → Answer Ty
-unfolding script-check typing size sizeT subtype type-at term join
-checking work answer g t s = do
+-- "Checking: 1 to 24", with the lengths of the work and the answer buffer: the found type. The rules of typing are those of S; item 6
+-- compares its own with document 01's.
+abbrev pub checking-by : Security → ℕ → ℕ → Bytes → Bytes → Bytes → Answer Ty
+checking-by S work answer g t s = do
   q1 work answer
   script-check [] g t s
-  typing (readers g) (type-at t) [] 0 (term s)
+  typing S (type-at t) [] 0 (term s)
+
+unfoldable pub checking : ℕ → ℕ → Bytes → Bytes → Bytes → Answer Ty
+unfolding script-check typing size sizeT subtype type-at term join
+checking work answer g t s = checking-by (readers g) work answer g t s
 
 -- "It then gives the type's record count,"
 unfoldable pub type-records : Answer Ty → Answer ℕ
@@ -111,11 +116,14 @@ work-after (accepted s) old = zeros (length old)
 work-after (refused q p) old = cond (leb 20 q) (zeros (length old)) old
 
 -- "Step and run: 2 to 19." A step, with the length of the written buffer.
+abbrev pub stepping-by : Security → Bytes → Bytes → Bytes → ℕ → Answer End
+stepping-by S g t s room = do
+  script-check [] g t s
+  accepted (step-in S (type-at t) room (term s))
+
 unfoldable pub stepping : Bytes → Bytes → Bytes → ℕ → Answer End
 unfolding script-check step-in step operand-first reading apply project branch unroll subst raise-value exceeds size depth type-at term join
-stepping g t s room = do
-  script-check [] g t s
-  accepted (step-in (readers g) (type-at t) room (term s))
+stepping g t s room = stepping-by (readers g) g t s room
 
 -- "A step reports its end and a record count, the script's own unless it moved."
 pub record StepReport : Type 0 where
@@ -139,11 +147,14 @@ written-after (accepted x) old = front-after x old
 written-after (refused q p) old = old
 
 -- A run, with the lengths of the first and the scratch buffer: "too big is judged with the shorter of the two buffers".
+abbrev pub running-by : Security → Bytes → Bytes → Bytes → ℕ → ℕ → ℕ → Answer Ran
+running-by S g t s budget first scratch = do
+  script-check (first ∷ scratch ∷ []) g t s
+  accepted (run S (type-at t) (min first scratch) budget (term s))
+
 unfoldable pub running : Bytes → Bytes → Bytes → ℕ → ℕ → ℕ → Answer Ran
 unfolding script-check run is-value step-in step operand-first reading apply project branch unroll subst raise-value exceeds size depth type-at term join
-running g t s budget first scratch = do
-  script-check (first ∷ scratch ∷ []) g t s
-  accepted (run (readers g) (type-at t) (min first scratch) budget (term s))
+running g t s budget first scratch = running-by (readers g) g t s budget first scratch
 
 -- "A run reports end, steps made and record count."
 pub record Report : Type 0 where

@@ -43,11 +43,12 @@ case-term r ir w =
     ++ script-record 5 0 0 0
     ++ script-record 1 0 0 0
 
--- G: "application of recursion (type 3) of function (type 4) of variable 1 applied to 0, to unit". Given is the outer application's r.
-abbrev pub loop : ℕ → Bytes
-loop w =
+-- G: "application of recursion (type 3) of function (type 4) of variable 1 applied to 0, to unit". Given are the outer application's r
+-- and the recursion's group, r of its type.
+abbrev pub loop : ℕ → ℕ → Bytes
+loop w caller =
     script-record 6 w 0 0
-    ++ script-record 11 0 0 3
+    ++ script-record 11 caller 0 3
     ++ script-record 2 0 0 4
     ++ script-record 6 0 0 0
     ++ script-record 0 0 0 1
@@ -78,11 +79,11 @@ pub record Cases : Type 0 where
   pub D : check types (case-term 0 1 0) ≡ refused 15 1
   pub E : ran 1 49152 (case-term 1 1 1) ≡ ends 1 1 3
   pub F : check types (script-record 0 0 0 0) ≡ refused 19 0
-  pub G-accepted : check types (loop 0) ≡ accepted (ty 0 0 0)
-  pub G-run : ran 3 49152 (loop 0) ≡ ends 1 3 9
-  pub H-72 : ran 1000 72 (loop 0) ≡ ends 4 0 7
-  pub H-78 : ran 1 78 (loop 0) ≡ ends 1 1 13
-  pub I : check (types-with 1 1) (loop 1) ≡ refused 23 1
+  pub G-accepted : check types (loop 0 0) ≡ accepted (ty 0 0 0)
+  pub G-run : ran 3 49152 (loop 0 0) ≡ ends 1 3 9
+  pub H-72 : ran 1000 72 (loop 0 0) ≡ ends 4 0 7
+  pub H-78 : ran 1 78 (loop 0 0) ≡ ends 1 1 13
+  pub I : check (types-with 1 1) (loop 1 1) ≡ refused 23 1
   pub J : groups-check (word 15 ++ word 10 ++ word 12 ++ word 8) ≡ accepted tt
   pub J-join : join (word 15 ++ word 10 ++ word 12 ++ word 8) 1 2 ≡ 3
   pub K : groups-check (word 1 ++ word 2) ≡ refused 6 0

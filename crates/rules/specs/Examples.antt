@@ -12,7 +12,7 @@ use Rattle.rules.specs.Comparison.{same, below, neither}
 use Rattle.rules.specs.Script.{number, script-record, q13, q18}
 use Rattle.rules.specs.Calls.{zeros, groups-check, types-check, comparing, checking, type-bytes, running, run-report}
 use Rattle.rules.specs.Reach.{verdict}
-use Rattle.rules.specs.Cases.{word, ty, groups, types, loop, check, ran}
+use Rattle.rules.specs.Cases.{word, ty, groups, types-with, types, loop, check, ran}
 
 -- records by name
 abbrev pub var : ℕ → Bytes
@@ -128,11 +128,12 @@ pub record Examples : Type 0 where
   pub sides-mixed : comparing groups mixed-pairs 3 6 ≡ accepted neither
   pub equal-sides : comparing groups mixed-pairs 3 9 ≡ accepted same
   -- 13 to 18
-  pub no-room : ran 9 41 (loop 0) ≡ refused 13 0
-  pub no-scratch : run-report (running groups types (loop 0) 9 42 41) ≡ refused 13 0
+  pub no-room : ran 9 41 (loop 0 0) ≡ refused 13 0
+  pub no-scratch : run-report (running groups types (loop 0 0) 9 42 41) ≡ refused 13 0
   pub unnamed-field : check types (script-record 0 1 0 0) ≡ refused 14 0
   pub label-past-rows : check types (app 2 ++ unit 0 0 ++ unit 0 0) ≡ refused 15 0
   pub case-past-rows : check types (protect 0 ++ script-record 9 2 0 1 ++ unit 0 0 ++ unit 0 0 ++ unit 0 0) ≡ refused 15 1
+  pub recursion-past-rows : check types (protect 0 ++ script-record 11 2 0 3 ++ unit 0 0) ≡ refused 15 1
   pub protect-past-rows : check types (protect 2 ++ unit 0 0) ≡ refused 15 0
   pub no-such-type : check types (script-record 2 0 0 6 ++ unit 0 0) ≡ refused 16 0
   pub no-result-type : check types (protect 0 ++ script-record 9 0 0 6 ++ unit 0 0 ++ unit 0 0 ++ unit 0 0) ≡ refused 16 1
@@ -153,11 +154,16 @@ pub record Examples : Type 0 where
   pub branch-binder : check types (branch 0) ≡ accepted (ty 0 0 0)
   pub one-binder : check types (branch 1) ≡ refused 19 3
   pub tested-unbound : check types tested ≡ refused 19 1
-  -- the order of typing's refusals: 20 before the argument, 22 after it, 23 before the body, 24 after both operands
+  -- the order of typing's refusals: 20 before the argument, 22 after it, at a recursion 21 before 23 and both before the body, 24 after both
+  -- operands
   pub function-first : check types (app 0 ++ unit 0 0 ++ proj 0 ++ unit 0 0) ≡ refused 20 0
   pub argument-next : check types (app 0 ++ script-record 2 0 0 4 ++ var 0 ++ proj 0 ++ unit 0 0) ≡ refused 20 3
   pub argument-wanted : check types (app 0 ++ script-record 2 0 0 4 ++ var 0 ++ unit 1 1) ≡ refused 22 0
-  pub condition-first : check (ty 3 1 1 ++ ty 0 0 0 ++ ty 0 0 0) (script-record 11 0 0 0 ++ proj 0 ++ unit 0 0) ≡ refused 23 0
+  pub reader-first : check (types-with 1 1) (protect 0 ++ script-record 11 0 0 3 ++ proj 0 ++ unit 0 0) ≡ refused 21 1
+  pub condition-first : check (types-with 1 1) (protect 0 ++ script-record 11 1 0 3 ++ proj 0 ++ unit 0 0) ≡ refused 23 1
+  -- a recursion may be called as a group above r of its type, and as none below
+  pub called-above : check types (loop 0 1) ≡ accepted (ty 0 0 0)
+  pub called-below : check (types-with 1 0) (loop 1 0) ≡ refused 21 1
   pub left-first : check types (pair 0 0 ++ proj 0 ++ unit 0 0 ++ app 0 ++ unit 0 0 ++ unit 0 0) ≡ refused 20 1
   pub size-last : check types (pair 0 0 ++ (pairs 31 ++ (proj 0 ++ unit 0 0))) ≡ refused 20 64
   -- 21, 22 and 24 at their other nodes, whose record is the place

@@ -5,6 +5,7 @@ use Prim.Native.Nat.{ℕ, _+_, _*_, _/_, _%_, _^_}
 use lib.Dec.{eqb, leb, ltb}
 use lib.ListN.{length}
 use Rattle.calculus.specs.Security.{Security}
+use Rattle.calculus.specs.Groups.{Groups, properties}
 use Rattle.rules.specs.Answer.{Bytes, byte, Answer, _>>_, ask, each, first-from, first-below, all-below, _⇒_}
 use Rattle.rules.specs.Limits.{row-width, group-limit}
 
@@ -93,16 +94,10 @@ ok7 t = all-below (λ h. bit (row t 0) h) (rows t)
 abbrev pub q7 : Bytes → Answer (Unit {0})
 q7 t = ask 7 0 (ok7 t)
 
--- Readers and indirect readers over a groups table: what the calculus does with them.
+-- a groups table as the calculus sees it
+abbrev pub groups-of : Bytes → Groups
+groups-of t = record { group = λ g. ltb g (rows t); leq = leq t; join = join t }
+
+-- readers and indirect readers over a groups table
 abbrev pub readers : Bytes → Security
-readers t = record {
-  le = λ k l. leq t (k .r) (l .r) && leq t (k .ir) (l .ir);
-  leI = λ m n. leq t m n;
-  raise = λ k m. record { r = join t (k .r) m; ir = join t (k .ir) m };
-  permits = λ k w. leq t (k .r) w;
-  influence = λ k w. k .ir;
-  caller = λ k. k .r;
-  absorbs = λ k l. leq t (k .ir) (l .ir);
-  secure = λ k. leq t (k .ir) (k .r);
-  secureI = λ m. ltb m (rows t);
-}
+readers t = properties (groups-of t)

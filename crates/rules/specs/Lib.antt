@@ -8,6 +8,7 @@ pub mod Typing
 pub mod Step
 pub mod Run
 pub mod Strip
+pub mod Callers
 pub mod Sheet
 pub mod Calls
 pub mod Reach

@@ -59,7 +59,7 @@ signatures =
     ∷ signature 1 true false false false  -- 8 second projection
     ∷ signature 3 true false true true  -- 9 case
     ∷ signature 1 false true false false  -- 10 protect
-    ∷ signature 1 false false true true  -- 11 recursion
+    ∷ signature 1 true false true true  -- 11 recursion
     ∷ []
 
 unfoldable pub signature-of : ℕ → Signature
@@ -88,7 +88,7 @@ encode (proj first w e) = script-record 7 w 0 0 ++ encode e
 encode (proj second w e) = script-record 8 w 0 0 ++ encode e
 encode (case w i e a b) = script-record 9 w 0 i ++ (encode e ++ (encode a ++ encode b))
 encode (protect m e) = script-record 10 0 m 0 ++ encode e
-encode (mu i e) = script-record 11 0 0 i ++ encode e
+encode (mu w i e) = script-record 11 w 0 i ++ encode e
 
 abbrev pub no-term : Term
 no-term = var 0
@@ -109,7 +109,7 @@ make kind r ir n a b c =
     ∷ proj second r a
     ∷ case r n a b c
     ∷ protect ir a
-    ∷ mu n a
+    ∷ mu r n a
     ∷ [])
     kind no-term
 
@@ -142,7 +142,7 @@ size (app w f a) = 1 + (size f + size a)
 size (proj d w e) = 1 + size e
 size (case w i e a b) = 1 + (size e + (size a + size b))
 size (protect m e) = 1 + size e
-size (mu i e) = 1 + size e
+size (mu w i e) = 1 + size e
 
 -- the depth of a term's deepest record: "the outermost record has depth 1"
 unfoldable pub depth : Term → ℕ
@@ -155,7 +155,7 @@ depth (app w f a) = 1 + max (depth f) (depth a)
 depth (proj d w e) = 1 + depth e
 depth (case w i e a b) = 1 + max (depth e) (max (depth a) (depth b))
 depth (protect m e) = 1 + depth e
-depth (mu i e) = 1 + depth e
+depth (mu w i e) = 1 + depth e
 
 -- A number for each record, in the records' order: n at the node, `deeper n` at an operand, and `bound n` at one that a
 -- binder stands over. "Kinds 2 and 11 bind one in their operand, a case one in each branch (operands 2 and 3)."
@@ -170,7 +170,7 @@ counts deeper bound n (proj d w e) = n ∷ counts deeper bound (deeper n) e
 counts deeper bound n (case w i e a b) =
     n ∷ (counts deeper bound (deeper n) e ++ (counts deeper bound (bound n) a ++ counts deeper bound (bound n) b))
 counts deeper bound n (protect m e) = n ∷ counts deeper bound (deeper n) e
-counts deeper bound n (mu i e) = n ∷ counts deeper bound (bound n) e
+counts deeper bound n (mu w i e) = n ∷ counts deeper bound (bound n) e
 
 abbrev one-more : ℕ → ℕ
 one-more n = suc n

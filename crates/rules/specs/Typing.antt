@@ -87,7 +87,8 @@ typing S tab Γ p (case w i e a b) = do
 typing S tab Γ p (protect m e) = do
   t ← typing S tab Γ (1 + p) e
   accepted (raiseT S t m)
-typing S tab Γ p (mu i e) = do
+typing S tab Γ p (mu w i e) = do
+  q21 S p (tab i) (S .caller (top (tab i)) w)
   q23 S p (tab i)
   t ← typing S tab (tab i ∷ Γ) (1 + p) e
   q22 S p t (tab i)
