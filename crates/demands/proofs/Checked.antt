@@ -4,9 +4,11 @@ use mathlib.Core.List.{List}
 use Prim.Native.Nat.{ℕ, _≤_, _<_}
 use native.Mathlib.Omega.{arith}
 use lib.ListN.{length, getD}
+use Rattle.calculus.specs.Groups.{Lattice}
 use Rattle.calculus.specs.Terms.{Term}
 use Rattle.rules.specs.Answer.{Bytes, Octets, accepted}
 use Rattle.rules.specs.Limits.{script-limit, depth-limit}
+use Rattle.rules.specs.Groups.{groups-of}
 use Rattle.rules.specs.Script.{encode, term, size, depth, q13, q14, q15, q16, q17, q18}
 use Rattle.rules.specs.Calls.{types-check, script-check}
 use Rattle.rules.proofs.ScriptLength.{q13-fitting, q13-encode}
@@ -15,7 +17,6 @@ use Rattle.rules.proofs.NodeQuestions.{q14-encode}
 use Rattle.rules.proofs.Depth.{q18-depth, q18-encode}
 use Rattle.demands.proofs.Answers.{go-on}
 use Rattle.rules.proofs.Asked.{and-then}
-use Rattle.demands.proofs.Groups.{Lattice}
 use Rattle.demands.proofs.Formed.{Formed}
 use Rattle.demands.proofs.Questions.{questions-formed, formed-questions}
 
@@ -58,7 +59,7 @@ script-passed rooms g t s octets p =
       room = n .roomy;
     }
 
-pub script-passes : (rooms : List ℕ) (g t : Bytes) (e : Term) → types-check g t ≡ accepted tt → Lattice g → Fit g t e → Roomy rooms (encode e)
+pub script-passes : (rooms : List ℕ) (g t : Bytes) (e : Term) → types-check g t ≡ accepted tt → Lattice (groups-of g) → Fit g t e → Roomy rooms (encode e)
     → script-check rooms g t (encode e) ≡ accepted tt
 unfolding script-check
 script-passes rooms g t e types X F room =

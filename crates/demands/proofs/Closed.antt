@@ -70,7 +70,7 @@ module _ (g : Bytes) (group : ℕ) where
   view (proj d w e) v = absurd (false≢true v)
   view (case w i e a b) v = absurd (false≢true v)
   view (protect m e) v = absurd (false≢true v)
-  view (mu i e) v = absurd (false≢true v)
+  view (mu w i e) v = absurd (false≢true v)
 
   -- the sheet that a view gives
   abbrev seen : {e : Term} → View e → Bytes
@@ -216,7 +216,7 @@ module _ (g : Bytes) (group : ℕ) where
   readable (proj d w e) p = absurd (false≢true p)
   readable (case w i e a b) p = absurd (false≢true p)
   readable (protect m e) p = absurd (false≢true p)
-  readable (mu i e) p = absurd (false≢true p)
+  readable (mu w i e) p = absurd (false≢true p)
 
   read-back : (a b : Term) → is-value a ≡ true → is-value b ≡ true → sheet g group a ≡ sheet g group b → AlikeOutside g group a b
   read-back a b p q e = readable a p b q [] [] (ap (λ (s : Bytes). s ++ []) e) .alike

@@ -11,6 +11,7 @@ use Rattle.calculus.specs.Types.{Former, sum, product, function, Ty, one, node}
 use Rattle.calculus.specs.Types as formers
 use Rattle.calculus.specs.Subtyping.{Subtype, Direction, leftward, le-toward, subtype}
 use Rattle.calculus.specs.Subtyping as directions
+use Rattle.calculus.proofs.Properties.{properties-laws}
 use Rattle.calculus.proofs.Directed.{same-refl, same-eq}
 use Rattle.calculus.proofs.Subtyping.{subtype-sound, subtype-complete, subtype-opposite, subtype-reflexive, subtype-antisymmetric}
 use Rattle.rules.specs.Answer.{Bytes, Octets, Answer, accepted, refused, ask, _>>_}
@@ -24,7 +25,6 @@ use Rattle.rules.proofs.PrefixLaws.{unique}
 use Rattle.rules.proofs.TypeCode.{type-prefix}
 use Rattle.demands.specs.Comparison.{Compares, left-sides, Composes, Comparisons}
 use Rattle.demands.proofs.Answers.{accepted-inj, both, go-on, asks, and-true}
-use Rattle.demands.proofs.Readers.{readers-laws}
 use Rattle.demands.proofs.Tables.{Tables}
 use Rattle.demands.proofs.TypesTable.{tables}
 
@@ -208,16 +208,16 @@ module _ (g t : Bytes) (o : Octets g) (yes : types-check g t ≡ accepted tt) wh
     to-table-2 h = subtype-sound a b (related-below S a b (λ e. h (says e)))
 
     pub from-table-2 : Subtype S a b → comparing g t i j ≡ accepted neither → ⊥
-    from-table-2 p e = below-related S a b (subtype-complete (readers-laws (X .lattice)) p) (told e)
+    from-table-2 p e = below-related S a b (subtype-complete (properties-laws (X .lattice)) p) (told e)
 
     to-same : a ≡ b → comparing g t i j ≡ accepted same
     to-same e =
-        let r : Subtype S a a = subtype-reflexive (readers-laws (X .lattice)) a (X .table .secure i) in
-        says (equal-same S a b (subtype-complete (readers-laws (X .lattice)) (subst (λ (u : Ty). Subtype S a u) e r)) e)
+        let r : Subtype S a a = subtype-reflexive (properties-laws (X .lattice)) a (X .table .secure i) in
+        says (equal-same S a b (subtype-complete (properties-laws (X .lattice)) (subst (λ (u : Ty). Subtype S a u) e r)) e)
 
   pub compares : (i j : ℕ) → i < type-count t → j < type-count t → Compares g t i j
   compares i j l m =
-      let L = readers-laws (X .lattice) in
+      let L = properties-laws (X .lattice) in
       record {
         answers = (comparison S (type-at t i) (type-at t j), answer i j l m);
         same-when = (

@@ -3,6 +3,7 @@ use mathlib.Core.Path.{refl, _∙_}
 use Prim.Native.Nat.{ℕ, suc, _<_}
 use native.Mathlib.Omega.{arith}
 use Rattle.calculus.specs.Terms.{Term, var, unit, lam, pair, inj, app, proj, case, protect, mu}
+use Rattle.calculus.specs.Relabelling.{relabel}
 use Rattle.calculus.specs.Erasure.{public, erase}
 use Rattle.calculus.proofs.Erasure.{OneGroup}
 use Rattle.rules.specs.Answer.{Bytes}
@@ -26,7 +27,7 @@ in-stripped : (t : Bytes) (i : ℕ) → i < type-count t → i < type-count (str
 in-stripped t i l = omega (arith, strip-type-count t)
 
 pub erase-formed : (g t : Bytes) (n : ℕ) (e : Term) → Formed g t n e → Formed one-group (strip-types t) n (erase e)
-unfolding Formed erase
+unfolding Formed relabel
 erase-formed g t n (var m) F = F
 erase-formed g t n (unit k) F = public-labelled
 erase-formed g t n (lam k i e) F = (public-labelled, in-stripped t i (F .1), erase-formed g t (suc n) e (F .2))
@@ -37,4 +38,4 @@ erase-formed g t n (proj d w e) F = (the-group, erase-formed g t n e (F .1))
 erase-formed g t n (case w i e a b) F =
     (the-group, in-stripped t i (F .1), erase-formed g t n e (F .2), erase-formed g t (suc n) a (F .3), erase-formed g t (suc n) b (F .4))
 erase-formed g t n (protect m e) F = (the-group, erase-formed g t n e (F .1))
-erase-formed g t n (mu i e) F = (in-stripped t i (F .0), strip-type-kind t i ∙ F .1, erase-formed g t (suc n) e (F .2))
+erase-formed g t n (mu w i e) F = (the-group, in-stripped t i (F .1), strip-type-kind t i ∙ F .2, erase-formed g t (suc n) e (F .3))

@@ -23,4 +23,4 @@ Formed g t n (app w f a) = (w < rows g) × Formed g t n f × Formed g t n a
 Formed g t n (proj d w e) = (w < rows g) × Formed g t n e
 Formed g t n (case w i e a b) = (w < rows g) × (i < type-count t) × Formed g t n e × Formed g t (suc n) a × Formed g t (suc n) b
 Formed g t n (protect m e) = (m < rows g) × Formed g t n e
-Formed g t n (mu i e) = (i < type-count t) × (type-kind t i ≡ 3) × Formed g t (suc n) e
+Formed g t n (mu w i e) = (w < rows g) × (i < type-count t) × (type-kind t i ≡ 3) × Formed g t (suc n) e

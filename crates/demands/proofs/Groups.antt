@@ -6,31 +6,18 @@ use Prim.Native.Nat.{ℕ, zero, _+_, _*_, _%_, _^_, _≤_, _<_}
 use native.Mathlib.Omega.{arith}
 use native.Mathlib.Decide.{decLt}
 use native.Mathlib.Nat.{zero-div, div-eq-of-lt, pow-le-pow-right}
-use borrow.Author.Tests.{eqb-true, leb-true, ltb-true}
+use borrow.Author.Tests.{eqb-true, leb-true, ltb-true, lt-ltb}
 use lib.Dec.{eqb, leb, ltb}
 use lib.ListN.{length, List·getD-eq-default}
+use Rattle.calculus.specs.Groups.{Lattice}
 use Rattle.rules.specs.Answer.{Bytes, byte, Octets, accepted, first-below, _⇒_}
 use Rattle.rules.specs.Limits.{row-width, group-limit}
-use Rattle.rules.specs.Groups.{rows, row, bit, leq, common, join, or-zero, within, row-of-lowest, is-number, ok3, ok4, ok5, ok6, ok7, q2, q3, q4, q5, q6, q7}
+use Rattle.rules.specs.Groups.{rows, row, bit, leq, common, join, or-zero, within, row-of-lowest, is-number, ok3, ok4, ok5, ok6, ok7, q2, q3, q4, q5, q6, q7, groups-of}
 use Rattle.rules.specs.Calls.{groups-check}
 use Rattle.rules.proofs.Search.{each-all, all-below-all, Found, found}
 use Rattle.demands.proofs.Answers.{both}
 use Rattle.rules.proofs.Asked.{and-then, ask-true, implied}
 use Rattle.calculus.proofs.Booleans.{same-bits}
-
--- the order of a lattice of groups, in which a group is what is ⊑ itself
-pub record Lattice (t : Bytes) : Type 0 where
-  pub self-left : (g h : ℕ) → So (leq t g h) → So (leq t g g)
-  pub self-right : (g h : ℕ) → So (leq t g h) → So (leq t h h)
-  pub trans : (g h k : ℕ) → So (leq t g h) → So (leq t h k) → So (leq t g k)
-  pub antisym : (g h : ℕ) → So (leq t g h) → So (leq t h g) → g ≡ h
-  pub upper-left : (g h : ℕ) → So (leq t g g) → So (leq t h h) → So (leq t g (join t g h))
-  pub upper-right : (g h : ℕ) → So (leq t g g) → So (leq t h h) → So (leq t h (join t g h))
-  pub least : (g h k : ℕ) → So (leq t g k) → So (leq t h k) → So (leq t (join t g h) k)
-  pub bottom : (g : ℕ) → So (leq t g g) → So (leq t zero g)
-  -- the document's words: a group is a number below the row count
-  pub in-table : (g : ℕ) → g < rows t → So (leq t g g)
-  pub groups-only : (g h : ℕ) → So (leq t g h) → g < rows t
 
 module _ (t : Bytes) (octets : Octets t) (passed : groups-check t ≡ accepted tt) where
   asked-all : (q2 t ≡ accepted tt) × (q3 t ≡ accepted tt) × (q4 t ≡ accepted tt) × (q5 t ≡ accepted tt) × (q6 t ≡ accepted tt) × (q7 t ≡ accepted tt)
@@ -157,7 +144,7 @@ module _ (t : Bytes) (octets : Octets t) (passed : groups-check t ≡ accepted t
   unfolding ok7
   bottom-row h l = all-below-all (rows t) (λ h. bit (row t 0) h) (ask-true 7 0 _ (asked-all .5)) h l
 
-  pub lattice : Lattice t
+  pub lattice : Lattice (groups-of t)
   lattice = record {
     self-left = λ g h p. reflexive g (row-in g h p);
     self-right = λ g h p. reflexive h (col-in g h p);
@@ -167,6 +154,6 @@ module _ (t : Bytes) (octets : Octets t) (passed : groups-check t ≡ accepted t
     upper-right = λ g h p q. upper g h (row-in g g p) (row-in h h q) .1;
     least = least-upper;
     bottom = λ g p. bottom-row g (row-in g g p);
-    in-table = reflexive;
-    groups-only = row-in;
+    in-table = λ g h. reflexive g (ltb-true g (rows t) h);
+    groups-only = λ g h p. lt-ltb g (rows t) (row-in g h p);
   }

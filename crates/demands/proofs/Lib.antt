@@ -1,10 +1,10 @@
 pub mod Answers
 pub mod Groups
-pub mod Readers
 pub mod Formed
 pub mod Inference
 pub mod Tables
 pub mod Stepping
+pub mod RelabelledBytes
 pub mod Stripping
 pub mod Erased
 pub mod Runs
@@ -22,3 +22,6 @@ pub mod ThirdDemand
 pub mod Demands
 pub mod Comparison
 pub mod Closed
+pub mod WrittenTerms
+pub mod WrittenScripts
+pub mod Rewriting

@@ -77,8 +77,9 @@ module _ (S : Security) (end p : ℕ) (l : p < end) where
       (bind (m′ (left s)) _ (P′ (left s)) (λ u. then (q22 S p u a) _ (at-22 u a)
       (bind (m″ (right s)) _ (P″ (right s)) (λ v. then (q22 S p v a) _ (at-22 v a) placed-yes))))))
 
-  mu-placed : (a : Ty) (m : Answer Ty) → Placed end m → Placed end (_>>_ (q23 S p a) (_>>=_ m (λ s. _>>_ (q22 S p s a) (accepted a))))
-  mu-placed a m P = then (q23 S p a) _ (at-23 a) (bind m _ P (λ s. then (q22 S p s a) _ (at-22 s a) placed-yes))
+  mu-placed : (a : Ty) (w : Reader) (m : Answer Ty) → Placed end m
+      → Placed end (_>>_ (q21 S p a w) (_>>_ (q23 S p a) (_>>=_ m (λ s. _>>_ (q22 S p s a) (accepted a)))))
+  mu-placed a w m P = then (q21 S p a w) _ (at-21 a w) (then (q23 S p a) _ (at-23 a) (bind m _ P (λ s. then (q22 S p s a) _ (at-22 s a) placed-yes)))
 
 pub typing-placed : (S : Security) (tab : ℕ → Ty) (end : ℕ) (Γ : List Ty) (p : ℕ) (e : Term) → p + size e ≤ end → Placed end (typing S tab Γ p e)
 unfolding typing size
@@ -96,7 +97,7 @@ typing-placed S tab end Γ p (case w i e a b) l =
     (typing-placed S tab end Γ (1 + p) e (omega arith)) (λ s. typing-placed S tab end (s ∷ Γ) (1 + p + size e) a (omega arith))
     (λ s. typing-placed S tab end (s ∷ Γ) (1 + p + size e + size a) b (omega arith))
 typing-placed S tab end Γ p (protect m e) l = bind (typing S tab Γ (1 + p) e) _ (typing-placed S tab end Γ (1 + p) e (omega arith)) (λ s. placed-yes)
-typing-placed S tab end Γ p (mu i e) l = mu-placed S end p (omega arith) (tab i) (typing S tab (tab i ∷ Γ) (1 + p) e) (typing-placed S tab end (tab i ∷ Γ) (1 + p) e (omega arith))
+typing-placed S tab end Γ p (mu w i e) l = mu-placed S end p (omega arith) (tab i) _ (typing S tab (tab i ∷ Γ) (1 + p) e) (typing-placed S tab end (tab i ∷ Γ) (1 + p) e (omega arith))
 
 refused-number : {A : Type 0} {q q′ p p′ : ℕ} → _≡_ {A = Answer A} (refused q p) (refused q′ p′) → q ≡ q′
 refused-number e = cc

@@ -1,8 +1,11 @@
 -- Questions 15, 16 and 19 of an encoding say that its term is formed, and back.
 use mathlib.Core.Path.{_≡_}
 use Prim.Native.Nat.{ℕ, suc}
+use borrow.Author.Tests.{ltb-true}
 use Rattle.calculus.specs.Security.{Property}
+use Rattle.calculus.specs.Groups.{Lattice}
 use Rattle.calculus.specs.Terms.{Term, var, unit, lam, pair, inj, app, proj, case, protect, mu}
+use Rattle.rules.specs.Groups.{groups-of}
 use Rattle.rules.specs.Answer.{Bytes, accepted}
 use Rattle.rules.specs.Script.{encode, q15, q16, q19}
 use Rattle.rules.proofs.Nodes.{Every, every-here, every-below, every-node}
@@ -10,7 +13,6 @@ use Rattle.rules.proofs.TermCode.{term-shape}
 use Rattle.rules.proofs.NodeFacts.{Label, Labelled, Named}
 use Rattle.rules.proofs.NodeQuestions.{q15-labelled, q15-encode, q16-named, q16-encode}
 use Rattle.rules.proofs.Scope.{Scoped, q19-scoped, q19-encode}
-use Rattle.demands.proofs.Groups.{Lattice}
 use Rattle.demands.proofs.Formed.{Secure, Formed}
 
 module _ (g t : Bytes) where
@@ -39,15 +41,15 @@ module _ (g t : Bytes) where
     to-formed b (suc n) (every-below G .1 .1 .0) (every-below T .1 .1 .0) (S .2),
   )
   to-formed (protect m e) n G T S = (every-here G, to-formed e n (every-below G .0) (every-below T .0) S)
-  to-formed (mu i e) n G T S = (every-here T .0, every-here T .1, to-formed e (suc n) (every-below G .0) (every-below T .0) S)
+  to-formed (mu w i e) n G T S = (every-here G, every-here T .0, every-here T .1, to-formed e (suc n) (every-below G .0) (every-below T .0) S)
 
   pub questions-formed : (e : Term) → q15 g (encode e) ≡ accepted tt → q16 t (encode e) ≡ accepted tt → q19 (encode e) ≡ accepted tt → Formed g t 0 e
   questions-formed e a b c = to-formed e 0 (q15-labelled g e a) (q16-named t e b) (q19-scoped e c)
 
   -- and back, over a lattice: the groups of a property that satisfies ir ⊑ r are in the table
-  module _ (X : Lattice g) where
+  module _ (X : Lattice (groups-of g)) where
     label : (k : Property) → Secure g k → Label g k
-    label k h = (X .groups-only _ _ (X .self-right _ _ h), X .groups-only _ _ h, h)
+    label k h = (ltb-true _ _ (X .groups-only _ _ (X .self-right _ _ h)), ltb-true _ _ (X .groups-only _ _ h), h)
 
     from-formed : (e : Term) (n : ℕ) → Formed g t n e → Grouped e × Typed e × Scoped n e
     unfolding Formed
@@ -74,7 +76,7 @@ module _ (g t : Bytes) where
         let z = from-formed b (suc n) (F .4) in
         (every-node (F .0) (x .0, (y .0, (z .0, tt))), every-node (F .1) (x .1, (y .1, (z .1, tt))), (x .2, y .2, z .2))
     from-formed (protect m e) n F = let x = from-formed e n (F .1) in (every-node (F .0) (x .0, tt), every-node tt (x .1, tt), x .2)
-    from-formed (mu i e) n F = let x = from-formed e (suc n) (F .2) in (every-node tt (x .0, tt), every-node (F .0, F .1) (x .1, tt), x .2)
+    from-formed (mu w i e) n F = let x = from-formed e (suc n) (F .3) in (every-node (F .0) (x .0, tt), every-node (F .1, F .2) (x .1, tt), x .2)
 
     pub formed-questions : (e : Term) → Formed g t 0 e → (q15 g (encode e) ≡ accepted tt) × (q16 t (encode e) ≡ accepted tt) × (q19 (encode e) ≡ accepted tt)
     formed-questions e F = let x = from-formed e 0 F in (q15-encode g e (x .0), q16-encode t e (x .1), q19-encode e (x .2))

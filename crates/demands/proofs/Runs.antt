@@ -9,12 +9,11 @@ use Rattle.calculus.specs.Types.{Ty}
 use Rattle.calculus.specs.Terms.{Term, is-value}
 use Rattle.calculus.specs.Reduction.{Outcome, value, moved, denied, stuck, step}
 use Rattle.calculus.specs.Typing.{HasType, Table}
-use Rattle.calculus.specs.Erasure.{eraseT, erase}
+use Rattle.calculus.specs.Erasure.{eraseT, erase, eraseO}
 use Rattle.calculus.proofs.Reduction.{step-reduces}
 use Rattle.calculus.proofs.Preservation.{preservation}
 use Rattle.calculus.proofs.Progress.{never-denied, never-stuck}
-use Rattle.calculus.proofs.ErasedTerms.{erase-value}
-use Rattle.calculus.proofs.Erasure.{OneGroup, eraseO, typed-erase-step}
+use Rattle.calculus.proofs.Erasure.{erase-value, OneGroup, typed-erase-step}
 use Rattle.rules.specs.Step.{exceeds, step-in}
 use Rattle.rules.specs.Run.{Ran, one-step-more, run}
 use Rattle.demands.proofs.Stripping.{erase-size, erase-depth}

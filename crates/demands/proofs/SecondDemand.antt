@@ -13,6 +13,7 @@ use Rattle.calculus.specs.Subtyping.{Subtype}
 use Rattle.calculus.specs.Terms.{Term, is-value}
 use Rattle.calculus.specs.Reduction.{Outcome, value, moved, denied, stuck, step}
 use Rattle.calculus.specs.Typing.{infer}
+use Rattle.calculus.proofs.Properties.{properties-laws}
 use Rattle.calculus.proofs.Values.{value-step}
 use Rattle.calculus.proofs.Reduction.{step-value, step-reduces, reduces-step, step-denied, denied-step, step-stuck, stuck-step}
 use Rattle.calculus.proofs.SecureTyping.{sc-empty}
@@ -34,7 +35,6 @@ use Rattle.demands.specs.Demands.{Demand2, Typed}
 use Rattle.demands.proofs.Answers.{accepted-inj, asks, and-true}
 use Rattle.rules.proofs.Asked.{and-then}
 use Rattle.rules.proofs.Search.{some-inj}
-use Rattle.demands.proofs.Readers.{readers-laws}
 use Rattle.demands.proofs.Tables.{Tables}
 use Rattle.demands.proofs.TypesTable.{tables}
 use Rattle.demands.proofs.Inference.{forget, agree}
@@ -84,14 +84,14 @@ module _ (g t s : Bytes) (octets-g : Octets g) (octets-s : Octets s) where
   accepts : script-check [] g t s ≡ accepted tt → (type : Ty) → Typed g t s type → (least : Ty) × Accepted g t s least × Subtype S least type
   accepts q type h =
       let X = known q in
-      let c = infer-complete (readers-laws (X .lattice)) (X .table) (term s) type sc-empty h in
+      let c = infer-complete (properties-laws (X .lattice)) (X .table) (term s) type sc-empty h in
       (c .0, goes-typing q ∙ found-accepted (typing S tab [] 0 (term s)) (same-type q ∙ c .1), c .2)
 
   pub only : (type : Ty) → Accepted g t s type → (script-check [] g t s ≡ accepted tt) × Typed g t s type
   only type a =
       let p = verdict-parts type a in
       let X = known (p .0) in
-      (p .0, infer-sound (readers-laws (X .lattice)) (X .table) (term s) type sc-empty (sym (same-type (p .0)) ∙ ap forget (p .1)))
+      (p .0, infer-sound (properties-laws (X .lattice)) (X .table) (term s) type sc-empty (sym (same-type (p .0)) ∙ ap forget (p .1)))
 
   reports : (type : Ty) → Accepted g t s type → type-bytes (verdict g t s) ≡ accepted (encode-type type)
   unfolding type-bytes

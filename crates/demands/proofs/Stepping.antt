@@ -3,18 +3,19 @@ use mathlib.Core.Path.{_≡_, refl, sym, subst}
 use mathlib.Core.Bool.{Bool, true, false, cond}
 use Prim.Native.Nat.{ℕ, suc, _<_, _≤_}
 use native.Mathlib.Omega.{arith}
-use borrow.Author.Tests.{eqb-false, lt-ltb}
+use borrow.Author.Tests.{eqb-false, ltb-true, lt-ltb}
 use lib.Dec.{eqb}
-use Rattle.calculus.specs.Security.{Property, Indirect}
+use Rattle.calculus.specs.Security.{Property, Reader, Indirect, Security}
 use Rattle.calculus.specs.Terms.{Side, first, second, choose, Term, var, unit, lam, pair, inj, app, proj, case, protect, mu, raise-value}
 use Rattle.calculus.specs.Terms as terms
+use Rattle.calculus.specs.Callers.{called-as}
 use Rattle.calculus.specs.Reduction.{unrolled, Contracts, c-app, c-proj, c-case, c-mu, c-protect, Context, hole, app-left, app-right, in-proj, in-inj, pair-left, pair-right, in-protect, in-case, plug, moved, step}
+use Rattle.calculus.proofs.Properties.{properties-laws}
 use Rattle.calculus.proofs.Reduction.{step-reduces}
 use Rattle.calculus.proofs.SecureTyping.{table-parts}
 use Rattle.rules.specs.Answer.{Bytes}
 use Rattle.rules.specs.Groups.{rows, readers}
 use Rattle.rules.specs.Types.{type-at}
-use Rattle.demands.proofs.Readers.{readers-laws}
 use Rattle.demands.proofs.Formed.{Secure, Formed}
 use Rattle.demands.proofs.Tables.{Tables}
 
@@ -31,7 +32,7 @@ formed-weaken g t n m (proj d w e) l F = (F .0, formed-weaken g t n m e l (F .1)
 formed-weaken g t n m (case w i e a b) l F =
     (F .0, F .1, formed-weaken g t n m e l (F .2), formed-weaken g t (suc n) (suc m) a (omega arith) (F .3), formed-weaken g t (suc n) (suc m) b (omega arith) (F .4))
 formed-weaken g t n m (protect i e) l F = (F .0, formed-weaken g t n m e l (F .1))
-formed-weaken g t n m (mu i e) l F = (F .0, F .1, formed-weaken g t (suc n) (suc m) e (omega arith) (F .2))
+formed-weaken g t n m (mu w i e) l F = (F .0, F .1, F .2, formed-weaken g t (suc n) (suc m) e (omega arith) (F .3))
 
 -- a closed term for the last variable
 pub formed-subst : (g t : Bytes) (n : ℕ) (v e : Term) → Formed g t 0 v → Formed g t (suc n) e → Formed g t n (terms.subst n v e)
@@ -52,7 +53,7 @@ formed-subst g t n v (app w f a) H F = (F .0, formed-subst g t n v f H (F .1), f
 formed-subst g t n v (proj d w e) H F = (F .0, formed-subst g t n v e H (F .1))
 formed-subst g t n v (case w i e a b) H F = (F .0, F .1, formed-subst g t n v e H (F .2), formed-subst g t (suc n) v a H (F .3), formed-subst g t (suc n) v b H (F .4))
 formed-subst g t n v (protect m e) H F = (F .0, formed-subst g t n v e H (F .1))
-formed-subst g t n v (mu i e) H F = (F .0, F .1, formed-subst g t (suc n) v e H (F .2))
+formed-subst g t n v (mu w i e) H F = (F .0, F .1, F .2, formed-subst g t (suc n) v e H (F .3))
 
 formed-choose : (g t : Bytes) (n : ℕ) (d : Side) (a b : Term) → Formed g t n a → Formed g t n b → Formed g t n (choose d a b)
 formed-choose g t n first a b A B = A
@@ -74,39 +75,44 @@ formed-plug g t (in-case w i E a b) e F = let x = formed-plug g t E e (F .2) in 
 module _ {g t : Bytes} (X : Tables g t) where
   -- a labelled property's groups are in the table
   r-group : (k : Property) → Secure g k → k .r < rows g
-  r-group k h = X .lattice .groups-only _ _ (X .lattice .self-right _ _ h)
+  r-group k h = ltb-true _ _ (X .lattice .groups-only _ _ (X .lattice .self-right _ _ h))
 
   ir-group : (k : Property) → Secure g k → k .ir < rows g
-  ir-group k h = X .lattice .groups-only _ _ h
+  ir-group k h = ltb-true _ _ (X .lattice .groups-only _ _ h)
 
-  formed-raise : (n : ℕ) (v : Term) (m : Indirect) → m < rows g → Formed g t n v → Formed g t n (raise-value (readers g) v m)
-  unfolding Formed raise-value
-  formed-raise n (var i) m l F = F
-  formed-raise n (unit k) m l F = readers-laws (X .lattice) .raise-secure k m F (lt-ltb _ _ l)
-  formed-raise n (lam k i e) m l F = (readers-laws (X .lattice) .raise-secure k m (F .0) (lt-ltb _ _ l), F .1, F .2)
-  formed-raise n (pair k a b) m l F = (readers-laws (X .lattice) .raise-secure k m (F .0) (lt-ltb _ _ l), F .1, F .2)
-  formed-raise n (inj d k i e) m l F = (readers-laws (X .lattice) .raise-secure k m (F .0) (lt-ltb _ _ l), F .1, F .2, F .3)
-  formed-raise n (app w f a) m l F = F
-  formed-raise n (proj d w e) m l F = F
-  formed-raise n (case w i e a b) m l F = F
-  formed-raise n (protect i e) m l F = F
-  formed-raise n (mu i e) m l F = F
+  -- Whoever a recursive call is made as, where that is a group of the table.
+  module _ (caller : Property → Reader → Reader) (in-table : (k : Property) (w : Reader) → k .r < rows g → w < rows g → caller k w < rows g) where
+    abbrev S : Security
+    S = called-as caller (readers g)
 
-  formed-contracts : {e e′ : Term} → Contracts (readers g) (type-at t) e e′ → Formed g t 0 e → Formed g t 0 e′
-  unfolding Formed
-  formed-contracts (c-app {k = k} {e = e} {v = v} x y) F = (ir-group k (F .1 .0), formed-subst g t 0 v e (F .2) (F .1 .2))
-  formed-contracts (c-proj {d = d} {k = k} {v = v} {v′ = v′} x y z) F = (ir-group k (F .1 .0), formed-choose g t 0 d v v′ (F .1 .1) (F .1 .2))
-  formed-contracts (c-case {d = d} {k = k} {v = v} {a = a} {b = b} x y) F =
-      (ir-group k (F .2 .0), formed-subst g t 0 v (choose d a b) (F .2 .3) (formed-choose g t 1 d a b (F .3) (F .4)))
-  formed-contracts (c-mu {i = i} {e = e} {k = k} p) F =
-      let own = table-parts (X .table) i p .own in
-      formed-subst g t 0 (unrolled (readers g) i k e) e
-      (own, X .next i (F .0) (F .1), (r-group k own, formed-weaken g t 0 1 (mu i e) (omega arith) F, omega arith))
-      (F .2)
-  formed-contracts (c-protect {m = m} {v = v} x) F = formed-raise 0 v m (F .0) (F .1)
+    formed-raise : (n : ℕ) (v : Term) (m : Indirect) → m < rows g → Formed g t n v → Formed g t n (raise-value S v m)
+    unfolding Formed raise-value
+    formed-raise n (var i) m l F = F
+    formed-raise n (unit k) m l F = properties-laws (X .lattice) .raise-secure k m F (lt-ltb _ _ l)
+    formed-raise n (lam k i e) m l F = (properties-laws (X .lattice) .raise-secure k m (F .0) (lt-ltb _ _ l), F .1, F .2)
+    formed-raise n (pair k a b) m l F = (properties-laws (X .lattice) .raise-secure k m (F .0) (lt-ltb _ _ l), F .1, F .2)
+    formed-raise n (inj d k i e) m l F = (properties-laws (X .lattice) .raise-secure k m (F .0) (lt-ltb _ _ l), F .1, F .2, F .3)
+    formed-raise n (app w f a) m l F = F
+    formed-raise n (proj d w e) m l F = F
+    formed-raise n (case w i e a b) m l F = F
+    formed-raise n (protect i e) m l F = F
+    formed-raise n (mu w i e) m l F = F
 
-  pub formed-step : (e e′ : Term) → step (readers g) (type-at t) e ≡ moved e′ → Formed g t 0 e → Formed g t 0 e′
-  formed-step e e′ h F =
-      let x = step-reduces (readers g) (type-at t) e e′ h in
-      let y = formed-plug g t (x .context) (x .redex) (subst (Formed g t 0) (x .before) F) in
-      subst (Formed g t 0) (sym (x .after)) (y .1 (x .contractum) (formed-contracts (x .contracts) (y .0)))
+    formed-contracts : {e e′ : Term} → Contracts S (type-at t) e e′ → Formed g t 0 e → Formed g t 0 e′
+    unfolding Formed
+    formed-contracts (c-app {k = k} {e = e} {v = v} x y) F = (ir-group k (F .1 .0), formed-subst g t 0 v e (F .2) (F .1 .2))
+    formed-contracts (c-proj {d = d} {k = k} {v = v} {v′ = v′} x y z) F = (ir-group k (F .1 .0), formed-choose g t 0 d v v′ (F .1 .1) (F .1 .2))
+    formed-contracts (c-case {d = d} {k = k} {v = v} {a = a} {b = b} x y) F =
+        (ir-group k (F .2 .0), formed-subst g t 0 v (choose d a b) (F .2 .3) (formed-choose g t 1 d a b (F .3) (F .4)))
+    formed-contracts (c-mu {w = w} {i = i} {e = e} {k = k} p) F =
+        let own = table-parts (X .table) i p .own in
+        formed-subst g t 0 (unrolled S w i k e) e
+        (own, X .next i (F .1) (F .2), (in-table k w (r-group k own) (F .0), formed-weaken g t 0 1 (mu w i e) (omega arith) F, omega arith))
+        (F .3)
+    formed-contracts (c-protect {m = m} {v = v} x) F = formed-raise 0 v m (F .0) (F .1)
+
+    pub formed-step : (e e′ : Term) → step S (type-at t) e ≡ moved e′ → Formed g t 0 e → Formed g t 0 e′
+    formed-step e e′ h F =
+        let x = step-reduces S (type-at t) e e′ h in
+        let y = formed-plug g t (x .context) (x .redex) (subst (Formed g t 0) (x .before) F) in
+        subst (Formed g t 0) (sym (x .after)) (y .1 (x .contractum) (formed-contracts (x .contracts) (y .0)))

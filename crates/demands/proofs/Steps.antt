@@ -7,6 +7,7 @@ use native.Mathlib.Omega.{arith}
 use borrow.Author.Tests.{ltb-false}
 use lib.Dec.{ltb}
 use Rattle.calculus.specs.Terms.{Term}
+use Rattle.calculus.specs.Callers.{as-written}
 use Rattle.calculus.specs.Reduction.{Outcome, value, moved, denied, stuck, step}
 use Rattle.rules.specs.Answer.{Bytes, accepted}
 use Rattle.rules.specs.Limits.{script-width, script-limit, depth-limit}
@@ -115,4 +116,4 @@ module _ (g t : Bytes) (types : types-check g t ≡ accepted tt) (X : Tables g t
   fit-moves room e e′ F h =
       let m = limited-moves room (step (readers g) (type-at t) e) e′ h in
       let l = within-limits room e′ (m .1) in
-      record { formed = formed-step X e e′ (m .0) (F .formed); small = l .0; shallow = l .2 }
+      record { formed = formed-step X as-written (λ k w r l. l) e e′ (m .0) (F .formed); small = l .0; shallow = l .2 }

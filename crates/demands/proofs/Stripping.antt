@@ -10,15 +10,17 @@ use lib.ListN.{getD, drop}
 use Rattle.calculus.specs.Security.{Property}
 use Rattle.calculus.specs.Types.{Ty}
 use Rattle.calculus.specs.Terms.{Term, var, unit, lam, pair, inj, app, proj, case, protect, mu}
-use Rattle.calculus.specs.Erasure.{public, eraseT, erase}
+use Rattle.calculus.specs.Relabelling.{Labels, relabelT, relabel}
+use Rattle.calculus.specs.Erasure.{public, erased, eraseT, erase}
 use Rattle.rules.specs.Answer.{Bytes, byte}
 use Rattle.rules.specs.Limits.{type-width}
 use Rattle.rules.specs.Types.{type-count, type-kind, type-r, type-ir, type-zero, sides, no-type, make-type, parse-types, type-at}
 use Rattle.rules.specs.Script.{encode, size, depth}
-use Rattle.rules.proofs.Prefix.{All, joined}
-use Rattle.rules.proofs.TermCode.{term-operands, term-head, term-induction, term-encode-is}
+use Rattle.rules.proofs.Nodes.{every-of}
+use Rattle.rules.proofs.TermCode.{term-head}
 use Rattle.rules.specs.Strip.{strip-from, strip-script, strip-types}
 use Rattle.rules.proofs.Strip.{strip-length}
+use Rattle.demands.proofs.RelabelledBytes.{relabel-size, relabel-depth, change-encode}
 
 -- Only the place within a record matters. `next` is what a width has to know of its remainders.
 module _ (w : ℕ) (next : (i j : ℕ) → i % w ≡ j % w → suc i % w ≡ suc j % w) where
@@ -55,7 +57,7 @@ unfolding strip-from
 strip-record k r ir z lo hi s = ap {B = Bytes} (λ (x : Bytes). k ∷ 0 ∷ 0 ∷ z ∷ lo ∷ hi ∷ x) (strip-six 6 0 s refl)
 
 strip-head : (e : Term) (s : Bytes) → strip-script (term-head e ++ s) ≡ term-head (erase e) ++ strip-script s
-unfolding erase
+unfolding relabel
 strip-head (var n) s = strip-record _ _ _ _ _ _ s
 strip-head (unit k) s = strip-record _ _ _ _ _ _ s
 strip-head (lam k i e) s = strip-record _ _ _ _ _ _ s
@@ -65,52 +67,18 @@ strip-head (app w f a) s = strip-record _ _ _ _ _ _ s
 strip-head (proj d w e) s = strip-record _ _ _ _ _ _ s
 strip-head (case w i e a b) s = strip-record _ _ _ _ _ _ s
 strip-head (protect m e) s = strip-record _ _ _ _ _ _ s
-strip-head (mu i e) s = strip-record _ _ _ _ _ _ s
+strip-head (mu w i e) s = strip-record _ _ _ _ _ _ s
 
-erase-operands : (e : Term) → term-operands (erase e) ≡ map erase (term-operands e)
-unfolding erase
-erase-operands (var n) = refl
-erase-operands (unit k) = refl
-erase-operands (lam k i e) = refl
-erase-operands (pair k a b) = refl
-erase-operands (inj d k i e) = refl
-erase-operands (app w f a) = refl
-erase-operands (proj d w e) = refl
-erase-operands (case w i e a b) = refl
-erase-operands (protect m e) = refl
-erase-operands (mu i e) = refl
-
-abbrev Erases : Term → Type 0
-Erases e = (s : Bytes) → strip-script (encode e ++ s) ≡ encode (erase e) ++ strip-script s
-
-strip-joined : (es : List Term) → All Erases es → (s : Bytes) → strip-script (joined encode es ++ s) ≡ joined encode (map erase es) ++ strip-script s
-strip-joined [] h s = refl
-strip-joined (e ∷ es) h s =
-    ap strip-script (append-assoc (encode e) (joined encode es) s)
-    ∙ h .0 (joined encode es ++ s)
-    ∙ ap (λ (x : Bytes). encode (erase e) ++ x) (strip-joined es (h .1) s)
-    ∙ sym (append-assoc (encode (erase e)) (joined encode (map erase es)) (strip-script s))
-
-pub strip-encode : (e : Term) (s : Bytes) → strip-script (encode e ++ s) ≡ encode (erase e) ++ strip-script s
-strip-encode = term-induction Erases node-case
-  where
-    node-case : (e : Term) → All Erases (term-operands e) → Erases e
-    node-case e h s =
-        let ops = joined encode (term-operands e) in
-        ap (λ (x : Bytes). strip-script (x ++ s)) (term-encode-is e)
-        ∙ ap strip-script (append-assoc (term-head e) ops s)
-        ∙ strip-head e (ops ++ s)
-        ∙ ap (λ (x : Bytes). term-head (erase e) ++ x) (strip-joined (term-operands e) h s)
-        ∙ sym (append-assoc (term-head (erase e)) (joined encode (map erase (term-operands e))) (strip-script s))
-        ∙ ap (λ (x : Bytes). x ++ strip-script s)
-        (ap (λ (os : List Term). term-head (erase e) ++ joined encode os) (sym (erase-operands e)) ∙ sym (term-encode-is (erase e)))
+pub strip-encode : (e : Term) → strip-script (encode e) ≡ encode (erase e)
+unfolding strip-from
+strip-encode e = change-encode erased strip-script (λ c. Unit {0}) (λ c q s. strip-head c s) refl e (every-of (λ c. tt) e)
 
 -- types
 strip-four : (i j : ℕ) (s : Bytes) → i % 4 ≡ j % 4 → strip-from 4 i s ≡ strip-from 4 j s
 strip-four = strip-mod 4 (λ i j e. omega arith)
 
 erase-make : (kind : ℕ) (k : Property) (s t : Ty) → make-type kind public (eraseT s) (eraseT t) ≡ eraseT (make-type kind k s t)
-unfolding eraseT
+unfolding relabelT
 erase-make zero k s t = refl
 erase-make (suc zero) k s t = refl
 erase-make (suc (suc zero)) k s t = refl
@@ -118,7 +86,7 @@ erase-make (suc (suc (suc zero))) k s t = refl
 erase-make (suc (suc (suc (suc n)))) k s t = refl
 
 erase-at : (ts : List Ty) (i : ℕ) → getD (map eraseT ts) i no-type ≡ eraseT (getD ts i no-type)
-unfolding eraseT
+unfolding relabelT
 erase-at [] i = refl
 erase-at (s ∷ ts) zero = refl
 erase-at (s ∷ ts) (suc i) = erase-at ts i
@@ -172,29 +140,9 @@ strip-type-ir t i = stripped-byte t i 2 2 (omega arith)
 pub strip-type-zero : (t : Bytes) (i : ℕ) → type-zero (strip-types t) i ≡ type-zero t i
 strip-type-zero t i = stripped-byte t i 3 3 (omega arith)
 
--- erasure keeps a term's records and depth
+-- stripping keeps a term's records and depth
 pub erase-size : (e : Term) → size (erase e) ≡ size e
-unfolding size erase
-erase-size (var n) = refl
-erase-size (unit k) = refl
-erase-size (lam k i e) = rw (erase-size e)
-erase-size (pair k a b) = rw (erase-size a, erase-size b)
-erase-size (inj d k i e) = rw (erase-size e)
-erase-size (app w f a) = rw (erase-size f, erase-size a)
-erase-size (proj d w e) = rw (erase-size e)
-erase-size (case w i e a b) = rw (erase-size e, erase-size a, erase-size b)
-erase-size (protect m e) = rw (erase-size e)
-erase-size (mu i e) = rw (erase-size e)
+erase-size e = relabel-size erased e
 
 pub erase-depth : (e : Term) → depth (erase e) ≡ depth e
-unfolding depth erase
-erase-depth (var n) = refl
-erase-depth (unit k) = refl
-erase-depth (lam k i e) = rw (erase-depth e)
-erase-depth (pair k a b) = rw (erase-depth a, erase-depth b)
-erase-depth (inj d k i e) = rw (erase-depth e)
-erase-depth (app w f a) = rw (erase-depth f, erase-depth a)
-erase-depth (proj d w e) = rw (erase-depth e)
-erase-depth (case w i e a b) = rw (erase-depth e, erase-depth a, erase-depth b)
-erase-depth (protect m e) = rw (erase-depth e)
-erase-depth (mu i e) = rw (erase-depth e)
+erase-depth e = relabel-depth erased e

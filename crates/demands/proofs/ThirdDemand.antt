@@ -11,6 +11,7 @@ use Rattle.calculus.specs.Terms.{Term}
 use Rattle.calculus.specs.Reduction.{step}
 use Rattle.calculus.specs.Typing.{HasType}
 use Rattle.calculus.specs.Erasure.{erase}
+use Rattle.calculus.proofs.Properties.{properties-laws}
 use Rattle.calculus.proofs.SecureTyping.{sc-empty}
 use Rattle.calculus.proofs.Soundness.{infer-sound}
 use Rattle.calculus.proofs.Completeness.{infer-complete}
@@ -30,7 +31,6 @@ use Rattle.rules.proofs.TermCode.{term-code}
 use Rattle.rules.proofs.Scripts.{term-encode}
 use Rattle.demands.specs.Runs.{moved-to, Reaches, the-script, after-step}
 use Rattle.demands.specs.Demands.{Typed, Demand3}
-use Rattle.demands.proofs.Readers.{readers-laws}
 use Rattle.demands.proofs.Tables.{Tables}
 use Rattle.demands.proofs.TypesTable.{tables}
 use Rattle.demands.proofs.Inference.{agree}
@@ -62,7 +62,7 @@ module _ (g t : Bytes) (types : types-check g t ≡ accepted tt) (X : Tables g t
 
   fit-typed : (e : Term) (type : Ty) → Fit g t e → HasType S tab [] e type → TypedBelow type (encode e)
   fit-typed e type F h =
-      let L = readers-laws (X .lattice) in
+      let L = properties-laws (X .lattice) in
       let c = infer-complete L (X .table) e type sc-empty h in (
         c .0,
         fit-verdict e F ∙ found-accepted (typing S tab [] 0 e) (agree g t (X .sums) (X .functions) [] 0 e (F .formed) ∙ c .1),
@@ -78,7 +78,7 @@ module _ (g t : Bytes) (types : types-check g t ≡ accepted tt) (X : Tables g t
   reached room type (after-step (moved-to {e = e′} m) r) e p F h =
       let x = fit-step-is g t types X room e p F m in
       let y = limited-moves room (step S tab e) e′ x in
-      reached room type r e′ refl (fit-moves g t types X room e e′ F x) (moved-typed (readers-laws (X .lattice)) (X .table) e e′ type h (y .0))
+      reached room type r e′ refl (fit-moves g t types X room e e′ F x) (moved-typed (properties-laws (X .lattice)) (X .table) e e′ type h (y .0))
 
 one-group-octets : Octets one-group
 one-group-octets zero = omega arith
@@ -102,11 +102,6 @@ fit-runs g t types X e budget first scratch F l m =
     (script-passes (first ∷ scratch ∷ []) g t e types (X .lattice) F (two-rooms first scratch (encode e) l m))
     ∙ ap (λ (x : Term). accepted (run (readers g) (type-at t) (min first scratch) budget x)) (term-encode e)
 
--- a stripped encoding
-strip-whole : (e : Term) → strip-script (encode e) ≡ encode (erase e)
-unfolding strip-from
-strip-whole e = ap strip-script (sym (append-nil (encode e))) ∙ strip-encode e [] ∙ append-nil (encode (erase e))
-
 erase-length : (e : Term) → length (encode (erase e)) ≡ length (encode e)
 erase-length e = encode-length term-code (erase e) ∙ ap (λ (n : ℕ). script-width * n) (erase-size e) ∙ sym (encode-length term-code e)
 
@@ -124,7 +119,7 @@ same-reports x = ap (λ (n : ℕ). accepted (record { end = x .end; steps = x .s
 last-is-stripped : (x : Ran) (first : Bytes)
     → first-after (accepted (erase-ran x)) first ≡ strip-script (encode (x .last)) ++ zeros (length first - length (encode (x .last)))
 last-is-stripped x first =
-    ap₂ (λ (b : Bytes) (n : ℕ). b ++ zeros (length first - n)) (sym (strip-whole (x .last))) (erase-length (x .last))
+    ap₂ (λ (b : Bytes) (n : ℕ). b ++ zeros (length first - n)) (sym (strip-encode (x .last))) (erase-length (x .last))
 
 -- the demand of a term that fits
 fit-demand : (g t : Bytes) → types-check g t ≡ accepted tt → Tables g t → (e : Term) (type : Ty) (budget : ℕ) (first scratch : Bytes) → Fit g t e
@@ -132,7 +127,7 @@ fit-demand : (g t : Bytes) → types-check g t ≡ accepted tt → Tables g t �
     → Demand3 g t (encode e) type budget first scratch
 fit-demand g t types X e type budget first scratch F h l m =
     let room = min (length first) (length scratch) in
-    let L = readers-laws (X .lattice) in
+    let L = properties-laws (X .lattice) in
     let x = run (readers g) (type-at t) room budget e in
     let safe = run-safe L (X .table) room budget e type h in
     let T = run-terms g t types X room budget e F in
@@ -151,7 +146,7 @@ fit-demand g t types X e type budget first scratch F h l m =
       reached = λ u r. reached g t types X room type r e refl F h;
       bare = erase-ran x;
       bare-runs =
-          ap (λ (b : Bytes). running one-group (strip-types t) b budget (length first) (length scratch)) (strip-whole e)
+          ap (λ (b : Bytes). running one-group (strip-types t) b budget (length first) (length scratch)) (strip-encode e)
           ∙ fit-runs one-group (strip-types t) bare-types (tables one-group (strip-types t) one-group-octets bare-types) (erase e) budget (length first)
           (length scratch) (erase-fit g t e F) (omega arith) (omega arith)
           ∙ ap accepted (run-erased L (X .table) one-group-is (strip-type t) room budget e type h);

@@ -3,8 +3,10 @@ use mathlib.Core.Path.{_≡_, sym, subst, _∙_}
 use mathlib.Core.Bool.{So}
 use Prim.Native.Nat.{ℕ, suc, _+_, _≤_, _<_}
 use native.Mathlib.Omega.{arith}
+use borrow.Author.Tests.{lt-ltb}
 use Rattle.calculus.specs.Types.{Former, sum, function, Ty, node, sizeT}
 use Rattle.rules.specs.Answer.{Bytes, Octets, accepted}
+use Rattle.rules.specs.Groups.{rows}
 use Rattle.rules.specs.Types.{type-count, type-kind, type-at, former-kind, q8, q9, q10, q11}
 use Rattle.rules.specs.Typing.{has-form}
 use Rattle.rules.specs.Calls.{groups-check, types-check}
@@ -15,7 +17,7 @@ use Rattle.rules.proofs.TypeTables.{Passes, passes, standing}
 use Rattle.rules.proofs.SecureTables.{secure-table}
 use Rattle.rules.proofs.Asked.{and-then}
 use Rattle.calculus.proofs.Directed.{same-refl}
-use Rattle.demands.proofs.Groups.{Lattice, lattice, some-rows}
+use Rattle.demands.proofs.Groups.{lattice, some-rows}
 use Rattle.demands.proofs.Tables.{Tables}
 
 -- a record of a former's kind starts a type of that form
@@ -41,10 +43,11 @@ tables g t octets passed =
     let d = and-then (q10 g t) _ (c .1) in
     let e = and-then (q11 t) _ (d .1) in
     let P : Passes t = passes g t (b .0) (c .0) (e .0) in
-    let X : Lattice g = lattice g octets (a .0) in
+    let X = lattice g octets (a .0) in
     record {
       lattice = X;
-      table = secure-table g t P (d .0) (e .1) (X .in-table 0 (some-rows g octets (a .0)));
+      table = secure-table g t P (d .0) (e .1) (X .in-table 0 (lt-ltb 0 (rows g) (some-rows g octets (a .0))));
+      stands = standing t P;
       sums = λ i l. formed-so sum t i (standing t P i l);
       functions = λ i l. formed-so function t i (standing t P i l);
       next = λ i l. next-in function t i (standing t P i l);

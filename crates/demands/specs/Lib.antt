@@ -3,3 +3,4 @@ pub mod Runs
 pub mod Demands
 pub mod Comparison
 pub mod Closed
+pub mod Rewriting

@@ -3,14 +3,17 @@ use mathlib.Core.Path.{_≡_}
 use mathlib.Core.Bool.{true, false}
 use Prim.Native.Nat.{ℕ, suc}
 use Rattle.calculus.specs.Terms.{Term, is-value}
-use Rattle.rules.specs.Answer.{Bytes, accepted}
+use Rattle.rules.specs.Answer.{Bytes, Answer, accepted}
 use Rattle.rules.specs.Script.{encode, term}
 use Rattle.rules.specs.Step.{End, moves, end-number}
 use Rattle.rules.specs.Calls.{stepping}
 
 -- a step takes the script s to a term, and s′ has its bytes
-pub data MovesTo (g t : Bytes) (room : ℕ) (s : Bytes) : Bytes → Type 0 where
-  moved-to : {e : Term} → stepping g t s room ≡ accepted (moves e) → MovesTo g t room s (encode e)
+pub data MovesBy (step : Bytes → Answer End) (s : Bytes) : Bytes → Type 0 where
+  moved-to : {e : Term} → step s ≡ accepted (moves e) → MovesBy step s (encode e)
+
+abbrev pub MovesTo : Bytes → Bytes → ℕ → Bytes → Bytes → Type 0
+MovesTo g t room = MovesBy (λ s. stepping g t s room)
 
 -- Repeating the step, with the budget's rule: "0, 2, 3 and 4 end it. When as many steps have moved as the budget has, a value ends
 -- 0 and any other term 1." The indexes are the budget, the script, the end, the steps made, and the last term's bytes.
@@ -22,6 +25,9 @@ pub data Repeats (g t : Bytes) (room : ℕ) : ℕ → Bytes → ℕ → ℕ → 
       → Repeats g t room (suc budget) s end (suc steps) last
 
 -- "A run reaches the script and the term after each step that moved", within its budget.
-pub data Reaches (g t : Bytes) (room : ℕ) : ℕ → Bytes → Bytes → Type 0 where
-  the-script : {budget : ℕ} {s : Bytes} → Reaches g t room budget s s
-  after-step : {budget : ℕ} {s s′ u : Bytes} → MovesTo g t room s s′ → Reaches g t room budget s′ u → Reaches g t room (suc budget) s u
+pub data ReachesBy (step : Bytes → Answer End) : ℕ → Bytes → Bytes → Type 0 where
+  the-script : {budget : ℕ} {s : Bytes} → ReachesBy step budget s s
+  after-step : {budget : ℕ} {s s′ u : Bytes} → MovesBy step s s′ → ReachesBy step budget s′ u → ReachesBy step (suc budget) s u
+
+abbrev pub Reaches : Bytes → Bytes → ℕ → ℕ → Bytes → Bytes → Type 0
+Reaches g t room = ReachesBy (λ s. stepping g t s room)
