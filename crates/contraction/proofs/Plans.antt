@@ -9,7 +9,7 @@ use lib.ListN.{length, take, drop, length-append}
 use lib.Seq.{take-at}
 use types.Run.{OneOf}
 use denote.Enum.Declared.{tagOf}
-use Rattle.calculus.specs.Security.{Property, Indirect, Security}
+use Rattle.calculus.specs.Security.{Property, Reader, Indirect, Security}
 use Rattle.calculus.specs.Types.{Ty, top}
 use Rattle.calculus.specs.Terms.{first, second, Term, var, unit, lam, pair, inj, app, proj, case, protect, mu, is-value, subst, raise-value}
 use Rattle.calculus.specs.Reduction.{unrolled}
@@ -130,12 +130,13 @@ lift-plan {s} {at} a (lifted {v = v} h) =
     }
 
 pub record RollPlan (e : Term) : Type 0 where
+  pub label : Reader
   pub type : ℕ
   pub body : Term
-  pub is : e ≡ mu type body
+  pub is : e ≡ mu label type body
 
 pub roll-plan : {s : Bytes} {e : Term} → Planned s e Unrolled → RollPlan e
-roll-plan (unrolled-one {i = i} {b = b}) = record { type = i; body = b; is = refl }
+roll-plan (unrolled-one {w = w} {i = i} {b = b}) = record { label = w; type = i; body = b; is = refl }
 
 -- Raising changes neither the records nor the depth.
 pub raise-size : (S : Security) (v : Term) (m : Indirect) → (size (raise-value S v m) ≡ size v) × (depth (raise-value S v m) ≡ depth v)
@@ -149,20 +150,20 @@ raise-size S (app w f a) m = (refl, refl)
 raise-size S (proj d w e) m = (refl, refl)
 raise-size S (case w i e a b) m = (refl, refl)
 raise-size S (protect n e) m = (refl, refl)
-raise-size S (mu i e) m = (refl, refl)
+raise-size S (mu w i e) m = (refl, refl)
 
-pub unrolled-size : (S : Security) (i : ℕ) (k : Property) (b : Term)
-    → (size (unrolled S i k b) ≡ size (mu i b) + 3) × (depth (unrolled S i k b) ≡ depth (mu i b) + 2)
+pub unrolled-size : (S : Security) (w : Reader) (i : ℕ) (k : Property) (b : Term)
+    → (size (unrolled S w i k b) ≡ size (mu w i b) + 3) × (depth (unrolled S w i k b) ≡ depth (mu w i b) + 2)
 unfolding size depth
-unrolled-size S i k b = (omega arith, omega arith)
+unrolled-size S w i k b = (omega arith, omega arith)
 
 pub protect-size : (m : Indirect) (e : Term) → (size (protect m e) ≡ size e + 1) × (depth (protect m e) ≡ depth e + 1)
 unfolding size depth
 protect-size m e = (omega arith, omega arith)
 
-pub body-size : (i : ℕ) (b : Term) → (size (mu i b) ≡ 1 + size b) × (depth (mu i b) ≡ 1 + depth b)
+pub body-size : (w : Reader) (i : ℕ) (b : Term) → (size (mu w i b) ≡ 1 + size b) × (depth (mu w i b) ≡ 1 + depth b)
 unfolding size depth
-body-size i b = (refl, refl)
+body-size w i b = (refl, refl)
 
 -- a substitution's records are few enough to be counted: each of the body's may be a variable that the value is put for
 abbrev pub contractum-limit : ℕ
@@ -202,14 +203,15 @@ raised-bytes g (app w f a) m h = absurd (false≢true h)
 raised-bytes g (proj d w e) m h = absurd (false≢true h)
 raised-bytes g (case w i e a b) m h = absurd (false≢true h)
 raised-bytes g (protect n e) m h = absurd (false≢true h)
-raised-bytes g (mu i e) m h = absurd (false≢true h)
+raised-bytes g (mu w i e) m h = absurd (false≢true h)
 
 -- the unrolled function: two records, the recursion, a variable
-pub rolled-bytes : (g : Bytes) (i : ℕ) (k : Property) (b : Term) (r₁ ir₁ lo hi : ℕ) (mid : Bytes) → r₁ ≡ k .r → ir₁ ≡ k .ir → lo ≡ (i + 1) % 256
-    → hi ≡ (i + 1) / 256 → mid ≡ encode (mu i b)
-    → (kinds.function ∷ r₁ ∷ ir₁ ∷ 0 ∷ lo ∷ hi ∷ kinds.application ∷ r₁ ∷ 0 ∷ 0 ∷ 0 ∷ 0 ∷ []) ++ (mid ++ (kinds.variable ∷ 0 ∷ 0 ∷ 0 ∷ 0 ∷ 0 ∷ [])) ≡ encode (unrolled (readers g) i k b)
+pub rolled-bytes : (g : Bytes) (w : Reader) (i : ℕ) (k : Property) (b : Term) (w₁ r₁ ir₁ lo hi : ℕ) (mid : Bytes) → w₁ ≡ w → r₁ ≡ k .r → ir₁ ≡ k .ir
+    → lo ≡ (i + 1) % 256 → hi ≡ (i + 1) / 256 → mid ≡ encode (mu w i b)
+    → (kinds.function ∷ r₁ ∷ ir₁ ∷ 0 ∷ lo ∷ hi ∷ kinds.application ∷ w₁ ∷ 0 ∷ 0 ∷ 0 ∷ 0 ∷ []) ++ (mid ++ (kinds.variable ∷ 0 ∷ 0 ∷ 0 ∷ 0 ∷ 0 ∷ []))
+    ≡ encode (unrolled (readers g) w i k b)
 unfolding encode
-rolled-bytes g i k b r₁ ir₁ lo hi mid e1 e2 e3 e4 e5 = let z : i + 1 ≡ suc i = omega arith in rw (e1, e2, e3, e4, e5, z)
+rolled-bytes g w i k b w₁ r₁ ir₁ lo hi mid e1 e2 e3 e4 e5 e6 = let z : i + 1 ≡ suc i = omega arith in rw (e1, e2, e3, e4, e5, e6, z)
 
 -- one record, as it is copied from an array
 pub record-placed : (k r₁ ir₁ n lo hi start : ℕ) (w w′ : Bytes) → lo ≡ n % 256 → hi ≡ n / 256
@@ -227,9 +229,9 @@ unfolding encode
 protect-bytes m e = refl
 
 -- a recursion goes when its type is a function
-pub goes-function : (S : Security) (tab : ℕ → Ty) (i : ℕ) (b : Term) → fate S tab (mu i b) ≡ goes → So (is-function (tab i))
+pub goes-function : (S : Security) (tab : ℕ → Ty) (w : Reader) (i : ℕ) (b : Term) → fate S tab (mu w i b) ≡ goes → So (is-function (tab i))
 unfolding fate
-goes-function S tab i b h = by (is-function (tab i)) refl h
+goes-function S tab w i b h = by (is-function (tab i)) refl h
   where
     by : (x : Bool) → is-function (tab i) ≡ x → cond x goes wrong-kind ≡ goes → So (is-function (tab i))
     by true e h = e
@@ -286,9 +288,9 @@ type-groups t i n h e =
     let z = function-top t i h in
     (ap (type-r t) e ∙ sym (ap (λ k. k .r) z), ap (type-ir t) e ∙ sym (ap (λ k. k .ir) z))
 
-pub recursion-number : {s : Bytes} {at i : ℕ} {b : Term} → At s at (mu i b) → number s at ≡ i
+pub recursion-number : {s : Bytes} {at : ℕ} {w : Reader} {i : ℕ} {b : Term} → At s at (mu w i b) → number s at ≡ i
 recursion-number {i = i} a = number-at a ∙ two-bytes i
 
-pub unroll-is : (S : Security) (tab : ℕ → Ty) (i : ℕ) (b : Term) → contractum S tab (mu i b) ≡ subst 0 (unrolled S i (top (tab i)) b) b
+pub unroll-is : (S : Security) (tab : ℕ → Ty) (w : Reader) (i : ℕ) (b : Term) → contractum S tab (mu w i b) ≡ subst 0 (unrolled S w i (top (tab i)) b) b
 unfolding contractum
-unroll-is S tab i b = refl
+unroll-is S tab w i b = refl

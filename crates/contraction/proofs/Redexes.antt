@@ -49,7 +49,7 @@ left-side S tab (app w f a) h g = application w f a (fits-it (built-by function 
 left-side S tab (proj d w e) h g = projection d w e (fits-it (built-by product e) (S .permits (property-of e) w) g)
 left-side S tab (case w i e a b) h g = choice w i e a b (fits-it (built-by sum e) (S .permits (property-of e) w) g)
 left-side S tab (protect m e) h g = lifts h
-left-side S tab (mu i e) h g = unrolls
+left-side S tab (mu w i e) h g = unrolls
 
 -- what a destructor takes apart has an operand, which stands two records on
 destructs : {e : Term} → Left e → (kind-of e ≡ kinds.recursion → ⊥) → (kind-of e ≡ kinds.protect → ⊥) → (1 ≤ operands e) × (1 ≤ operands (first-operand e))

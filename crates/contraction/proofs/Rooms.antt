@@ -106,16 +106,17 @@ module _ {g t s : Bytes} {at : ℕ} {p : Plan} {w : Bytes} {start : ℕ} (q : Fi
   roll-of h = roll-plan (planned-as h (q .ready .planned))
 
   abbrev unroll-of : (h : p ≡ Unrolled)
-      → contractum S tab e ≡ subst 0 (unrolled S (roll-of h .type) (top (tab (roll-of h .type))) (roll-of h .body)) (roll-of h .body)
-  unroll-of h = ap (contractum S tab) (roll-of h .is) ∙ unroll-is S tab (roll-of h .type) (roll-of h .body)
+      → contractum S tab e ≡ subst 0 (unrolled S (roll-of h .label) (roll-of h .type) (top (tab (roll-of h .type))) (roll-of h .body)) (roll-of h .body)
+  unroll-of h = ap (contractum S tab) (roll-of h .is) ∙ unroll-is S tab (roll-of h .label) (roll-of h .type) (roll-of h .body)
 
   abbrev pub unrolled-room : p ≡ Unrolled → UnrolledRoom t s at w start
   unrolled-room h = record {
+    label = roll-of h .label;
     type = roll-of h .type;
     body = roll-of h .body;
     stands = transport (λ (x : Term). At s at x) (roll-of h .is) (q .ready .stands);
-    shallow = omega (arith, q .ready .shallow, ap depth (roll-of h .is), body-size (roll-of h .type) (roll-of h .body) .1);
-    function = goes-function S tab (roll-of h .type) (roll-of h .body) (ap (fate S tab) (sym (roll-of h .is)) ∙ q .contracts);
+    shallow = omega (arith, q .ready .shallow, ap depth (roll-of h .is), body-size (roll-of h .label) (roll-of h .type) (roll-of h .body) .1);
+    function = goes-function S tab (roll-of h .label) (roll-of h .type) (roll-of h .body) (ap (fate S tab) (sym (roll-of h .is)) ∙ q .contracts);
     table = q .table;
     groups = g;
     fits = omega (arith, q .fits, ap size (unroll-of h));
@@ -124,7 +125,7 @@ module _ {g t s : Bytes} {at : ℕ} {p : Plan} {w : Bytes} {start : ℕ} (q : Fi
   pub unrolled-written : (h : p ≡ Unrolled) (w′ : Bytes)
       → w′
       ≡ splice start
-      (encode (subst 0 (unrolled S (unrolled-room h .type) (top (tab (unrolled-room h .type))) (unrolled-room h .body)) (unrolled-room h .body))) w
+      (encode (subst 0 (unrolled S (unrolled-room h .label) (unrolled-room h .type) (top (tab (unrolled-room h .type))) (unrolled-room h .body)) (unrolled-room h .body))) w
       → w′ ≡ splice start (encode (contractum S tab e)) w
   unrolled-written h w′ k = renamed start w w′ (unroll-of h) k
 
@@ -149,8 +150,8 @@ contractum-few S tab Unrolled q =
     let k = top (tab (z .type)) in
     omega (
       arith,
-      ap size (ap (contractum S tab) (z .is) ∙ unroll-is S tab (z .type) (z .body)),
-      few (unrolled S (z .type) k (z .body)) (z .body)
-          (omega (arith, unrolled-size S (z .type) k (z .body) .0, ap size (z .is), q .small))
-          (omega (arith, body-size (z .type) (z .body) .0, ap size (z .is), q .small)),
+      ap size (ap (contractum S tab) (z .is) ∙ unroll-is S tab (z .label) (z .type) (z .body)),
+      few (unrolled S (z .label) (z .type) k (z .body)) (z .body)
+          (omega (arith, unrolled-size S (z .label) (z .type) k (z .body) .0, ap size (z .is), q .small))
+          (omega (arith, body-size (z .label) (z .type) (z .body) .0, ap size (z .is), q .small)),
     )

@@ -24,7 +24,7 @@ pub data Left : Term → Type 0 where
   projects : (d : Side) {w : Reader} {k : Property} {a b : Term} → Left (proj d w (pair k a b))
   branches : (d : Side) {w : Reader} {j : ℕ} {k : Property} {i : ℕ} {v a b : Term} → Left (case w j (inj d k i v) a b)
   lifts : {m : Indirect} {v : Term} → So (is-value v) → Left (protect m v)
-  unrolls : {i : ℕ} {b : Term} → Left (mu i b)
+  unrolls : {w : Reader} {i : ℕ} {b : Term} → Left (mu w i b)
 
 -- a left side stands at record `at`
 pub record Fires (s : Bytes) (at : ℕ) : Type 0 where
@@ -39,7 +39,7 @@ pub data Planned (s : Bytes) : Term → Plan → Type 0 where
   branched : {x y : ℕ} {d : Side} {w : Reader} {j : ℕ} {k : Property} {i : ℕ} {v a b : Term} → At s x (choose d a b) → At s y v
       → Planned s (case w j (inj d k i v) a b) (Body x y)
   lifted : {m : Indirect} {v : Term} → So (is-value v) → Planned s (protect m v) Raised
-  unrolled-one : {i : ℕ} {b : Term} → Planned s (mu i b) Unrolled
+  unrolled-one : {w : Reader} {i : ℕ} {b : Term} → Planned s (mu w i b) Unrolled
 
 -- a redex with its plan stands at record `at`, within the limits
 pub record Ready (s : Bytes) (at : ℕ) (p : Plan) : Type 0 where
@@ -66,11 +66,12 @@ pub record Both (s : Bytes) (x y : ℕ) : Type 0 where
 
 -- a recursion stands at record `at`, within the limits
 pub record Recursive (s : Bytes) (at : ℕ) : Type 0 where
+  pub label : Reader
   pub type : ℕ
   pub body : Term
-  pub stands : At s at (mu type body)
-  pub small : size (mu type body) ≤ script-limit
-  pub shallow : depth (mu type body) ≤ depth-limit
+  pub stands : At s at (mu label type body)
+  pub small : size (mu label type body) ≤ script-limit
+  pub shallow : depth (mu label type body) ≤ depth-limit
 
 -- Room in w from byte `start` on: for a protected part, for a protected body with a value put in, for a raised value, for an
 -- unrolled recursion. A destructor at record `at` has an operand, and so a record after its own.
@@ -96,15 +97,16 @@ pub record RaisedRoom (s : Bytes) (at : ℕ) (w : Bytes) (start : ℕ) : Type 0 
   pub fits : start + script-width * size value ≤ length w
 
 pub record UnrolledRoom (t s : Bytes) (at : ℕ) (w : Bytes) (start : ℕ) : Type 0 where
+  pub label : Reader
   pub type : ℕ
   pub body : Term
-  pub stands : At s at (mu type body)
+  pub stands : At s at (mu label type body)
   pub shallow : depth body ≤ depth-limit
   pub function : So (is-function (type-at t type))
   pub table : type-count t ≤ table-limit
   -- no group is joined, so the groups table doesn't matter
   pub groups : Bytes
-  pub fits : start + script-width * size (subst 0 (unrolled (readers groups) type (top (type-at t type)) body) body) ≤ length w
+  pub fits : start + script-width * size (subst 0 (unrolled (readers groups) label type (top (type-at t type)) body) body) ≤ length w
 
 -- a redex with its plan stands at record `at`, and w has room for its contractum from byte `start` on
 pub record Fit (g t s : Bytes) (at : ℕ) (p : Plan) (w : Bytes) (start : ℕ) : Type 0 where

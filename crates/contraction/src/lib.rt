@@ -127,7 +127,7 @@ fn measure_raised(script: &[u8], x: usize) -> Size
 fn measure_unrolled(script: &[u8], at: usize) -> Size
     requires { ⌜ Recursive (now script) at ⌝ }
     ensures { λ a. ⌜ ((q : Recursive (now (script .entry)) at) (S : Security) (tab : ℕ → Ty)
-        → Measures (contractum S tab (mu (q .type) (q .body))) a) ⌝ }
+        → Measures (contractum S tab (mu (q .label) (q .type) (q .body))) a) ⌝ }
 {
     let v = substitution::extent_at(script, at);
     let e = substitution::measure(script, at + 1, 0, v.records + 3, v.depth + 2);
@@ -231,21 +231,21 @@ fn write_raised(groups: &[u8], script: &[u8], at: usize, written: &mut [u8], sta
 }
 
 // The body of a recursion, with the recursion put in for its variable: (λx. (μf. e) x), with the groups of the recursion's type,
-// its parameter type the next record of the table, and the application made as r of that type.
+// its parameter type the next record of the table, and the application made as the group that the recursion's record names.
 fn write_unrolled(types: &[u8], script: &[u8], at: usize, written: &mut [u8], start: usize)
     requires { ⌜ UnrolledRoom (now types) (now script) at (now written) start ⌝ }
     ensures { λ _. ⌜ ((q : UnrolledRoom (now (types .entry)) (now (script .entry)) at (now (written .entry)) start)
         (g : Bytes) → now (written .exit)
         ≡ splice start (encode
-        (subst 0 (unrolled (readers g) (q .type) (top (type-at (now (types .entry)) (q .type))) (q .body)) (q .body)))
+        (subst 0 (unrolled (readers g) (q .label) (q .type) (top (type-at (now (types .entry)) (q .type))) (q .body)) (q .body)))
         (now (written .entry))) ⌝ }
 {
     let end = records::end_of(script, at);
     let named = records::number(script, at);
+    let caller = records::reader(script, at);
     let r = types::reader_at(types, records::index(named));
     let ir = types::indirect_at(types, records::index(named));
     let parameter = named + 1;
-    let caller = r.0;
     let front = [
         FUNCTION,
         r.0,
@@ -254,7 +254,7 @@ fn write_unrolled(types: &[u8], script: &[u8], at: usize, written: &mut [u8], st
         low(parameter),
         high(parameter),
         APPLICATION,
-        caller,
+        caller.0,
         0,
         0,
         0,

@@ -33,7 +33,7 @@ made (proj first w e) = refl
 made (proj second w e) = refl
 made (case w i e a b) = ap (λ n. case w n e a b) (sym (two-bytes i))
 made (protect m e) = refl
-made (mu i e) = ap (λ n. mu n e) (sym (two-bytes i))
+made (mu w i e) = ap (λ n. mu w n e) (sym (two-bytes i))
 
 of-kind : (k : ℕ) (e : Term) → kind-of e ≡ k → e ≡ form k e
 of-kind k e h = made e ∙ ap (λ n. form n e) h

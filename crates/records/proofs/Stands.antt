@@ -86,7 +86,7 @@ listed (app w f a) = refl
 listed (proj d w e) = refl
 listed (case w i e a b) = refl
 listed (protect m e) = refl
-listed (mu i e) = refl
+listed (mu w i e) = refl
 
 moved : {s : Bytes} {e : Term} (i j : ℕ) (rest : Bytes) → i ≡ j → drop (script-width * i) s ≡ encode e ++ rest → At s j e
 moved {s} i j rest p h = record { rest = rest; stands = ap (λ n. drop (script-width * n) s) (sym p) ∙ h }

@@ -11,7 +11,7 @@ first-operand (app w f a) = f
 first-operand (proj d w e) = e
 first-operand (case w i e a b) = e
 first-operand (protect m e) = e
-first-operand (mu i e) = e
+first-operand (mu w i e) = e
 
 abbrev pub second-operand : Term → Term
 second-operand (var n) = var n
@@ -23,7 +23,7 @@ second-operand (app w f a) = a
 second-operand (proj d w e) = e
 second-operand (case w i e a b) = a
 second-operand (protect m e) = e
-second-operand (mu i e) = e
+second-operand (mu w i e) = e
 
 abbrev pub third-operand : Term → Term
 third-operand (var n) = var n
@@ -35,4 +35,4 @@ third-operand (app w f a) = a
 third-operand (proj d w e) = e
 third-operand (case w i e a b) = b
 third-operand (protect m e) = e
-third-operand (mu i e) = e
+third-operand (mu w i e) = e

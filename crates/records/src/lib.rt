@@ -136,7 +136,7 @@ pub fn signature_of(kind: u8) -> Signature
         SECOND_PROJECTION => entry(1, true, false, false, false),
         CASE => entry(3, true, false, true, true),
         PROTECT => entry(1, false, true, false, false),
-        RECURSION => entry(1, false, false, true, true),
+        RECURSION => entry(1, true, false, true, true),
         _ => entry(0, false, false, false, false),
     }
 }

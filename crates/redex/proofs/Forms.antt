@@ -43,7 +43,7 @@ first-position (app w f a) v = record { context = app-left w hole a; whole = ref
 first-position (proj d w e) v = record { context = in-proj d w hole; whole = refl; under = refl; from = refl }
 first-position (case w i e a b) v = record { context = in-case w i hole a b; whole = refl; under = refl; from = refl }
 first-position (protect m e) v = record { context = in-protect m hole; whole = refl; under = refl; from = refl }
-first-position (mu i e) v = absurd (v .3 refl)
+first-position (mu w i e) v = absurd (v .3 refl)
 
 -- a pair or an application, whose first operand is a value
 pub record Second (e : Term) : Type 0 where
@@ -66,7 +66,7 @@ second-position (proj first u e) v h l w = absurd (omega arith)
 second-position (proj second u e) v h l w = absurd (omega arith)
 second-position (case u i e a b) v h l w = absurd (omega arith)
 second-position (protect m e) v h l w = absurd (omega arith)
-second-position (mu i e) v h l w = absurd (omega arith)
+second-position (mu u i e) v h l w = absurd (omega arith)
 
 -- the kinds of values
 pub unit-value : (e : Term) → kind-of e ≡ kinds.unit → So (is-value e) × (size e ≡ 1)
@@ -93,7 +93,7 @@ injection-value (proj first w e) h v = absurd (false≢true h)
 injection-value (proj second w e) h v = absurd (false≢true h)
 injection-value (case w i e a b) h v = absurd (false≢true h)
 injection-value (protect m e) h v = absurd (false≢true h)
-injection-value (mu i e) h v = absurd (false≢true h)
+injection-value (mu w i e) h v = absurd (false≢true h)
 
 -- nodes whose own turn it is, and their fate
 pub variable-turn : (S : Security) (tab : ℕ → Ty) (e : Term) → kind-of e ≡ kinds.variable → So (ready e) × (fate S tab e ≡ wrong-kind)
@@ -136,7 +136,7 @@ destructor-turn (proj first u e) v p l w = (w, refl)
 destructor-turn (proj second u e) v p l w = (w, refl)
 destructor-turn (case u i e a b) v p l w = (w, refl)
 destructor-turn (protect m e) v p l w = absurd (p refl)
-destructor-turn (mu i e) v p l w = absurd (v .3 refl)
+destructor-turn (mu u i e) v p l w = absurd (v .3 refl)
 
 -- the kinds of what a function type, a pair type and a sum type have for values
 pub built-is : (e : Term) → (built-by function e ≡ eqb (kind-of e) kinds.function) × (built-by product e ≡ eqb (kind-of e) kinds.pair)
@@ -153,7 +153,7 @@ built-is (proj first w e) = (refl, refl, refl)
 built-is (proj second w e) = (refl, refl, refl)
 built-is (case w i e a b) = (refl, refl, refl)
 built-is (protect m e) = (refl, refl, refl)
-built-is (mu i e) = (refl, refl, refl)
+built-is (mu w i e) = (refl, refl, refl)
 
 -- a destructor's fate, by its own record and by that of the operand that it reads
 pub reading-is : (S : Security) (tab : ℕ → Ty) (e : Term) → So (is-destructor (kind-of e)) → (1 ≤ operands e)
@@ -171,4 +171,4 @@ reading-is S tab (proj first w e) h = (omega arith, rw (built-is e .1))
 reading-is S tab (proj second w e) h = (omega arith, rw (built-is e .1))
 reading-is S tab (case w i e a b) h = (omega arith, rw (built-is e .2))
 reading-is S tab (protect m e) h = absurd (false≢true h)
-reading-is S tab (mu i e) h = absurd (false≢true h)
+reading-is S tab (mu w i e) h = absurd (false≢true h)

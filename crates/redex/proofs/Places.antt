@@ -31,7 +31,7 @@ own-groups (app w f a) = (refl, refl)
 own-groups (proj d w e) = (refl, refl)
 own-groups (case w i e a b) = (refl, refl)
 own-groups (protect m e) = (refl, refl)
-own-groups (mu i e) = (refl, refl)
+own-groups (mu w i e) = (refl, refl)
 
 module _ {s : Bytes} {i : ℕ} {e : Term} (a : At s i e) where
   pub reader-at : r s i ≡ property-of e .r

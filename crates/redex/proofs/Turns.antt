@@ -40,7 +40,7 @@ module _ (S : Security) (tab : ℕ → Ty) where
   apply-is w (proj d u e) v = refl
   apply-is w (case u i e a b) v = refl
   apply-is w (protect m e) v = refl
-  apply-is w (mu i e) v = refl
+  apply-is w (mu u i e) v = refl
 
   project-is : (d : Side) (w : Reader) (v : Term) → project S d w v ≡ fires (proj d w v)
   unfolding project fate contractum built-by
@@ -53,7 +53,7 @@ module _ (S : Security) (tab : ℕ → Ty) where
   project-is d w (proj c u e) = refl
   project-is d w (case u i e a b) = refl
   project-is d w (protect m e) = refl
-  project-is d w (mu i e) = refl
+  project-is d w (mu u i e) = refl
 
   branch-is : (w : Reader) (j : ℕ) (v a b : Term) → branch S w v a b ≡ fires (case w j v a b)
   unfolding branch fate contractum built-by
@@ -66,14 +66,15 @@ module _ (S : Security) (tab : ℕ → Ty) where
   branch-is w j (proj d u e) a b = refl
   branch-is w j (case u i e f g) a b = refl
   branch-is w j (protect m e) a b = refl
-  branch-is w j (mu i e) a b = refl
+  branch-is w j (mu u i e) a b = refl
 
-  unroll-is : (i : ℕ) (e : Term) (t : Ty) → unroll S i e t ≡ fated (cond (is-function t) goes wrong-kind) (subst zero (unrolled S i (top t) e) e)
+  unroll-is : (w : Reader) (i : ℕ) (e : Term) (t : Ty)
+      → unroll S w i e t ≡ fated (cond (is-function t) goes wrong-kind) (subst zero (unrolled S w i (top t) e) e)
   unfolding unroll
-  unroll-is i e (one k) = refl
-  unroll-is i e (node sum k s t) = refl
-  unroll-is i e (node product k s t) = refl
-  unroll-is i e (node function k s t) = refl
+  unroll-is w i e (one k) = refl
+  unroll-is w i e (node sum k s t) = refl
+  unroll-is w i e (node product k s t) = refl
+  unroll-is w i e (node function k s t) = refl
 
   pub turn-step : (e : Term) → So (ready e) → step S tab e ≡ fires e
   unfolding step ready operand-first fate contractum
@@ -87,7 +88,7 @@ module _ (S : Security) (tab : ℕ → Ty) where
   turn-step (proj d w e) h = rw (value-step S tab e h) (project-is d w e)
   turn-step (case w i e a b) h = rw (value-step S tab e h) (branch-is w i e a b)
   turn-step (protect m e) h = rw (value-step S tab e h)
-  turn-step (mu i e) h = unroll-is i e (tab i)
+  turn-step (mu w i e) h = unroll-is w i e (tab i)
 
   -- the step of a term around a node whose own turn it is
   pub plug-turn : (E : Context) (e : Term) → So (ready e) → step S tab (plug E e) ≡ within (plug E) (fires e)

@@ -19,7 +19,7 @@ property-of (app w f a) = record { r = w; ir = 0 }
 property-of (proj d w e) = record { r = w; ir = 0 }
 property-of (case w i e a b) = record { r = w; ir = 0 }
 property-of (protect m e) = record { r = 0; ir = m }
-property-of (mu i e) = record { r = 0; ir = 0 }
+property-of (mu w i e) = record { r = w; ir = 0 }
 
 -- The parts of a term that a rule of table 1 takes apart. Each is total: a term without the part has a stand-in, which no rule uses.
 abbrev pub side-of : Term → Side
@@ -32,7 +32,7 @@ side-of (app w f a) = first
 side-of (proj d w e) = d
 side-of (case w i e a b) = first
 side-of (protect m e) = first
-side-of (mu i e) = first
+side-of (mu w i e) = first
 
 -- Is it a function type?
 abbrev pub is-function : Ty → Bool
@@ -51,7 +51,7 @@ ready (app w f a) = is-value f && is-value a
 ready (proj d w e) = is-value e
 ready (case w i e a b) = is-value e
 ready (protect m e) = is-value e
-ready (mu i e) = true
+ready (mu w i e) = true
 
 -- what becomes of a node whose own turn it is
 pub data Fate : Type 0 where
@@ -78,7 +78,7 @@ fate S tab (app w f a) = reading-fate (built-by function f) (S .permits (propert
 fate S tab (proj d w e) = reading-fate (built-by product e) (S .permits (property-of e) w)
 fate S tab (case w i e a b) = reading-fate (built-by sum e) (S .permits (property-of e) w)
 fate S tab (protect m e) = goes
-fate S tab (mu i e) = cond (is-function (tab i)) goes wrong-kind
+fate S tab (mu w i e) = cond (is-function (tab i)) goes wrong-kind
 
 -- Table 1's right sides. What no left side of table 1 fits is its own contractum.
 unfoldable pub contractum : Security → (ℕ → Ty) → Term → Term
@@ -93,7 +93,7 @@ contractum S tab (proj d w e) = protect (S .influence (property-of e) w) (choose
 contractum S tab (case w i e a b) =
     protect (S .influence (property-of e) w) (subst zero (first-operand e) (choose (side-of e) a b))
 contractum S tab (protect m e) = raise-value S e m
-contractum S tab (mu i e) = subst zero (unrolled S i (top (tab i)) e) e
+contractum S tab (mu w i e) = subst zero (unrolled S w i (top (tab i)) e) e
 
 -- the step of a node whose own turn it is
 abbrev pub fated : Fate → Term → Outcome

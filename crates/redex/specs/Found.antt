@@ -1,6 +1,6 @@
 -- What the search for the redex of a term reports.
 use mathlib.Core.Path.{_≡_}
-use mathlib.Core.Bool.{Bool, false, cond, So, not, _&&_, _||_}
+use mathlib.Core.Bool.{Bool, false, cond, So, _||_}
 use Prim.Native.Nat.{ℕ, _+_, _≤_}
 use lib.Dec.{eqb}
 use Rattle.calculus.specs.Security.{Security}
@@ -9,7 +9,7 @@ use Rattle.calculus.specs.Terms.{Term, is-value}
 use Rattle.calculus.specs.Reduction.{Context, plug, denied, stuck, step}
 use Rattle.rules.specs.Answer.{Bytes}
 use Rattle.rules.specs.Limits.{depth-limit}
-use Rattle.rules.specs.Script.{signature-of, size, depth}
+use Rattle.rules.specs.Script.{size, depth}
 use Rattle.records.specs.Kinds as kinds
 use Rattle.records.specs.Place.{At}
 use Rattle.redex.specs.Contexts.{offset, level}
@@ -47,18 +47,21 @@ answer goes i d = Redex i d
 answer not-permitted i d = Denied
 answer wrong-kind i d = Stuck
 
--- A destructor reads what it takes apart, and makes nothing of its own: its record names a reader and no indirect ones.
-unfoldable pub is-destructor : ℕ → Bool
-unfolding signature-of
-is-destructor kind = signature-of kind .r && not (signature-of kind .ir)
-
 -- Is it the kind of an injection, the first or the second?
 abbrev pub is-injection : ℕ → Bool
 is-injection kind = eqb kind kinds.first-injection || eqb kind kinds.second-injection
+
+-- Is it the kind of a projection, the first or the second?
+abbrev is-projection : ℕ → Bool
+is-projection kind = eqb kind kinds.first-projection || eqb kind kinds.second-projection
+
+-- A destructor reads what it takes apart: an application, a projection or a case.
+unfoldable pub is-destructor : ℕ → Bool
+is-destructor kind = eqb kind kinds.application || (is-projection kind || eqb kind kinds.case)
 
 -- Does a destructor of this kind take apart a value of that kind: an application a function, a projection a pair, a case an injection?
 abbrev pub takes-apart : ℕ → ℕ → Bool
 takes-apart destructor value =
     cond (eqb destructor kinds.application) (eqb value kinds.function)
-    (cond (eqb destructor kinds.first-projection || eqb destructor kinds.second-projection) (eqb value kinds.pair)
+    (cond (is-projection destructor) (eqb value kinds.pair)
     (cond (eqb destructor kinds.case) (is-injection value) false))

@@ -57,7 +57,7 @@ counts-are q n (proj first w e) = rw (free (asks-depth q) n, append-nil)
 counts-are q n (proj second w e) = rw (free (asks-depth q) n, append-nil)
 counts-are q n (case w i e a b) = rw (free (asks-depth q) n, under (asks-depth q) n, append-nil)
 counts-are q n (protect m e) = rw (free (asks-depth q) n, append-nil)
-counts-are q n (mu i e) = rw (under (asks-depth q) n, append-nil)
+counts-are q n (mu w i e) = rw (under (asks-depth q) n, append-nil)
 
 -- the scan of the term u at record i, whose record has number n
 abbrev pub scanned : (q : ℕ) (s : Bytes) (i n : ℕ) (u : Term) → Answer ℕ

@@ -37,7 +37,7 @@ term-depth-is (app w f a) = omega arith
 term-depth-is (proj d w e) = omega arith
 term-depth-is (case w i e a b) = omega arith
 term-depth-is (protect m e) = omega arith
-term-depth-is (mu i e) = omega arith
+term-depth-is (mu w i e) = omega arith
 
 -- a variable, or a node of another kind
 pub data View : Term → Type 0 where
@@ -59,7 +59,7 @@ view (proj first w e) = node (positive 6)
 view (proj second w e) = node (positive 7)
 view (case w i e a b) = node (positive 8)
 view (protect m e) = node (positive 9)
-view (mu i e) = node (positive 10)
+view (mu w i e) = node (positive 10)
 
 -- operands from the j-th on of a node of kind k, with v for the node's variable n
 abbrev pub under : ℕ → ℕ → Term → ℕ → List Term → List Term
@@ -90,7 +90,7 @@ subst-node n v (proj first w e) h = record { head = refl; operands = rw (add-zer
 subst-node n v (proj second w e) h = record { head = refl; operands = rw (add-zero n) }
 subst-node n v (case w i e a b) h = record { head = refl; operands = rw (add-zero n, add-one n) }
 subst-node n v (protect m e) h = record { head = refl; operands = rw (add-zero n) }
-subst-node n v (mu i e) h = record { head = refl; operands = rw (add-one n) }
+subst-node n v (mu w i e) h = record { head = refl; operands = rw (add-one n) }
 
 pub subst-var : (n : ℕ) (v : Term) (m : ℕ) → subst n v (var m) ≡ cond (eqb m n) v (var m)
 unfolding subst

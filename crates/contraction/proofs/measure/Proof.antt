@@ -32,6 +32,7 @@ abbrev recursive : (c : tie.At-match-keys4) (q : R (c .before .before)) → Recu
 recursive c q =
     let p = rolled c q in
     record {
+      label = p .label;
       type = p .type;
       body = p .body;
       stands = transport (λ (e : Term). At (c .before .before .args .script .now) (c .before .before .args .at) e) (p .is) (q .stands);

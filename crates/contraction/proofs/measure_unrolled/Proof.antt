@@ -21,12 +21,12 @@ R s = Recursive (s .args .script .now) (s .args .at)
 body-at : (s : tie.Start) (q : R s) → At (s .args .script .now) (s .args .at + 1) (q .body)
 body-at s q = at-first _ _ _ (q .stands) (omega arith)
 
-whole : (c : tie.After-extent-at) (q : R (c .before .before)) → Extends (c .before .before .args .at) (mu (q .type) (q .body)) (c .extent-at .result)
-whole c q = c .extent-at .ensures (mu (q .type) (q .body)) (q .stands)
+whole : (c : tie.After-extent-at) (q : R (c .before .before)) → Extends (c .before .before .args .at) (mu (q .label) (q .type) (q .body)) (c .extent-at .result)
+whole c q = c .extent-at .ensures (mu (q .label) (q .type) (q .body)) (q .stands)
 
 extent-at-requires : tie.Need-extent-at-requires
 extent-at-requires c κs =
-    let q = c .before .pre in record { tree = mu (q .type) (q .body); at = q .stands; shallow = q .shallow; small = q .small }
+    let q = c .before .pre in record { tree = mu (q .label) (q .type) (q .body); at = q .stands; shallow = q .shallow; small = q .small }
 
 add-measure : tie.Need-add-measure
 add-measure c = let s = c .before .before in omega (arith, there _ _ _ (body-at s (s .pre)), s .good)
@@ -41,12 +41,12 @@ measure-requires : tie.Need-measure-requires
 measure-requires c κs =
     let q = c .before .before .before .before .pre in
     let x = whole (c .before .before) q in
-    let n = unrolled-size (readers []) (q .type) (record { r = 0; ir = 0 }) (q .body) in
-    let b = body-size (q .type) (q .body) in
+    let n = unrolled-size (readers []) (q .label) (q .type) (record { r = 0; ir = 0 }) (q .body) in
+    let b = body-size (q .label) (q .type) (q .body) in
     record {
       tree = q .body;
       at = body-at (c .before .before .before .before) q;
-      value = unrolled (readers []) (q .type) (record { r = 0; ir = 0 }) (q .body);
+      value = unrolled (readers []) (q .label) (q .type) (record { r = 0; ir = 0 }) (q .body);
       records-of = omega (arith, x .records, n .0);
       depth-of = omega (arith, x .deep, n .1);
       shallow = omega (arith, b .1, q .shallow);
@@ -58,8 +58,8 @@ returns : tie.Need-returns
 unfolding contractum
 returns c q S tab =
     let x = whole (c .before .before .before) q in
-    let n = unrolled-size S (q .type) (top (tab (q .type))) (q .body) in
-    let m = c .measure .ensures (q .body) (unrolled S (q .type) (top (tab (q .type))) (q .body)) (body-at (c .before .before .before .before .before) q) (omega (arith, x .records, n .0))
+    let n = unrolled-size S (q .label) (q .type) (top (tab (q .type))) (q .body) in
+    let m = c .measure .ensures (q .body) (unrolled S (q .label) (q .type) (top (tab (q .type))) (q .body)) (body-at (c .before .before .before .before .before) q) (omega (arith, x .records, n .0))
     (omega (arith, x .deep, n .1)) in
     record { records = m .records; deep = m .deep }
 

@@ -15,6 +15,7 @@ use Rattle.rules.specs.Types.{type-count, type-at}
 use Rattle.rules.specs.Script.{size, encode}
 use Rattle.records.specs.Place.{At}
 use Rattle.records.proofs.Stands.{room, there, at-first}
+use Rattle.redex.proofs.Places.{reader-at}
 use Rattle.redex.proofs.Answers.{function-inside}
 use Rattle.contraction.specs.Plans.{UnrolledRoom}
 use Rattle.contraction.proofs.Plans.{own-bytes, rolled-bytes, type-groups, recursion-number}
@@ -42,9 +43,13 @@ ended c = c .before
 abbrev start : tie.After-number → tie.Start
 start c = begin (ended c .before)
 
+-- the recursion's group is known
+abbrev labelled : tie.After-indirect-at → tie.After-reader
+labelled c = c .before .before .before .before
+
 -- past the groups of the recursion's type
 abbrev numbered : tie.After-indirect-at → tie.After-number
-numbered c = c .before .before .before .before
+numbered c = labelled c .before
 
 -- past the bytes of the front
 abbrev known : tie.After-high → tie.After-number
@@ -54,10 +59,10 @@ known c = numbered (c .before .before)
 abbrev fronted : tie.After-write-arg2 → tie.After-high
 fronted c = c .before .before .before .before
 
-end : (c : tie.After-number) (q : Q (start c)) → ended c .end-of .result ≡ start c .args .at + size (mu (q .type) (q .body))
-end c q = ended c .end-of .ensures (mu (q .type) (q .body)) (q .stands)
+end : (c : tie.After-number) (q : Q (start c)) → ended c .end-of .result ≡ start c .args .at + size (mu (q .label) (q .type) (q .body))
+end c q = ended c .end-of .ensures (mu (q .label) (q .type) (q .body)) (q .stands)
 
-inside : (s : tie.Start) → script-width * s .args .at + script-width * size (mu (s .pre .type) (s .pre .body)) ≤ length (P s)
+inside : (s : tie.Start) → script-width * s .args .at + script-width * size (mu (s .pre .label) (s .pre .type) (s .pre .body)) ≤ length (P s)
 inside s = room _ _ _ (s .pre .stands)
 
 body-at : (s : tie.Start) (q : Q s) → At (P s) (s .args .at + 1) (q .body)
@@ -71,14 +76,15 @@ in-table s q = function-inside _ _ (q .function)
 
 -- what is put in for the recursion's variable
 abbrev value : (s : tie.Start) → Q s → Bytes → Term
-value s q g = unrolled (readers g) (q .type) (top (type-at (T s) (q .type))) (q .body)
+value s q g = unrolled (readers g) (q .label) (q .type) (top (type-at (T s) (q .type))) (q .body)
 
 -- the three pieces
 abbrev front : tie.After-high → Bytes
 front c =
     let r = c .before .before .before .before .reader-at .result .0 in
     let ir = c .before .before .indirect-at .result .0 in
-    2 ∷ r ∷ ir ∷ 0 ∷ c .before .low .result ∷ c .high .result ∷ 6 ∷ r ∷ 0 ∷ 0 ∷ 0 ∷ 0 ∷ []
+    let caller = labelled (c .before .before) .reader .result .0 in
+    2 ∷ r ∷ ir ∷ 0 ∷ c .before .low .result ∷ c .high .result ∷ 6 ∷ caller ∷ 0 ∷ 0 ∷ 0 ∷ 0 ∷ []
 
 abbrev length-of : tie.After-number → ℕ
 length-of c = script-width * ended c .end-of .result - script-width * start c .args .at
@@ -97,7 +103,8 @@ pieces c q g =
     let ir = c .before .before in
     let r = ir .before .before in
     let n = named d q in
-    rolled-bytes g (q .type) (top (type-at (T s) (q .type))) (q .body) _ _ _ _ _
+    rolled-bytes g (q .label) (q .type) (top (type-at (T s) (q .type))) (q .body) _ _ _ _ _ _
+    (labelled ir .reader .ensures ∙ reader-at (q .stands))
     (r .reader-at .ensures ∙ type-groups (T s) (q .type) _ (q .function) (r .before .index .ensures .0 ∙ n) .0)
     (ir .indirect-at .ensures ∙ type-groups (T s) (q .type) _ (q .function) (ir .before .index2 .ensures .0 ∙ n) .1)
     (c .before .low .ensures ∙ ap (λ m. (m + 1) % 256) n)
@@ -105,17 +112,20 @@ pieces c q g =
     (own-bytes (q .stands) (length-of d) (omega (arith, end d q)))
 
 end-of-requires : tie.Need-end-of-requires
-end-of-requires c κs = let q = begin c .pre in record { tree = mu (q .type) (q .body); at = q .stands }
+end-of-requires c κs = let q = begin c .pre in record { tree = mu (q .label) (q .type) (q .body); at = q .stands }
 
 number-requires : tie.Need-number-requires
 number-requires c κs = there _ _ _ (begin (c .before) .pre .stands)
+
+reader-requires : tie.Need-reader-requires
+reader-requires c κs = there _ _ _ (start c .pre .stands)
 
 index-requires : tie.Need-index-requires
 index-requires c κs = search needs
 
 reader-at-requires : tie.Need-reader-at-requires
 reader-at-requires c κs =
-    let d = c .before in
+    let d = c .before .before in
     let s = start d in
     omega (arith, c .index .ensures .0, named d (s .pre), in-table s (s .pre))
 
@@ -124,7 +134,7 @@ index-requires-2 c κs = search needs
 
 indirect-at-requires : tie.Need-indirect-at-requires
 indirect-at-requires c κs =
-    let d = c .before .before .before in
+    let d = c .before .before .before .before in
     let s = start d in
     omega (arith, c .index2 .ensures .0, named d (s .pre), in-table s (s .pre))
 
@@ -200,6 +210,7 @@ write-unrolled-spec =
     (tie.spec
     end-of-requires
     number-requires
+    reader-requires
     index-requires
     reader-at-requires
     index-requires-2
