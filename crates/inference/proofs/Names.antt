@@ -37,7 +37,7 @@ module _ (t : Bytes) (b i : ℕ) (e : Term) (f : Formed t b e) where
   unfolding Formed
   inj-index p = subst (λ d. Formed t b d) p f .0
 
-  pub mu-index : {a : Term} → e ≡ mu i a → (i < type-count t) × (type-kind t i ≡ former-kind function)
+  pub mu-index : {w : ℕ} {a : Term} → e ≡ mu w i a → (i < type-count t) × (type-kind t i ≡ former-kind function)
   unfolding Formed
   mu-index p = subst (λ d. Formed t b d) p f .0
 

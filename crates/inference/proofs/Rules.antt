@@ -14,7 +14,7 @@ use Rattle.calculus.specs.Subtyping.{subtype, below}
 use Rattle.rules.specs.Limits.{answer-length, type-width}
 use Rattle.rules.specs.Answer.{Bytes, Answer, accepted, refused, _>>_, ask}
 use Rattle.rules.specs.Types.{former-kind, encode-type}
-use Rattle.rules.specs.Typing.{has-form, left, right, q21, q24}
+use Rattle.rules.specs.Typing.{has-form, left, right, q21, q23, q24}
 use Rattle.types.specs.Held.{kind-of}
 use Rattle.memory.specs.Splice.{splice}
 use Rattle.memory.proofs.Laws.{join-before, join-after}
@@ -23,7 +23,7 @@ use Rattle.answer.specs.declared.Checked.{Checked}
 use Rattle.answer.specs.declared.Checked.the-variants as checked
 use Rattle.answer.proofs.Passed.{No}
 use Rattle.inference.specs.Memory.{Sized, Wrote, Meets, finds, refuses, Entered, Enters, refusal}
-use Rattle.inference.specs.Stages.{wanting, may-read, function-type, pair-type}
+use Rattle.inference.specs.Stages.{wanting, may-read, may-recur, function-type, pair-type}
 use Rattle.inference.specs.declared.Found.{Found}
 use Rattle.inference.specs.declared.Found.the-variants.{Typed, Refused}
 use Rattle.inference.proofs.Found.{the-type}
@@ -105,6 +105,14 @@ module _ (S : Security) (p : ℕ) (f : Former) (t : Ty) (w : ℕ) where
 
   pub read-two : may-read S p f t w ≡ accepted tt → kind-of t ≡ 0 → ⊥
   read-two e z = former-not-unit f (sym (read-kind e) ∙ z)
+
+-- questions 21 and 23 of a recursion
+module _ (S : Security) (p : ℕ) (t : Ty) (w : ℕ) where
+  pub recurs-21 : S .permits (top t) (S .caller (top t) w) ≡ false → may-recur S p t w ≡ refused 21 p
+  recurs-21 e = ap (λ x. _>>_ (ask 21 p x) (q23 S p t)) e
+
+  pub recurs-23 : S .permits (top t) (S .caller (top t) w) ≡ true → may-recur S p t w ≡ q23 S p t
+  recurs-23 e = ap (λ x. _>>_ (ask 21 p x) (q23 S p t)) e
 
 pub meets-of : {o o′ : Answer Ty} {b : ℕ} {w : Bytes} {x : Found} {v : Bytes} → o ≡ o′ → Meets o′ b w x v → Meets o b w x v
 meets-of {b = b} {w = w} {x = x} {v = v} e m = subst (λ y. Meets y b w x v) (sym e) m

@@ -70,7 +70,7 @@ made (proj first w e) = refl
 made (proj second w e) = refl
 made (case w i e a b) = ap (λ n. case w n e a b) (sym (two-bytes i))
 made (protect m e) = refl
-made (mu i e) = ap (λ n. mu n e) (sym (two-bytes i))
+made (mu w i e) = ap (λ n. mu w n e) (sym (two-bytes i))
 
 -- of a known kind
 pub of-kind : (s : Bytes) (e : Term) (k : ℕ) → s ≡ encode e → kind s 0 ≡ k
@@ -92,7 +92,7 @@ counted (proj first w e) = refl
 counted (proj second w e) = refl
 counted (case w i e a b) = refl
 counted (protect m e) = refl
-counted (mu i e) = refl
+counted (mu w i e) = refl
 
 pub counted-of : {s : Bytes} (e : Term) → s ≡ encode e → arity (kind s 0) ≡ operand-count e
 counted-of {s} e p = ap (λ b. arity (kind b 0)) p ∙ counted e
@@ -109,7 +109,7 @@ unit-left (app w f a) o z = absurd (omega arith)
 unit-left (proj d w e) o z = absurd (omega arith)
 unit-left (case w i e a b) o z = absurd (omega arith)
 unit-left (protect m e) o z = absurd (omega arith)
-unit-left (mu i e) o z = absurd (omega arith)
+unit-left (mu w i e) o z = absurd (omega arith)
 
 pub unit-kind : {s : Bytes} (e : Term) → s ≡ encode e → operand-count e ≡ 0 → (kind s 0 ≡ kind-variable → ⊥) → kind s 0 ≡ kind-unit
 unit-kind {s} e p o z = ap (λ b. kind b 0) p ∙ unit-left e o (λ q. z (ap (λ b. kind b 0) p ∙ q))
@@ -128,7 +128,7 @@ mu-left (proj first w e) o a b c d f g = absurd (d refl)
 mu-left (proj second w e) o a b c d f g = absurd (f refl)
 mu-left (case w i e x y) o a b c d f g = absurd (omega arith)
 mu-left (protect m e) o a b c d f g = absurd (g refl)
-mu-left (mu i e) o a b c d f g = refl
+mu-left (mu w i e) o a b c d f g = refl
 
 pub mu-kind : {s : Bytes} (e : Term) → s ≡ encode e → operand-count e ≡ 1 → (kind s 0 ≡ kind-function → ⊥) → (kind s 0 ≡ kind-first-injection → ⊥) → (kind s 0 ≡ kind-second-injection → ⊥) → (kind s 0 ≡ kind-first-projection → ⊥)
     → (kind s 0 ≡ kind-second-projection → ⊥) → (kind s 0 ≡ kind-protect → ⊥) → kind s 0 ≡ kind-recursion
@@ -153,7 +153,7 @@ several (app w f a) o = is-app
 several (proj d w e) o = absurd (omega arith)
 several (case w i e a b) o = is-case
 several (protect m e) o = absurd (omega arith)
-several (mu i e) o = absurd (omega arith)
+several (mu w i e) o = absurd (omega arith)
 
 case-left : {e : Term} → Several e → (kind (encode e) 0 ≡ kind-pair → ⊥) → (kind (encode e) 0 ≡ kind-application → ⊥) → kind (encode e) 0 ≡ kind-case
 unfolding encode
@@ -189,7 +189,7 @@ plain-left S tab Γ p (app w x y) a b = record { asked = refl; context = refl }
 plain-left S tab Γ p (proj d w e) a b = record { asked = refl; context = refl }
 plain-left S tab Γ p (case w i e x y) a b = record { asked = refl; context = refl }
 plain-left S tab Γ p (protect m e) a b = record { asked = refl; context = refl }
-plain-left S tab Γ p (mu i e) a b = absurd (b refl)
+plain-left S tab Γ p (mu w i e) a b = absurd (b refl)
 
 pub plain : (S : Security) (tab : ℕ → Ty) (Γ : List Ty) (place : ℕ) {s : Bytes} (e : Term) → s ≡ encode e → (kind s 0 ≡ kind-function → ⊥) → (kind s 0 ≡ kind-recursion → ⊥) → Plain S tab Γ place e
 plain S tab Γ place e p a b = let q = ap (λ x. kind x 0) p in plain-left S tab Γ place e (λ z. a (q ∙ z)) (λ z. b (q ∙ z))
@@ -206,7 +206,7 @@ front-left (app w x y) a b = refl
 front-left (proj d w e) a b = refl
 front-left (case w i e x y) a b = refl
 front-left (protect m e) a b = refl
-front-left (mu i e) a b = refl
+front-left (mu w i e) a b = refl
 
 pub front-plain : (s : Bytes) (e : Term) → s ≡ encode e → (kind s 0 ≡ kind-first-injection → ⊥) → (kind s 0 ≡ kind-second-injection → ⊥) → 0 ≡ kept-front e
 front-plain s e p a b = let q = ap (λ x. kind x 0) p in front-left e (λ z. a (q ∙ z)) (λ z. b (q ∙ z))
@@ -231,4 +231,4 @@ depth-positive (app w f a) = omega arith
 depth-positive (proj d w e) = omega arith
 depth-positive (case w i e a b) = omega arith
 depth-positive (protect m e) = omega arith
-depth-positive (mu i e) = omega arith
+depth-positive (mu w i e) = omega arith

@@ -16,7 +16,7 @@ operand-count (app w f a) = 2
 operand-count (proj d w e) = 1
 operand-count (case w i e a b) = 3
 operand-count (protect m e) = 1
-operand-count (mu i e) = 1
+operand-count (mu w i e) = 1
 
 -- What questions 16 and 19 say of a node and of those below it: the named types are in the table `t`, and variables are below
 -- the count of binders.
@@ -30,4 +30,4 @@ Formed t b (app w f a) = Formed t b f × Formed t b a
 Formed t b (proj d w e) = Formed t b e
 Formed t b (case w i e x y) = (i < type-count t) × (Formed t b e × (Formed t (suc b) x × Formed t (suc b) y))
 Formed t b (protect m e) = Formed t b e
-Formed t b (mu i e) = ((i < type-count t) × (type-kind t i ≡ former-kind function)) × Formed t (suc b) e
+Formed t b (mu w i e) = ((i < type-count t) × (type-kind t i ≡ former-kind function)) × Formed t (suc b) e

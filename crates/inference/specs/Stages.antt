@@ -27,9 +27,15 @@ leaf-type Γ (app w f a) = accepted no-type
 leaf-type Γ (proj d w e) = accepted no-type
 leaf-type Γ (case w i e a b) = accepted no-type
 leaf-type Γ (protect m e) = accepted no-type
-leaf-type Γ (mu i e) = accepted no-type
+leaf-type Γ (mu w i e) = accepted no-type
 
--- before the first operand: question 23
+-- calling a recursion of type s as group w: questions 21 and 23
+abbrev pub may-recur : Security → ℕ → Ty → ℕ → Answer (Unit {0})
+may-recur S p s w = do
+  q21 S p s (S .caller (top s) w)
+  q23 S p s
+
+-- before the first operand: a recursion's questions
 unfoldable pub before-first : Security → (ℕ → Ty) → ℕ → Term → Answer (Unit {0})
 before-first S tab p (var n) = accepted tt
 before-first S tab p (unit k) = accepted tt
@@ -40,7 +46,7 @@ before-first S tab p (app w f a) = accepted tt
 before-first S tab p (proj d w e) = accepted tt
 before-first S tab p (case w i e a b) = accepted tt
 before-first S tab p (protect m e) = accepted tt
-before-first S tab p (mu i e) = q23 S p (tab i)
+before-first S tab p (mu w i e) = may-recur S p (tab i) w
 
 -- the first operand's context
 unfoldable pub first-context : (ℕ → Ty) → List Ty → Term → List Ty
@@ -53,7 +59,7 @@ first-context tab Γ (app w f a) = Γ
 first-context tab Γ (proj d w e) = Γ
 first-context tab Γ (case w i e a b) = Γ
 first-context tab Γ (protect m e) = Γ
-first-context tab Γ (mu i e) = tab i ∷ Γ
+first-context tab Γ (mu w i e) = tab i ∷ Γ
 
 -- bytes of the front that are not lent for the first operand: an injection's record
 unfoldable pub kept-front : Term → ℕ
@@ -66,7 +72,7 @@ kept-front (app w f a) = 0
 kept-front (proj d w e) = 0
 kept-front (case w i e a b) = 0
 kept-front (protect m e) = 0
-kept-front (mu i e) = 0
+kept-front (mu w i e) = 0
 
 -- a function's type
 abbrev pub function-type : ℕ → Property → Ty → Ty → Answer Ty
@@ -124,7 +130,7 @@ after-one S tab p (proj first w e) t = projection-type S p w false t
 after-one S tab p (proj second w e) t = projection-type S p w true t
 after-one S tab p (case w i e a b) t = accepted t
 after-one S tab p (protect m e) t = accepted (raiseT S t m)
-after-one S tab p (mu i e) t = wanting S p t (tab i) (tab i)
+after-one S tab p (mu w i e) t = wanting S p t (tab i) (tab i)
 
 -- between the first operand, of type s, and the second: questions 20 and 21
 unfoldable pub between : Security → ℕ → Term → Ty → Answer (Unit {0})
@@ -137,7 +143,7 @@ between S p (app w f a) s = may-read S p function s w
 between S p (proj d w e) s = accepted tt
 between S p (case w i e a b) s = may-read S p sum s w
 between S p (protect m e) s = accepted tt
-between S p (mu i e) s = accepted tt
+between S p (mu w i e) s = accepted tt
 
 -- the second operand's context
 unfoldable pub second-context : List Ty → Term → Ty → List Ty
@@ -150,7 +156,7 @@ second-context Γ (app w f a) s = Γ
 second-context Γ (proj d w e) s = Γ
 second-context Γ (case w i e a b) s = left s ∷ Γ
 second-context Γ (protect m e) s = Γ
-second-context Γ (mu i e) s = Γ
+second-context Γ (mu w i e) s = Γ
 
 -- two operands of types s and t
 unfoldable pub after-two : Security → ℕ → Term → Ty → Ty → Answer Ty
@@ -163,7 +169,7 @@ after-two S p (app w f a) s t = wanting S p t (left s) (reads S s w (right s))
 after-two S p (proj d w e) s t = accepted t
 after-two S p (case w i e a b) s t = accepted t
 after-two S p (protect m e) s t = accepted t
-after-two S p (mu i e) s t = accepted t
+after-two S p (mu w i e) s t = accepted t
 
 -- a node without operands
 pub record Leaf (s : Bytes) (b : ℕ) (w : Bytes) : Type 0 where

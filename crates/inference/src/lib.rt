@@ -34,7 +34,7 @@ ghost use Rattle.memory.specs.Splice.{splice};
 ghost use Rattle.types.specs.Held.{Held, Starts, Sided};
 ghost use Rattle.inference.specs.Memory.{high, Slot, Sized, Holds, Meets, Ready, Enters, Named, Named-sided, Beside, refusal};
 ghost use Rattle.inference.specs.Memory.{Some-sides, In-scope, Typed-front, Entered};
-ghost use Rattle.inference.specs.Stages.{leaf-type, before-first, first-context, kept-front, function-type, pair-type};
+ghost use Rattle.inference.specs.Stages.{leaf-type, may-recur, before-first, first-context, kept-front, function-type, pair-type};
 ghost use Rattle.inference.specs.Stages.{injection-type, may-read, after-one, between, second-context, after-two, Leaf, One, Aside};
 ghost use Rattle.inference.specs.Stages.{Some, Two, side-of, wanting, projection-type};
 
@@ -204,19 +204,33 @@ fn bind(types: &[u8], i: usize, b: usize, w: &mut [u8])
     copy_named(types, i, w, at);
 }
 
-// Question 23: ir of the named function type against that of its result.
-fn absorbs(groups: &[u8], types: &[u8], i: usize) -> bool
-    requires { ⌜ Named-sided (now types) i ⌝ }
-    ensures { λ x. ⌜ ((t : Ty) → Held (drop (type-width * i) (now (types .entry))) t
-        → x ≡ readers (now (groups .entry)) .absorbs (top t) (top (right t))) ⌝ }
+// Question 23: ir of the function type that t starts with against that of its result.
+fn absorbs(groups: &[u8], t: &[u8]) -> bool
+    requires { ⌜ Sided (now t) ⌝ }
+    ensures { λ x. ⌜ ((s : Ty) → Held (now (t .entry)) s
+        → x ≡ readers (now (groups .entry)) .absorbs (top s) (top (right s))) ⌝ }
 {
-    let t = named(types, i);
     let own = types::indirect(t);
     let result = types::indirect(side(t, true));
     own.at_or_below(groups, result)
 }
 
-// Before the operands: question 23 of a recursion, and the binder of a function or a recursion.
+// Questions 21 and 23 of a recursion of the named type: may its group call it, and is ir of its type at or below its result's?
+fn may_recur(groups: &[u8], types: &[u8], i: usize, caller: Reader, place: usize) -> Checked
+    requires { ⌜ Named-sided (now types) i ⌝ }
+    ensures { λ x. ⌜ ((t : Ty) → Held (drop (type-width * i) (now (types .entry))) t
+        → said x ≡ may-recur (readers (now (groups .entry))) place t (caller .0)) ⌝ }
+{
+    let t = named(types, i);
+    let called = types::reader(t).at_or_below(groups, caller);
+    let absorbed = absorbs(groups, t);
+    if !called {
+        return Checked::Refused(21, place);
+    }
+    answer::ask(23, place, absorbed)
+}
+
+// Before the operands: questions 21 and 23 of a recursion, and the binder of a function or a recursion.
 pub fn before_operands(
     groups: &[u8],
     types: &[u8],
@@ -237,7 +251,7 @@ pub fn before_operands(
         return Checked::Passed;
     }
     if k == RECURSION {
-        let asked = answer::ask(23, place, absorbs(groups, types, i));
+        let asked = may_recur(groups, types, i, records::reader(s, 0), place);
         bind(types, i, b, w);
         return asked;
     }

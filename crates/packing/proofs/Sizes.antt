@@ -106,8 +106,9 @@ module _ (S : Security) (p : ℕ) where
       (bind (m″ (right s)) _ (z (right s) (right-size s h)) (λ v h″. then (q22 S p v a) _
       (small-yes {s = raiseT S a (S .influence (top s) w)} (raised S a (S .influence (top s) w) l))))))))
 
-  mu-small : (a : Ty) (m : Answer Ty) → sizeT a ≤ type-limit → Small m → Small (_>>_ (q23 S p a) (_>>=_ m (λ s. _>>_ (q22 S p s a) (accepted a))))
-  mu-small a m l x = then (q23 S p a) _ (bind m _ x (λ s h. then (q22 S p s a) _ (small-yes {s = a} l)))
+  mu-small : (w : Reader) (a : Ty) (m : Answer Ty) → sizeT a ≤ type-limit → Small m
+      → Small (_>>_ (q21 S p a w) (_>>_ (q23 S p a) (_>>=_ m (λ s. _>>_ (q22 S p s a) (accepted a)))))
+  mu-small w a m l x = then (q21 S p a w) _ (then (q23 S p a) _ (bind m _ x (λ s h. then (q22 S p s a) _ (small-yes {s = a} l))))
 
 pub typing-small : (S : Security) (tab : ℕ → Ty) (T : (i : ℕ) → sizeT (tab i) ≤ type-limit) (Γ : List Ty) → Smalls Γ → (p : ℕ) (e : Term) → Small (typing S tab Γ p e)
 unfolding typing sizeT
@@ -128,7 +129,8 @@ typing-small S tab T Γ h p (case w i e a b) =
     (λ s l. typing-small S tab T (s ∷ Γ) (more s Γ l h) (1 + p + size e + size a) b)
 typing-small S tab T Γ h p (protect m e) =
     bind (typing S tab Γ (1 + p) e) _ (typing-small S tab T Γ h (1 + p) e) (λ s l. small-yes {s = raiseT S s m} (raised S s m l))
-typing-small S tab T Γ h p (mu i e) = mu-small S p (tab i) (typing S tab (tab i ∷ Γ) (1 + p) e) (T i) (typing-small S tab T (tab i ∷ Γ) (more (tab i) Γ (T i) h) (1 + p) e)
+typing-small S tab T Γ h p (mu w i e) =
+    mu-small S p (S .caller (top (tab i)) w) (tab i) (typing S tab (tab i ∷ Γ) (1 + p) e) (T i) (typing-small S tab T (tab i ∷ Γ) (more (tab i) Γ (T i) h) (1 + p) e)
 
 pub no-binders : Smalls []
 no-binders = none
@@ -209,4 +211,4 @@ sheet-length t g (app w f a) = omega arith
 sheet-length t g (proj d w e) = omega arith
 sheet-length t g (case w i e a b) = omega arith
 sheet-length t g (protect m e) = omega arith
-sheet-length t g (mu i e) = omega arith
+sheet-length t g (mu w i e) = omega arith

@@ -59,7 +59,7 @@ sheet-length g group (app w f a) = refl
 sheet-length g group (proj d w e) = refl
 sheet-length g group (case w i e a b) = refl
 sheet-length g group (protect m e) = refl
-sheet-length g group (mu i e) = refl
+sheet-length g group (mu w i e) = refl
 
 -- what the object's record tells stands in the script
 pub shown-at : (g : Bytes) (group : ℕ) (s : Bytes) (i : ℕ) (e : Term) → At s i e → shown g group s i ≡ shown g group (term-head e) 0

@@ -44,7 +44,7 @@ view (proj first w e) = other {e = proj first w e} refl (λ l. omega arith)
 view (proj second w e) = other {e = proj second w e} refl (λ l. omega arith)
 view (case w i e a b) = other {e = case w i e a b} refl (λ l. omega arith)
 view (protect m e) = other {e = protect m e} refl (λ l. omega arith)
-view (mu i e) = other {e = mu i e} refl (λ l. omega arith)
+view (mu w i e) = other {e = mu w i e} refl (λ l. omega arith)
 
 -- the readers of an object: r of its own record
 abbrev pub own : Term → ℕ
@@ -74,7 +74,7 @@ module _ (g : Bytes) (group : ℕ) where
   lines-at-most (proj d w e) = omega arith
   lines-at-most (case w i e a b) = omega arith
   lines-at-most (protect m e) = omega arith
-  lines-at-most (mu i e) = omega arith
+  lines-at-most (mu w i e) = omega arith
 
   pub lines-size : (shown : Bool) (e : Term) → lines-if g group shown e ≤ size e
   lines-size true e = lines-at-most e

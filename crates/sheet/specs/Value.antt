@@ -26,7 +26,7 @@ lines g group (app w f a) = 0
 lines g group (proj d w e) = 0
 lines g group (case w i e a b) = 0
 lines g group (protect m e) = 0
-lines g group (mu i e) = 0
+lines g group (mu w i e) = 0
 
 -- none where the value isn't shown
 abbrev pub lines-if : Bytes → ℕ → Bool → Term → ℕ

@@ -30,7 +30,7 @@ formed-of g t (app w x y) b F = (formed-of g t x b (F .1), formed-of g t y b (F 
 formed-of g t (proj d w e) b F = formed-of g t e b (F .1)
 formed-of g t (case w i e x y) b F = (F .1, (formed-of g t e b (F .2), (formed-of g t x (suc b) (F .3), formed-of g t y (suc b) (F .4))))
 formed-of g t (protect m e) b F = formed-of g t e b (F .1)
-formed-of g t (mu i e) b F = ((F .0, F .1), formed-of g t e (suc b) (F .2))
+formed-of g t (mu w i e) b F = ((F .1, F .2), formed-of g t e (suc b) (F .3))
 
 pub no-binders : (w : Bytes) → Holds [] (high 0 w)
 no-binders w = record { len = simp length-drop (omega arith); slot = λ n l. absurd (omega arith) }

@@ -4,11 +4,11 @@ use mathlib.Core.List.{List, _∷_}
 use Prim.Native.Nat.{ℕ, _+_, _≤_}
 use native.Mathlib.Omega.{arith}
 use Rattle.calculus.specs.Security.{Security}
-use Rattle.calculus.specs.Types.{sum, product, function, Ty}
+use Rattle.calculus.specs.Types.{sum, product, function, Ty, top}
 use Rattle.calculus.specs.Terms.{first, second, Term, var, unit, lam, pair, inj, app, proj, case, protect, mu}
 use Rattle.rules.specs.Answer.{Answer, accepted, refused, _>>=_ as bind, _>>_ as then}
 use Rattle.rules.specs.Script.{size}
-use Rattle.rules.specs.Typing.{left, right, q20, q21, q22, typing}
+use Rattle.rules.specs.Typing.{left, right, q20, q21, q22, q23, typing}
 use Rattle.inference.specs.Operands.{operand-count}
 use Rattle.records.specs.Operands.{first-operand, second-operand}
 use Rattle.inference.specs.Stages.{leaf-type, before-first, first-context, wanting, reads, after-one, between, second-context, after-two}
@@ -30,7 +30,7 @@ after-second S tab Γ p (case w i e a b) s t =
     then (q22 S p t (tab i))
     (bind (typing S tab (right s ∷ Γ) (1 + p + size e + size a) b) (λ u. wanting S p u (tab i) (reads S s w (tab i))))
 after-second S tab Γ p (protect m e) s t = accepted t
-after-second S tab Γ p (mu i e) s t = accepted t
+after-second S tab Γ p (mu w i e) s t = accepted t
 
 module _ (S : Security) (tab : ℕ → Ty) (Γ : List Ty) (p : ℕ) where
   pub typing-leaf : (e : Term) → operand-count e ≡ 0 → typing S tab Γ p e ≡ leaf-type Γ e
@@ -44,9 +44,16 @@ module _ (S : Security) (tab : ℕ → Ty) (Γ : List Ty) (p : ℕ) where
   typing-leaf (proj d w e) o = absurd (omega arith)
   typing-leaf (case w i e a b) o = absurd (omega arith)
   typing-leaf (protect m e) o = absurd (omega arith)
-  typing-leaf (mu i e) o = absurd (omega arith)
+  typing-leaf (mu w i e) o = absurd (omega arith)
 
-  -- question 23 answered no
+  -- a recursion's questions come before its body
+  recursion-typed : (w i : ℕ) (e : Term)
+      → typing S tab Γ p (mu w i e)
+      ≡ then (before-first S tab p (mu w i e)) (bind (typing S tab (tab i ∷ Γ) (1 + p) e) (λ t. wanting S p t (tab i) (tab i)))
+  unfolding typing before-first
+  recursion-typed w i e = then-assoc (q21 S p (tab i) (S .caller (top (tab i)) w)) (q23 S p (tab i)) _
+
+  -- one of them answered no
   pub stops-before : (e : Term) (q x : ℕ) → before-first S tab p e ≡ refused q x → typing S tab Γ p e ≡ refused q x
   unfolding before-first typing
   stops-before (var n) q x h = let z : _≡_ {A = ℕ} 0 1 = cc in absurd (omega arith)
@@ -58,7 +65,7 @@ module _ (S : Security) (tab : ℕ → Ty) (Γ : List Ty) (p : ℕ) where
   stops-before (proj d w e) q x h = let z : _≡_ {A = ℕ} 0 1 = cc in absurd (omega arith)
   stops-before (case w i e a b) q x h = let z : _≡_ {A = ℕ} 0 1 = cc in absurd (omega arith)
   stops-before (protect m e) q x h = let z : _≡_ {A = ℕ} 0 1 = cc in absurd (omega arith)
-  stops-before (mu i e) q x h = rw h
+  stops-before (mu w i e) q x h = rw (recursion-typed w i e, h)
 
   -- the first operand refused
   pub stops-first : (e : Term) (q x : ℕ) → 1 ≤ operand-count e → before-first S tab p e ≡ accepted tt
@@ -73,7 +80,7 @@ module _ (S : Security) (tab : ℕ → Ty) (Γ : List Ty) (p : ℕ) where
   stops-first (proj d w e) q x o a h = rw h
   stops-first (case w i e a b) q x o y h = rw h
   stops-first (protect m e) q x o a h = rw h
-  stops-first (mu i e) q x o a h = rw (a, h)
+  stops-first (mu w i e) q x o a h = rw (recursion-typed w i e, a, h)
 
   -- the one operand typed
   pub one-typed : (e : Term) (t : Ty) → operand-count e ≡ 1 → before-first S tab p e ≡ accepted tt
@@ -90,7 +97,7 @@ module _ (S : Security) (tab : ℕ → Ty) (Γ : List Ty) (p : ℕ) where
   one-typed (proj second w e) t o a h = rw h (then-assoc (q20 p product t) (q21 S p t w) (accepted (reads S t w (right t))))
   one-typed (case w i e a b) t o y h = absurd (omega arith)
   one-typed (protect m e) t o a h = rw h
-  one-typed (mu i e) t o a h = rw (a, h)
+  one-typed (mu w i e) t o a h = rw (recursion-typed w i e, a, h)
 
   -- the first of several typed
   pub first-typed : (e : Term) (s : Ty) → 2 ≤ operand-count e → typing S tab (first-context tab Γ e) (1 + p) (first-operand e) ≡ accepted s
@@ -107,7 +114,7 @@ module _ (S : Security) (tab : ℕ → Ty) (Γ : List Ty) (p : ℕ) where
   first-typed (case w i e a b) s o h =
       rw h (then-assoc (q20 p sum s) (q21 S p s w) (bind (typing S tab (left s ∷ Γ) (1 + p + size e) a) (after-second S tab Γ p (case w i e a b) s)))
   first-typed (protect m e) s o h = absurd (omega arith)
-  first-typed (mu i e) s o h = absurd (omega arith)
+  first-typed (mu w i e) s o h = absurd (omega arith)
 
   pub second-typed : (e : Term) (s t : Ty) → operand-count e ≡ 2 → after-second S tab Γ p e s t ≡ after-two S p e s t
   unfolding operand-count after-second
@@ -120,7 +127,7 @@ module _ (S : Security) (tab : ℕ → Ty) (Γ : List Ty) (p : ℕ) where
   second-typed (proj d w e) s t o = absurd (omega arith)
   second-typed (case w i e a b) s t o = absurd (omega arith)
   second-typed (protect m e) s t o = absurd (omega arith)
-  second-typed (mu i e) s t o = absurd (omega arith)
+  second-typed (mu w i e) s t o = absurd (omega arith)
 
   pub branch-typed : {e : Term} {w i : ℕ} {x y z : Term} (s t : Ty) → e ≡ case w i x y z
       → after-second S tab Γ p e s t

@@ -55,7 +55,7 @@ module _ (s : Bytes) where
   first-at (proj d w e) p o = at-operand s (proj d w e) p 1 [] e [] refl refl
   first-at (case w i e a b) p o = at-operand s (case w i e a b) p 1 [] e (a ∷ b ∷ []) refl refl
   first-at (protect m e) p o = at-operand s (protect m e) p 1 [] e [] refl refl
-  first-at (mu i e) p o = at-operand s (mu i e) p 1 [] e [] refl refl
+  first-at (mu w i e) p o = at-operand s (mu w i e) p 1 [] e [] refl refl
 
   pub second-at : {e : Term} {j : ℕ} → Several e → s ≡ encode e → j ≡ 1 + size (first-operand e) → At s j (second-operand e)
   second-at {j = j} (is-pair {k = k} {a = a} {b = b}) p z = at-operand s (pair k a b) p j (a ∷ []) b [] refl (omega arith)
@@ -77,7 +77,7 @@ first-ends (app w f a) o = absurd (omega arith)
 first-ends (proj d w e) o = omega arith
 first-ends (case w i e a b) o = absurd (omega arith)
 first-ends (protect m e) o = omega arith
-first-ends (mu i e) o = omega arith
+first-ends (mu w i e) o = omega arith
 
 second-ends : {e : Term} → Several e → operand-count e ≡ 2 → size e ≡ 1 + size (first-operand e) + size (second-operand e)
 unfolding operand-count size
@@ -118,7 +118,7 @@ first-smaller (app w f a) o = record { deeper = omega arith; larger = omega arit
 first-smaller (proj d w e) o = record { deeper = omega arith; larger = omega arith }
 first-smaller (case w i e a b) o = record { deeper = omega arith; larger = omega arith }
 first-smaller (protect m e) o = record { deeper = omega arith; larger = omega arith }
-first-smaller (mu i e) o = record { deeper = omega arith; larger = omega arith }
+first-smaller (mu w i e) o = record { deeper = omega arith; larger = omega arith }
 
 pub second-smaller : {e : Term} → Several e → Smaller e (second-operand e) (size (first-operand e))
 unfolding size depth
@@ -143,7 +143,7 @@ first-formed t tab Γ (app w x y) o f = f .0
 first-formed t tab Γ (proj d w e) o f = f
 first-formed t tab Γ (case w i e a b) o f = f .1 .0
 first-formed t tab Γ (protect m e) o f = f
-first-formed t tab Γ (mu i e) o f = f .1
+first-formed t tab Γ (mu w i e) o f = f .1
 
 pub second-formed : (t : Bytes) (Γ : List Ty) (u : Ty) {e : Term} → Several e → Formed t (length Γ) e → Formed t (length (second-context Γ e u)) (second-operand e)
 unfolding Formed second-context
@@ -167,7 +167,7 @@ first-room tab Γ (app w x y) = omega arith
 first-room tab Γ (proj d w e) = omega arith
 first-room tab Γ (case w i e a b) = omega arith
 first-room tab Γ (protect m e) = omega arith
-first-room tab Γ (mu i e) = omega arith
+first-room tab Γ (mu w i e) = omega arith
 
 pub second-room : (Γ : List Ty) (u : Ty) {e : Term} → Several e → kept-between (operand-count e) + answer-length * length (second-context Γ e u) ≤ answer-length * (length Γ + 1)
 unfolding operand-count second-context
@@ -192,7 +192,7 @@ at-most-three (app w x y) = omega arith
 at-most-three (proj d w e) = omega arith
 at-most-three (case w i e a b) = omega arith
 at-most-three (protect m e) = omega arith
-at-most-three (mu i e) = omega arith
+at-most-three (mu w i e) = omega arith
 
 pub three-kind : {e : Term} → Three e → kind (encode e) 0 ≡ kind-case
 unfolding encode
@@ -212,7 +212,7 @@ first-bound tab Γ (proj first w e) = omega arith
 first-bound tab Γ (proj second w e) = omega arith
 first-bound tab Γ (case w i e a b) = omega arith
 first-bound tab Γ (protect m e) = omega arith
-first-bound tab Γ (mu i e) = omega arith
+first-bound tab Γ (mu w i e) = omega arith
 
 second-bound : (Γ : List Ty) (u : Ty) {e : Term} → Several e → length (second-context Γ e u) ≡ length Γ + binds (kind (encode e) 0) 1
 unfolding second-context encode binds

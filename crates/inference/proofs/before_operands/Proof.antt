@@ -1,4 +1,4 @@
--- `inference::before_operands` meets its contract: a function and a recursion bind the named type, and question 23 is a recursion's.
+-- `inference::before_operands` meets its contract: a function and a recursion bind the named type, and the questions are a recursion's.
 use mathlib.Core.Path.{_≡_, refl, sym, ap, _∙_}
 use Prim.Native.Nat.{ℕ, _+_, _*_, _≤_, _<_}
 use native.Mathlib.Omega.{arith}
@@ -6,13 +6,14 @@ use lib.ListN.{length}
 use Rattle.calculus.specs.Security.{Security}
 use Rattle.calculus.specs.Types.{function, Ty}
 use Rattle.rules.specs.Limits.{answer-length, script-width}
-use Rattle.rules.specs.Answer.{Bytes, ask}
+use Rattle.rules.specs.Answer.{Bytes}
 use Rattle.rules.specs.Groups.{readers}
 use Rattle.rules.specs.Types.{former-kind, type-at, type-count, type-kind}
 use Rattle.rules.specs.Script.{r, ir, make}
 use Rattle.records.specs.Operands.{first-operand, second-operand, third-operand}
+use Rattle.answer.specs.Said.{said}
 use Rattle.inference.specs.Memory.{Ready}
-use Rattle.inference.specs.Stages.{before-first, first-context}
+use Rattle.inference.specs.Stages.{may-recur, before-first, first-context}
 use Rattle.inference.proofs.Regions.{stayed}
 use Rattle.inference.proofs.Shapes.{long, plain, of-fields, depth-positive, kind-function, kind-recursion}
 use Rattle.inference.proofs.Rules.{enters-as}
@@ -74,18 +75,19 @@ mu-named c v =
     let d = read c in
     mu-index (T (start d)) (start d .args .b) (I d) (v .tree) (v .formed) (shape d v kind-recursion (c .if2 .taken))
 
--- question 23
-asked : (c : tie.After-absorbs) (v : Node (read (c .before)))
-    → let s = start (read (c .before)) in
-    before-first (S s) (type-at (T s)) (s .args .place) (v .tree) ≡ ask 23 (s .args .place) (c .absorbs .result)
+-- a recursion's questions
+asked : (c : tie.After-may-recur) (v : Node (read (c .before .before)))
+    → let s = start (read (c .before .before)) in
+    said (c .may-recur .result) ≡ before-first (S s) (type-at (T s)) (s .args .place) (v .tree)
 unfolding before-first
 asked c v =
-    let j = c .before in
+    let j = c .before .before in
     let d = read j in
     let s = start d in
     let p = s .args .place in
-    ap (before-first (S s) (type-at (T s)) p) (shape d v kind-recursion (j .if2 .taken))
-    ∙ ap (ask 23 p) (sym (c .absorbs .ensures (named-type d) (v .table .entry (I d) (mu-named j v .0) .held)))
+    c .may-recur .ensures (named-type d) (v .table .entry (I d) (mu-named j v .0) .held)
+    ∙ ap (may-recur (S s) p (named-type d)) (c .before .reader .ensures)
+    ∙ sym (ap (before-first (S s) (type-at (T s)) p) (shape d v kind-recursion (j .if2 .taken)))
 
 node-long : (s : tie.Start) → script-width ≤ length (P s)
 node-long s = long (s .pre .tree) (s .pre .is)
@@ -117,14 +119,15 @@ returns c =
     enters-as (sym (ap (before-first (S s) (type-at (T s)) (s .args .place)) e)) (ap (first-context (type-at (T s)) (v .ctx)) e)
     (x .bind .ensures (v .ctx) (named-type d) (v .table .entry (I d) (lam-named j v)) (v .binders) (v .holds))
 
-absorbs-requires : tie.Need-absorbs-requires
-absorbs-requires c κs =
-    let v = start (read c) .pre in
-    let m = mu-named c v in
-    named-sided (v .table) (m .0) (m .1)
+reader-requires : tie.Need-reader-requires
+reader-requires c κs = omega (arith, node-long (start (read c)))
 
-ask-requires : tie.Need-ask-requires
-ask-requires c κs = search needs
+may-recur-requires : tie.Need-may-recur-requires
+may-recur-requires c κs =
+    let j = c .before in
+    let v = start (read j) .pre in
+    let m = mu-named j v in
+    named-sided (v .table) (m .0) (m .1)
 
 bind-requires-2 : tie.Need-bind-requires-2
 bind-requires-2 c κs =
@@ -140,11 +143,10 @@ unfolding first-context
 returns-2 c =
     λ v.
     let x = c .before .before in
-    let y = x .before .before in
-    let a = y .before in
-    let j = a .before in
+    let a = x .before .before in
+    let j = a .before .before in
     let d = read j in
-    enters-as (y .ask .ensures ∙ sym (asked a v)) (ap (first-context (type-at (T (start d))) (v .ctx)) (shape d v kind-recursion (j .if2 .taken)))
+    enters-as (asked a v) (ap (first-context (type-at (T (start d))) (v .ctx)) (shape d v kind-recursion (j .if2 .taken)))
     (x .bind2 .ensures (v .ctx) (named-type d) (v .table .entry (I d) (mu-named j v .0)) (v .binders) (v .holds))
 
 returns-3 : tie.Need-returns-3
@@ -166,8 +168,8 @@ before-operands-spec =
     bind-requires
     same-length
     returns
-    absorbs-requires
-    ask-requires
+    reader-requires
+    may-recur-requires
     bind-requires-2
     same-length-2
     returns-2
