@@ -1,0 +1,2 @@
+pub mod SetByte
+pub mod Callers
