@@ -7,6 +7,10 @@
 #include "hold.h"
 #include "wigneld.h"
 
+#if WIGNELD_FORMAT != 2
+#error "the records below are of form 2"
+#endif
+
 /* Two groups: anyone, and the lender above. */
 static const uint8_t groups[2 * WIGNELD_ROW_BYTES] = { 3, 0, 0, 0, 2, 0, 0, 0 };
 
@@ -169,6 +173,60 @@ static void refused_and_stopped(void)
     HOLD(wigneld_run_end(answer) == WIGNELD_END_MAY_NOT && wigneld_run_steps(answer, steps) == 0);
 }
 
+/* A rule without an end, for anyone or the lender to call (r of its type), that calls itself as `caller`; the lender calls it. */
+static struct bytes endless(unsigned caller)
+{
+    struct bytes script;
+
+    memset(&script, 0, sizeof script);
+    put_record(&script, WIGNELD_KIND_APPLICATION, 1, 0, 0);
+    put_record(&script, WIGNELD_KIND_RECURSION, caller, 0, 0);
+    put_record(&script, WIGNELD_KIND_FUNCTION, 0, 0, 1);
+    put_record(&script, WIGNELD_KIND_APPLICATION, 1, 0, 0);
+    put_record(&script, WIGNELD_KIND_VARIABLE, 0, 0, 1);
+    put_record(&script, WIGNELD_KIND_VARIABLE, 0, 0, 0);
+    put_record(&script, WIGNELD_KIND_UNIT, 0, 0, 0);
+    return script;
+}
+
+static struct bytes rule_types(unsigned r)
+{
+    struct bytes types;
+
+    memset(&types, 0, sizeof types);
+    put_type(&types, WIGNELD_TYPE_FUNCTION, r, 0);
+    put_type(&types, WIGNELD_TYPE_UNIT, 0, 0);
+    put_type(&types, WIGNELD_TYPE_UNIT, 0, 0);
+    return types;
+}
+
+/* A recursion calls itself as the group that is written in it, which is one of its readers. */
+static void recursive(void)
+{
+    unsigned r, caller;
+
+    for (r = 0; r < 2; r++) {
+        for (caller = 0; caller < 3; caller++) {
+            struct bytes types = rule_types(r), script = endless(caller);
+            uint64_t answer = check(&types, &script);
+            unsigned question = caller == 2 ? 15 : caller < r ? 21 : 0;
+
+            HOLD(wigneld_question(answer) == question && wigneld_place(answer) == (question != 0 ? 1u : 0u));
+            HOLD(wigneld_count(answer) == (question != 0 ? 0u : 1u));
+        }
+    }
+    for (caller = 0; caller < 2; caller++) {
+        struct bytes types = rule_types(0), script = endless(caller);
+        uint64_t answer = run(&types, &script, 1);
+
+        /* What stands for the rule in its body: a function with its type's groups, the call in it, the recursion again. */
+        HOLD(wigneld_run_end(answer) == WIGNELD_END_SPENT && wigneld_run_count(answer) == 13);
+        HOLD(is_record(first + 3 * WIGNELD_SCRIPT_RECORD_BYTES, WIGNELD_KIND_FUNCTION, 0, 0));
+        HOLD(is_record(first + 4 * WIGNELD_SCRIPT_RECORD_BYTES, WIGNELD_KIND_APPLICATION, caller, 0));
+        HOLD(is_record(first + 5 * WIGNELD_SCRIPT_RECORD_BYTES, WIGNELD_KIND_RECURSION, caller, 0));
+    }
+}
+
 /* A refused run is no value, has no records and no steps, and writes nothing. */
 static void refused_run(void)
 {
@@ -253,6 +311,7 @@ int main(void)
 {
     accepted();
     refused_and_stopped();
+    recursive();
     refused_run();
     refused_sheet();
     every_refusal();

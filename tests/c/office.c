@@ -1,11 +1,15 @@
 /*
- * A program of the office, written from the header alone, in what C99 and C++ share: it compares types and reads every kind of
- * answer. Exits with 0 when all is as the header says.
+ * A program of the office, written from the header alone, in what C99 and C++ share: it compares types, reads every kind of
+ * answer, and rewrites a script of form 1. Exits with 0 when all is as the header says.
  */
 #include <string.h>
 
 #include "hold.h"
 #include "wigneld_office.h"
+
+#if WIGNELD_FORMAT != 2
+#error "the rewriting below is to form 2"
+#endif
 
 /* Two groups: anyone, and the lender above. */
 static const uint8_t groups[] = { 3, 0, 0, 0, 2, 0, 0, 0 };
@@ -96,6 +100,76 @@ static void readings(void)
     HOLD(wigneld_comparison(2) == WIGNELD_COMPARE_SAME);
 }
 
+/* The lender's function from an open unit to a unit of the lender's. */
+static const uint8_t rule_types[] = { 3, 1, 1, 0, 0, 0, 0, 0, 0, 1, 1, 0 };
+
+/* A rule of that type that goes on for ever, called by the lender, as it was saved in form 1: 0 in byte 1 of record 1, its
+   recursion. */
+static const uint8_t saved[] = {
+    6, 1, 0, 0, 0, 0, 11, 0, 0, 0, 0, 0, 2, 1, 1, 0, 1, 0, 6, 1, 0, 0, 0, 0, 0, 0, 0, 0, 1, 0, 0, 0, 0, 0, 0, 0, 1, 0, 0, 0, 0, 0,
+};
+enum { CALLER = 7 }; /* byte 1 of record 1 */
+
+static uint64_t check(const uint8_t *script, size_t length)
+{
+    static uint8_t work[WIGNELD_WORK_BYTES], found[WIGNELD_ANSWER_BYTES];
+
+    return wigneld_check(groups, sizeof groups, rule_types, sizeof rule_types, script, length, work, sizeof work, found,
+                         sizeof found);
+}
+
+/* Whether a script is the saved one with this group in its recursion. */
+static int called_as(const uint8_t *script, unsigned group)
+{
+    return memcmp(script, saved, CALLER) == 0 && script[CALLER] == group
+           && memcmp(script + CALLER + 1, saved + CALLER + 1, sizeof saved - CALLER - 1) == 0;
+}
+
+/* Refused as it was saved, and rewritten checked and run as ever. */
+static void rewritten(void)
+{
+    uint8_t script[sizeof saved], first[600], scratch[600];
+    uint64_t answer = check(saved, sizeof saved);
+
+    HOLD(wigneld_question(answer) == 21 && wigneld_place(answer) == 1);
+    memcpy(script, saved, sizeof saved);
+    HOLD(wigneld_write_callers(rule_types, sizeof rule_types, script, sizeof script) == 1);
+    HOLD(called_as(script, 1));
+    answer = check(script, sizeof script);
+    HOLD(wigneld_question(answer) == 0 && wigneld_count(answer) == 1);
+    /* Three steps make the first call of its own: two protects above the application of the recursion. */
+    answer = wigneld_run(groups, sizeof groups, rule_types, sizeof rule_types, script, sizeof script, 3, first, sizeof first,
+                         scratch, sizeof scratch, NULL, 0);
+    HOLD(wigneld_run_end(answer) == WIGNELD_END_SPENT && wigneld_run_count(answer) == 9);
+    HOLD(memcmp(first + 2 * WIGNELD_SCRIPT_RECORD_BYTES, script, sizeof script) == 0);
+    /* A second time it changes nothing and says the same. */
+    HOLD(wigneld_write_callers(rule_types, sizeof rule_types, script, sizeof script) == 1 && called_as(script, 1));
+}
+
+/* Lengths that are not whole records, tables that don't reach to the number, and nothing at all. */
+static void left_as_they_are(void)
+{
+    uint8_t script[sizeof saved];
+    size_t length;
+
+    for (length = 0; length <= sizeof saved; length++) {
+        unsigned written = length >= 2 * WIGNELD_SCRIPT_RECORD_BYTES ? 1 : 0;
+
+        memcpy(script, saved, sizeof saved);
+        HOLD(wigneld_write_callers(rule_types, sizeof rule_types, script, length) == written && called_as(script, written));
+    }
+    for (length = 0; length <= sizeof rule_types; length++) {
+        unsigned written = length >= WIGNELD_TYPE_RECORD_BYTES ? 1 : 0;
+
+        memcpy(script, saved, sizeof saved);
+        HOLD(wigneld_write_callers(rule_types, length, script, sizeof script) == written && called_as(script, written));
+    }
+    memcpy(script, saved, sizeof saved);
+    HOLD(wigneld_write_callers(NULL, 0, script, sizeof script) == 0 && called_as(script, 0));
+    HOLD(wigneld_write_callers(rule_types, sizeof rule_types, NULL, 0) == 0);
+    HOLD(wigneld_write_callers(NULL, 0, NULL, 0) == 0);
+}
+
 /* The editor's archive serves the same program. */
 static void beside_the_editor(void)
 {
@@ -112,6 +186,8 @@ int main(void)
     answers();
     refusals();
     readings();
+    rewritten();
+    left_as_they_are();
     beside_the_editor();
     return told();
 }

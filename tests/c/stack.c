@@ -2,9 +2,10 @@
  * The stack that each function needs, held against the headers.
  *
  * For each function, many scripts as deep as a script may be: each kind of record on the way down, and below it what goes
- * deepest, over types as deep as 63 records can be; for the comparison these types themselves. A script is tried in child processes, in a thread with ever less free stack,
- * until the least that it doesn't crash with is known. The header's number is the most of these and a margin. Then each of the
- * scripts is run in a thread with just what the header says, and in one of the size that the header advises.
+ * deepest, over types as deep as 63 records can be; for the comparison these types themselves. A script is tried in child
+ * processes, in a thread with ever less free stack, until the least that it doesn't crash with is known. The header's number is
+ * the most of these and a margin. Then each of the scripts is run in a thread with just what the header says, and in one of the
+ * size that the header advises.
  */
 #define _GNU_SOURCE
 #include <limits.h>
@@ -228,11 +229,15 @@ static void sheet_script(struct script *s, enum way way)
 
 /* The calls, in buffers that stand apart from the stack. */
 
-enum call { CHECK, RUN, SHEET, COMPARE, CALLS };
+enum call { CHECK, RUN, SHEET, COMPARE, WRITE_CALLERS, CALLS };
 
-static const char *const names[CALLS] = { "wigneld_check", "wigneld_run", "wigneld_sheet", "wigneld_compare" };
+static const char *const names[CALLS] = { "wigneld_check", "wigneld_run", "wigneld_sheet", "wigneld_compare",
+                                          "wigneld_write_callers" };
 static const size_t promised[CALLS] = { WIGNELD_CHECK_STACK_BYTES, WIGNELD_RUN_STACK_BYTES, WIGNELD_SHEET_STACK_BYTES,
-                                        WIGNELD_COMPARE_STACK_BYTES };
+                                        WIGNELD_COMPARE_STACK_BYTES, WIGNELD_WRITE_CALLERS_STACK_BYTES };
+
+/* No promise up to this is too high: it is less than a caller's own frames are apart. */
+enum { NEXT_TO_NONE = 512 };
 
 /* A call in a thread, with `wanted` bytes of free stack, or however much there is. */
 struct job {
@@ -253,7 +258,8 @@ __attribute__((noinline)) static void make_call(struct job *job)
     size_t length = job->script->count * WIGNELD_SCRIPT_RECORD_BYTES;
     uintptr_t here;
 
-    __asm__ volatile("mov %%rsp, %0" : "=r"(here));
+    /* Named as changed, rbx is saved before and not between this and the call. */
+    __asm__ volatile("mov %%rsp, %0" : "=r"(here) : : "rbx");
     job->had = here - job->end;
     switch (job->call) {
     case CHECK:
@@ -268,6 +274,9 @@ __attribute__((noinline)) static void make_call(struct job *job)
         break;
     case COMPARE:
         job->answer = wigneld_compare(groups, sizeof groups, types, sizeof types, job->script->type, job->script->type);
+        break;
+    case WRITE_CALLERS:
+        job->answer = wigneld_write_callers(types, sizeof types, first, length);
         break;
     case CALLS: break;
     }
@@ -288,10 +297,12 @@ static void *in_thread(void *given)
     struct job *job = given;
     size_t here = (uintptr_t)__builtin_frame_address(0) - job->end;
 
+    /* A script to rewrite; the copy is made here, where there is stack enough for it. */
+    memcpy(first, job->script->bytes, sizeof first);
     if (job->wanted == 0)
         make_call_below(job, 0);
-    else
-        make_call_below(job, here - job->above - job->wanted);
+    else /* an array is aligned to 16 bytes: rather less free stack than more */
+        make_call_below(job, here - job->above - job->wanted + 15);
     job->above = here - job->had;
     return NULL;
 }
@@ -417,9 +428,24 @@ static int script_of(enum call call, unsigned number, struct script *s)
             return 0;
         s->type = number * RECORDS_OF_A_COMB;
         return 1;
+    case WRITE_CALLERS:
+        if (number >= WAYS)
+            return 0;
+        run_script(s, (enum way)number, UNROLLED);
+        return 1;
     case CALLS: break;
     }
     return 0;
+}
+
+static uint64_t recursions(const struct script *s)
+{
+    uint64_t count = 0;
+    size_t i;
+
+    for (i = 0; i < s->count; i++)
+        count += s->bytes[i * WIGNELD_SCRIPT_RECORD_BYTES + WIGNELD_AT_KIND] == WIGNELD_KIND_RECURSION;
+    return count;
 }
 
 /* Every script of a call; gives how many there were. */
@@ -434,7 +460,7 @@ static unsigned hold(enum call call)
     printf("%s: %zu bytes of free stack, the header says %zu\n", names[call], most, promised[call]);
     if (promised[call] < most + most / 16)
         fail("the header's number has less than a sixteenth of margin");
-    if (promised[call] > most + most / 4)
+    if (promised[call] > NEXT_TO_NONE && promised[call] > most + most / 4)
         fail("the header's number is far above what is needed");
     for (number = 0; script_of(call, number, &s); number++) {
         uint64_t answer = with_free(call, &s, promised[call]);
@@ -448,6 +474,8 @@ static unsigned hold(enum call call)
             fail("a script is no whole term of depth 256");
         if (call == COMPARE && wigneld_comparison(answer) != WIGNELD_COMPARE_SAME)
             fail("a type is not the same as itself");
+        if (call == WRITE_CALLERS && answer != recursions(&s))
+            fail("a recursion was not rewritten");
     }
     return number;
 }

@@ -9,9 +9,10 @@ use crate::refusal::{ask, Answer};
 use crate::script::read_script;
 use crate::sheet::sheet_of;
 use crate::steps::{self, is_value, End};
-use crate::types::{self, read_tables, Comparison};
+use crate::types::{self, read_tables, Comparison, Tables};
 use crate::typing::type_of;
 
+pub use crate::callers::write_callers;
 pub use crate::script::subterm;
 pub use crate::strip::{strip_script, strip_types};
 
@@ -46,11 +47,20 @@ pub fn check(
 ) -> Answer<u32> {
     // 1. Are work and answer buffer at least 64,512 and 252 bytes? (place 0)
     ask(work.len() >= WORK_BYTES && answer.len() >= ANSWER_BYTES, 1, 0)?;
-    let tables = read_tables(groups, types)?;
-    let term = read_script(&tables, script, &[])?;
+    check_over(&read_tables(groups, types)?, script, work, answer)
+}
+
+/// Checking from question 13 on.
+pub fn check_over(
+    tables: &Tables,
+    script: &[u8],
+    work: &mut [u8],
+    answer: &mut [u8],
+) -> Answer<u32> {
+    let term = read_script(tables, script, &[])?;
     // From here on typing has begun, whatever it answers.
     work.fill(0);
-    let found = type_of(&tables, &term)?;
+    let found = type_of(tables, &term)?;
     let bytes = found.write();
     answer[..bytes.len()].copy_from_slice(&bytes);
     Ok(found.size() as u32)
@@ -94,10 +104,20 @@ pub fn run(
     first: &mut [u8],
     scratch: &mut [u8],
 ) -> Answer<RunReport> {
-    let tables = read_tables(groups, types)?;
-    let term = read_script(&tables, script, &[first.len(), scratch.len()])?;
+    run_over(&read_tables(groups, types)?, script, budget, first, scratch)
+}
+
+/// A run from question 13 on.
+pub fn run_over(
+    tables: &Tables,
+    script: &[u8],
+    budget: u64,
+    first: &mut [u8],
+    scratch: &mut [u8],
+) -> Answer<RunReport> {
+    let term = read_script(tables, script, &[first.len(), scratch.len()])?;
     let room = first.len().min(scratch.len()) / SCRIPT_BYTES;
-    let ran = steps::run(&tables, &term, budget, room);
+    let ran = steps::run(tables, &term, budget, room);
     let bytes = ran.last.write();
     first.fill(0);
     first[..bytes.len()].copy_from_slice(&bytes);

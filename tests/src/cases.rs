@@ -43,11 +43,12 @@ pub fn case_term(tested_r: u8, tested_ir: u8, case_r: u8) -> Vec<u8> {
     .concat()
 }
 
-/// "application of recursion (type 3) of function (type 4) of variable 1 applied to 0, to unit".
-pub fn loop_term(outer_r: u8) -> Vec<u8> {
+/// "application of recursion (type 3) of function (type 4) of variable 1 applied to 0, to unit". Who
+/// its calls are made as is written in the recursion.
+pub fn loop_term(outer_r: u8, caller: u8) -> Vec<u8> {
     [
         record(6, outer_r, 0, 0),
-        record(11, 0, 0, 3),
+        record(11, caller, 0, 3),
         record(2, 0, 0, 4),
         record(6, 0, 0, 0),
         record(0, 0, 0, 1),
@@ -84,14 +85,25 @@ pub fn f() -> Inputs {
 
 /// Also H, in short buffers.
 pub fn g() -> Inputs {
-    with_script(loop_term(0))
+    g_called_as(0)
 }
 
+/// G with another group written in its recursion.
+pub fn g_called_as(caller: u8) -> Inputs {
+    with_script(loop_term(0, caller))
+}
+
+/// Document 02, item 6: "case I among them", with r of type 3 put in.
 pub fn i() -> Inputs {
+    i_called_as(1)
+}
+
+/// I with another group written in its recursion.
+pub fn i_called_as(caller: u8) -> Inputs {
     let mut types = case_types();
     types[3 * 4 + 1] = 1;
     types[3 * 4 + 2] = 1;
-    Inputs { types, ..with_script(loop_term(1)) }
+    Inputs { types, ..with_script(loop_term(1, caller)) }
 }
 
 /// J to L name only groups; the rest is B's.

@@ -1,7 +1,7 @@
 //! The engine's own functions, from libwigneld.a, libwigneld_office.a and libprobe.a, on slices.
 //!
 //! An answer is one number: refused is question * 2^32 + place; otherwise the upper half is 0 and
-//! the lower half is what the call answers.
+//! the lower half is what the call answers. A call that asks nothing answers its number as it is.
 
 use crate::calls::{RunReport, StepReport};
 use crate::refusal::{Answer, Refusal};
@@ -38,6 +38,10 @@ mod raw {
             groups: *const u8, groups_length: usize,
             types: *const u8, types_length: usize,
             first: u64, second: u64,
+        ) -> u64;
+        pub fn wigneld_write_callers(
+            types: *const u8, types_length: usize,
+            script: *mut u8, script_length: usize,
         ) -> u64;
 
         pub fn probe_bit(word: u32, h: u64) -> u64;
@@ -143,6 +147,12 @@ pub fn compare(groups: &[u8], types: &[u8], first: u64, second: u64) -> u64 {
             first,
             second,
         )
+    }
+}
+
+pub fn write_callers(types: &[u8], script: &mut [u8]) -> u64 {
+    unsafe {
+        raw::wigneld_write_callers(types.as_ptr(), types.len(), script.as_mut_ptr(), script.len())
     }
 }
 

@@ -368,6 +368,15 @@ impl Maker<'_> {
         self.group_where(|groups, h| groups.below(g, h))
     }
 
+    /// Who the calls of a recursion may be made as whose type has the readers `r`: often `r` itself.
+    fn caller(&mut self, r: Group) -> Group {
+        if self.rng.one_in(2) {
+            r
+        } else {
+            self.above(r)
+        }
+    }
+
     /// Groups of a value at or below `wanted`.
     fn lower(&mut self, wanted: Marks) -> Marks {
         if self.rng.one_in(3) {
@@ -582,7 +591,7 @@ impl Maker<'_> {
                     Rc::new(self.value(&own, fuel))
                 };
                 self.context.pop();
-                Some(Term::Recursion(index, body))
+                Some(Term::Recursion(self.caller(own.marks.r), index, body))
             }
 
             // The introduction form, unless it would end the script early.
@@ -635,7 +644,8 @@ pub fn typed_recursion(rng: &mut Rng, tables: &Tables, fuel: usize) -> Option<Rc
     let (parameter, _) = own.sides().expect("a function has sides");
     let r = maker.above(own.marks.r);
     let argument = maker.make(parameter, fuel / 4);
-    Some(Rc::new(Term::Application(r, Rc::new(Term::Recursion(index, body)), argument)))
+    let recursion = Term::Recursion(maker.caller(own.marks.r), index, body);
+    Some(Rc::new(Term::Application(r, Rc::new(recursion), argument)))
 }
 
 /// A well-typed script of up to `most` records: many smaller ones, each but the first dropped from a
@@ -685,6 +695,17 @@ fn indexes_of_kind(tables: &Tables, kind: u8) -> Vec<u16> {
         .collect()
 }
 
+/// Who the calls of a recursion of this type are made as: r of the type, a group above it, or any,
+/// below and beside it too.
+fn any_caller(rng: &mut Rng, tables: &Tables, function: u16) -> Group {
+    let r = tables.types.at(function.into()).marks.r;
+    match rng.below(3) {
+        0 => r,
+        1 => *rng.pick(&groups_where(&tables.groups, |g| tables.groups.below(r, g))),
+        _ => rng.below(tables.groups.count()) as Group,
+    }
+}
+
 fn untyped(rng: &mut Rng, tables: &Tables, binders: usize, fuel: usize) -> Rc<Term> {
     let leaf = |rng: &mut Rng| {
         if binders > 0 && !rng.one_in(3) {
@@ -731,7 +752,8 @@ fn untyped(rng: &mut Rng, tables: &Tables, binders: usize, fuel: usize) -> Rc<Te
         11 => Term::Protect(group, sub(0, fuel)),
         12 if !functions.is_empty() => {
             let function = functions[rest % functions.len()];
-            Term::Recursion(function, sub(1, fuel))
+            let body = sub(1, fuel);
+            Term::Recursion(any_caller(rng, tables, function), function, body)
         }
         _ => leaf(rng),
     };
@@ -764,10 +786,21 @@ pub fn untyped_value(rng: &mut Rng, tables: &Tables, fuel: usize) -> Rc<Term> {
     Rc::new(term)
 }
 
+/// Where a record starts: any one, or one of the recursions', which are rare.
+fn some_record(rng: &mut Rng, script: &[u8]) -> usize {
+    let starts = (0..script.len()).step_by(SCRIPT_BYTES);
+    let recursions: Vec<usize> = starts.filter(|&at| script[at] == 11).collect();
+    if recursions.is_empty() || !rng.one_in(4) {
+        rng.below(script.len() / SCRIPT_BYTES) * SCRIPT_BYTES
+    } else {
+        *rng.pick(&recursions)
+    }
+}
+
 /// A script with one field of one record changed: a group, a kind, an index or a variable.
 pub fn near_miss(rng: &mut Rng, tables: &Tables, script: &[u8]) -> Vec<u8> {
     let mut bytes = script.to_vec();
-    let at = rng.below(bytes.len() / SCRIPT_BYTES) * SCRIPT_BYTES;
+    let at = some_record(rng, script);
     let mut record = Record::read(&bytes[at..at + SCRIPT_BYTES]);
     let group = rng.below(tables.groups.count() + 1) as Group;
     let (r, ir) = (names_r(record.kind), names_ir(record.kind));

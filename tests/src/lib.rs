@@ -7,6 +7,7 @@
 // Plain remainders and indexes read closer to the document.
 #![allow(clippy::manual_is_multiple_of, clippy::needless_range_loop)]
 
+pub mod callers;
 pub mod calls;
 pub mod cases;
 #[cfg(feature = "engine")]

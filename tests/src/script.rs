@@ -31,8 +31,8 @@ pub enum Term {
     /// Result type, tested operand, the two branches.
     Case(Group, u16, Rc<Term>, Rc<Term>, Rc<Term>),
     Protect(Group, Rc<Term>),
-    /// Function type, body.
-    Recursion(u16, Rc<Term>),
+    /// Who its calls are made as, function type, body.
+    Recursion(Group, u16, Rc<Term>),
 }
 
 /// One record, as read.
@@ -66,9 +66,9 @@ pub fn operand_count(kind: u8) -> usize {
     OPERANDS[kind as usize]
 }
 
-/// The table's column "fields": r.
+/// The table's column "fields": r; of a recursion, by document 02, item 6.
 pub fn names_r(kind: u8) -> bool {
-    matches!(kind, 1..=9)
+    matches!(kind, 1..=9 | 11)
 }
 
 /// The table's column "fields": ir.
@@ -92,7 +92,7 @@ impl Term {
     pub fn operands(&self) -> Vec<(&Rc<Term>, usize)> {
         match self {
             Term::Variable(_) | Term::Unit(_) => vec![],
-            Term::Function(_, _, body) | Term::Recursion(_, body) => vec![(body, 1)],
+            Term::Function(_, _, body) | Term::Recursion(_, _, body) => vec![(body, 1)],
             Term::Pair(_, a, b) | Term::Application(_, a, b) => vec![(a, 0), (b, 0)],
             Term::Injection(_, _, _, a) | Term::Projection(_, _, a) | Term::Protect(_, a) => {
                 vec![(a, 0)]
@@ -120,7 +120,7 @@ impl Term {
             }
             Term::Case(r, number, ..) => Record { kind: 9, r, number, ..none },
             Term::Protect(ir, _) => Record { kind: 10, ir, ..none },
-            Term::Recursion(number, _) => Record { kind: 11, number, ..none },
+            Term::Recursion(r, number, _) => Record { kind: 11, r, number, ..none },
         }
     }
 
@@ -143,7 +143,7 @@ impl Term {
             8 => Term::Projection(Side::Second, r, next()),
             9 => Term::Case(r, number, next(), next(), next()),
             10 => Term::Protect(ir, next()),
-            11 => Term::Recursion(number, next()),
+            11 => Term::Recursion(r, number, next()),
             _ => panic!("question 14: kind at most 11"),
         }
     }

@@ -162,18 +162,20 @@ fn reduce(tables: &Tables, term: &Rc<Term>) -> Move {
             }
         }
 
-        Term::Recursion(function, body) => {
-            Move::To(substitute(body, &Rc::new(unrolled(tables, *function, term)), 0))
+        Term::Recursion(written, function, body) => {
+            let own = unrolled(tables, *written, *function, term);
+            Move::To(substitute(body, &Rc::new(own), 0))
         }
     }
 }
 
-/// (λx : s1. ((μf : s. e) x)_r)_(r, ir) for s = (s1 → s2, (r, ir)): "Unrolling's inner application,
-/// unmarked in the source, is made as r of the recursion's type." s1 starts right after s.
-fn unrolled(tables: &Tables, function: u16, recursion: &Rc<Term>) -> Term {
+/// (λx : s1. ((μf : s. e) x)_g)_(r, ir) for s = (s1 → s2, (r, ir)), where g is "the unrolled
+/// application's group": the written one. s1 starts right after s.
+fn unrolled(tables: &Tables, written: Group, function: u16, recursion: &Rc<Term>) -> Term {
     let own = tables.types.at(function.into());
     assert!(matches!(own.form, Form::Function(..)), "question 16: a function for 11");
-    let call = Term::Application(own.marks.r, recursion.clone(), Rc::new(Term::Variable(0)));
+    let caller = tables.caller.group(written, own.marks.r);
+    let call = Term::Application(caller, recursion.clone(), Rc::new(Term::Variable(0)));
     Term::Function(own.marks, function + 1, Rc::new(call))
 }
 

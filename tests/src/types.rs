@@ -2,6 +2,7 @@
 
 use std::rc::Rc;
 
+use crate::callers::Caller;
 use crate::groups::{read_groups, Group, Groups};
 use crate::limits::{MOST_TABLE_RECORDS, MOST_TYPE_RECORDS, TYPE_BYTES};
 use crate::refusal::{ask, refuse, Answer};
@@ -208,16 +209,17 @@ pub fn read_types(groups: &Groups, bytes: &[u8]) -> Answer<Types> {
     Ok(Types { records })
 }
 
-/// The two tables every script is judged over.
+/// The two tables every script is judged over, and whose group its recursive calls have.
 #[derive(Debug, Clone, PartialEq, Eq)]
 pub struct Tables {
     pub groups: Groups,
     pub types: Types,
+    pub caller: Caller,
 }
 
 /// Questions 2 to 12, then both tables.
 pub fn read_tables(groups: &[u8], types: &[u8]) -> Answer<Tables> {
     let groups = read_groups(groups)?;
     let types = read_types(&groups, types)?;
-    Ok(Tables { groups, types })
+    Ok(Tables { groups, types, caller: Caller::Written })
 }

@@ -1,7 +1,8 @@
 //! Typing: table 3 with the document's departures, questions 20 to 24.
 //!
 //! "Typing goes operands first, left to right; 20, 21 and 22 come as soon as the operand concerned
-//! has its type, 23 before the body, 24 last. The place is the node."
+//! has its type, 23 before the body, 24 last. The place is the node." A recursion has its type
+//! written, so its 21 comes at once.
 
 use std::rc::Rc;
 
@@ -102,12 +103,14 @@ fn find(tables: &Tables, context: &mut Vec<Type>, term: &Term, place: usize) -> 
             Ok(raise(groups, &found, *ir))
         }
 
-        // [Rec]; 23: "A recursion of type (s1 → s2, (r, ir)) needs ir ⊑ the indirect readers of s2".
-        Term::Recursion(function, body) => {
+        // [Rec]; "21 is put to the recursion before 23, with r of its type against the written
+        // group". 23: "A recursion of type (s1 → s2, (r, ir)) needs ir ⊑ the indirect readers of s2".
+        Term::Recursion(written, function, body) => {
             let own = tables.types.at((*function).into());
             let Form::Function(_, result) = &own.form else {
                 panic!("question 16: a function for 11");
             };
+            readable(groups, own.marks, tables.caller.group(*written, own.marks.r), place)?;
             ask(groups.below(own.marks.ir, result.marks.ir), 23, place)?;
             let found = find_under(tables, context, own.clone(), body, place + 1)?;
             wanted_type(groups, &found, &own, place)?;

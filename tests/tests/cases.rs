@@ -139,8 +139,10 @@ fn case_h() {
 fn case_i() {
     let inputs = cases::i();
     assert_eq!(inputs.types[12..16], [3, 1, 1, 0]);
-    assert_eq!(inputs.script[..6], record(6, 1, 0, 0));
+    assert_eq!(inputs.script[..12], [record(6, 1, 0, 0), record(11, 1, 0, 3)].concat());
     check_refuses(&inputs, 23, 1);
+    // With group 0 written, which may not read the recursion's type, 21 comes first.
+    check_refuses(&cases::i_called_as(0), 21, 1);
     // A run types nothing, so it goes on.
     run_reports(&inputs, 1, 1, 1, 13, None);
     // With the result's groups at (1,1) the condition holds.

@@ -131,10 +131,11 @@ impl Rules<'_> {
                     found.push(raise(groups, &one, *ir));
                 }
             }
-            Term::Recursion(function, body) => {
+            Term::Recursion(caller, function, body) => {
                 let own = at(*function);
                 let Form::Function(_, result) = &own.form else { panic!("a function") };
-                if groups.below(own.marks.ir, result.marks.ir)
+                if groups.below(own.marks.r, *caller)
+                    && groups.below(own.marks.ir, result.marks.ir)
                     && self.under(context, &own, body).contains(&own)
                 {
                     found.push(own);
@@ -190,7 +191,7 @@ fn small_shape(tables: &Tables, context: &[Type], term: &Term) -> Option<Type> {
             under(right, second).map(|_| at(*result))
         }
         Term::Protect(_, operand) => shape(operand),
-        Term::Recursion(function, body) => under(&at(*function), body).map(|_| at(*function)),
+        Term::Recursion(_, function, body) => under(&at(*function), body).map(|_| at(*function)),
     };
     found.filter(|found| found.size() <= 3)
 }

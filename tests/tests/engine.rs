@@ -92,8 +92,10 @@ fn compare_all(rng: &mut Rng, inputs: &Inputs) -> usize {
     }
     strip_script(&mut inputs.script.clone());
     strip_types(&mut inputs.types.clone());
-    // Four calls with lent buffers, two checks of tables, four and three look-ups, two strippings.
-    15
+    write_callers(&inputs.types, &mut inputs.script.clone());
+    // Four calls with lent buffers, two checks of tables, four and three look-ups, two strippings, the
+    // rewriting.
+    16
 }
 
 /// Draws examples one way or another and asserts that comparisons were made.
@@ -417,7 +419,7 @@ fn growing_runs() {
         let apply = |function, argument| Rc::new(Term::Application(0, function, argument));
         let function = |body| Rc::new(Term::Function(LOW, 1, body));
         let pair = |left, right| Rc::new(Term::Pair(LOW, left, right));
-        let recursion = |body| Rc::new(Term::Recursion(3, body));
+        let recursion = |body| Rc::new(Term::Recursion(0, 3, body));
         // μf. λx. f <x, x>
         let doubling =
             apply(recursion(function(apply(variable(1), pair(variable(0), variable(0))))), unit());

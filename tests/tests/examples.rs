@@ -1,19 +1,30 @@
 //! The example folders: what the report prints in each, whole.
 
 use std::fs;
-use std::path::Path;
+use std::path::{Path, PathBuf};
 use wigneld_tests::report::report;
 
+fn path(name: &str, file: &str) -> PathBuf {
+    Path::new(env!("CARGO_MANIFEST_DIR")).join("../examples").join(name).join(file)
+}
+
+fn read(name: &str, file: &str) -> Vec<u8> {
+    fs::read(path(name, file)).unwrap_or_else(|e| panic!("{name}/{file}: {e}"))
+}
+
+/// What is printed in a folder with this script.
+fn printed(name: &str, script: &[u8]) -> String {
+    let words = fs::read(path(name, "words")).ok();
+    let printed = report(words.as_deref(), &read(name, "groups"), &read(name, "types"), script);
+    String::from_utf8(printed).expect("plain text")
+}
+
+fn expected(name: &str) -> String {
+    String::from_utf8(read(name, "expected")).expect("plain text")
+}
+
 fn prints_expected(name: &str) {
-    let folder = Path::new(env!("CARGO_MANIFEST_DIR")).join("../examples").join(name);
-    let read =
-        |file: &str| fs::read(folder.join(file)).unwrap_or_else(|e| panic!("{name}/{file}: {e}"));
-    let words = fs::read(folder.join("words")).ok();
-    let printed = report(words.as_deref(), &read("groups"), &read("types"), &read("script"));
-    assert_eq!(
-        String::from_utf8(printed).expect("plain text"),
-        String::from_utf8(read("expected")).expect("plain text")
-    );
+    assert_eq!(printed(name, &read(name, "script")), expected(name));
 }
 
 #[test]
@@ -29,6 +40,19 @@ fn loan_sheet() {
 #[test]
 fn loan_leak() {
     prints_expected("loan-leak");
+}
+
+#[test]
+fn drying_panel() {
+    let name = "drying-panel";
+    prints_expected(name);
+    // Its rule, record 6, calls itself as the registrar. The bench could too, the lender's office not.
+    let (mut script, rule) = (read(name, "script"), 6 * 6);
+    assert_eq!(script[rule..rule + 2], [11, 3]);
+    script[rule + 1] = 1;
+    assert_eq!(printed(name, &script), expected(name));
+    script[rule + 1] = 2;
+    assert_eq!(printed(name, &script), "refused 21 at 6\n");
 }
 
 #[test]

@@ -180,8 +180,9 @@ const OTHERS: [&str; 6] = [
     "END_REFUSED",
 ];
 
-/// The widths of a row and of type, script and sheet records in each record format, from 1 on.
-const FORMATS: [[usize; 4]; 1] = [[4, 4, 6, 4]];
+/// The widths of a row and of type, script and sheet records in each record format, from 1 on. In the second a recursion has a group
+/// in byte 1.
+const FORMATS: [[usize; 4]; 2] = [[4, 4, 6, 4], [4, 4, 6, 4]];
 
 #[test]
 fn every_constant_is_the_engines() {

@@ -43,6 +43,13 @@ fn typed(rng: &mut Rng, world: &World) -> Rc<Term> {
     typed_script(rng, &world.tables, fuel)
 }
 
+/// Is a recursive call of the script made as another group than r of the recursion's type?
+fn calls_as_another(inputs: &Inputs) -> bool {
+    let mut own = inputs.script.clone();
+    write_callers(&inputs.types, &mut own);
+    own != inputs.script
+}
+
 fn groups_of(world: &World) -> &Groups {
     &world.tables.groups
 }
@@ -342,7 +349,7 @@ fn scripts_made_to_be_typed_are_accepted() {
 #[test]
 fn demand_3_holds_of_whole_runs() {
     let mut ends = [0; 5];
-    let mut longest = 0;
+    let (mut longest, mut by_another) = (0, 0);
     let enough = examples(900, |rng| {
         let world = World::random(rng);
         let inputs = inputs_of(&world, &typed(rng, &world));
@@ -359,6 +366,7 @@ fn demand_3_holds_of_whole_runs() {
         assert!(!matches!(report.end, End::MayNot | End::WrongKind), "{report:?}");
         ends[report.end as usize] += 1;
         longest = longest.max(report.steps);
+        by_another += (report.steps > 0 && calls_as_another(&inputs)) as u32;
 
         // Every reached term is accepted at or below the reported type.
         let mut reached = inputs.clone();
@@ -393,6 +401,7 @@ fn demand_3_holds_of_whole_runs() {
     });
     assert!(!enough || ends[0] > 0 && ends[1] > 0 && ends[4] > 0, "all three drawn: {ends:?}");
     assert!(!enough || longest > 50, "some run is long: {longest}");
+    assert!(!enough || by_another > 0, "calls were made as a group above r of their type");
 }
 
 #[test]
@@ -424,7 +433,8 @@ fn demand_3_holds_of_large_scripts() {
 
 #[test]
 fn near_misses_that_pass_obey_demand_3_too() {
-    let (mut passed, mut refused) = (0, [0; 28]);
+    let (mut passed, mut by_another) = (0, 0);
+    let (mut refused, mut refused_recursion) = ([0; 28], 0);
     let enough = examples(4000, |rng| {
         let world = World::random(rng);
         let script = typed(rng, &world).write();
@@ -439,6 +449,9 @@ fn near_misses_that_pass_obey_demand_3_too() {
                 check_refuses(&inputs, refusal.question, refusal.place);
                 assert!(refusal.place as usize <= inputs.script.len() / SCRIPT_BYTES);
                 refused[refusal.question as usize] += 1;
+                let at_recursion =
+                    inputs.script.get(refusal.place as usize * SCRIPT_BYTES) == Some(&11);
+                refused_recursion += (refusal.question == 21 && at_recursion) as u32;
                 // What stands before typing is asked by a run too.
                 if refusal.question < 20 {
                     run_refuses(&inputs, refusal.question, refusal.place);
@@ -446,6 +459,7 @@ fn near_misses_that_pass_obey_demand_3_too() {
             }
             Ok(found) => {
                 passed += 1;
+                by_another += calls_as_another(&inputs) as u32;
                 let (result, first, _) = run_in(&inputs, 40, REPORT_RUN_BYTES, REPORT_RUN_BYTES);
                 let report = result.expect("an accepted script's run is not refused");
                 assert!(!matches!(report.end, End::MayNot | End::WrongKind), "{report:?}");
@@ -455,7 +469,8 @@ fn near_misses_that_pass_obey_demand_3_too() {
             }
         }
     });
-    assert!(!enough || passed > 0);
+    assert!(!enough || passed > 0 && by_another > 0);
+    assert!(!enough || refused_recursion > 0, "21 was answered no at a recursion");
     for question in [14, 15, 16, 17, 19, 20, 21, 22, 23] {
         assert!(!enough || refused[question] > 0, "question {question} was drawn: {refused:?}");
     }

@@ -17,6 +17,11 @@ fn diamond_groups() -> Vec<u8> {
     words(&[15, 10, 12, 8])
 }
 
+/// Is g at or below h, of these four?
+fn below(g: u8, h: u8) -> bool {
+    g == h || g == 0 || h == 3
+}
+
 /// Records: 0 sum of units, 3 function of units, 6 pair of units, 9 unit (3,3), 10 function (3,3)
 /// of units, 13 sum of unit and unit (3,3), all other groups 0.
 #[rustfmt::skip] // one type on each line
@@ -341,7 +346,7 @@ fn question_13_in_a_run_asks_both_buffers() {
 
 #[test]
 fn question_14_kinds_and_unnamed_fields() {
-    let unnamed_r = [0, 10, 11];
+    let unnamed_r = [0, 10];
     let unnamed_ir = [0, 6, 7, 8, 9, 11];
     let unnamed_number = [1, 3, 6, 7, 8, 10];
     for kind in 0..=11u8 {
@@ -379,7 +384,7 @@ fn question_15_named_groups() {
         for (r, ir) in
             [(4, 0), (0, 4), (4, 4), (255, 0), (0, 255), (32, 32), (0, 1), (1, 2), (3, 3)]
         {
-            let (names_r, names_ir) = (kind <= 9, kind <= 5 || kind == 10);
+            let (names_r, names_ir) = (kind != 10, kind <= 5 || kind == 10);
             let (r, ir) = (if names_r { r } else { 0 }, if names_ir { ir } else { 0 });
             let inputs = of(&[[3, 3, 0, 0, 0, 0], UNIT, record(kind, r, ir, 0)]);
             let bad_group = r >= 4 || ir >= 4;
@@ -392,6 +397,16 @@ fn question_15_named_groups() {
             }
         }
     }
+    // A recursion's group is in the table; which one it is plays no part before typing.
+    let recursion = |caller| of(&[record(11, caller, 0, 3), function(4), variable(0)]);
+    for caller in 0..4 {
+        accepted(&recursion(caller));
+    }
+    for caller in [4, 5, 31, 32, 128, 255] {
+        refused_by_all(&recursion(caller), 15, 0);
+    }
+    // Before 16: type 0 is no function.
+    refused_by_all(&of(&[record(11, 4, 0, 0), UNIT]), 15, 0);
     // A variable names no group. Before 16, which record 0 fails.
     refused_by_all(&of(&[record(2, 0, 0, 99), record(0, 0, 0, 99), record(1, 0, 2, 0)]), 15, 2);
 }
@@ -582,7 +597,6 @@ fn question_20_what_is_taken_apart() {
 #[test]
 fn question_21_readers() {
     // Object r against the node's r, over the diamond; ir plays no part.
-    let below = |g: u8, h: u8| g == h || g == 0 || h == 3;
     for object in 0..4 {
         for node in 0..4 {
             for ir in [0, object] {
@@ -607,6 +621,33 @@ fn question_21_readers() {
     ill_typed(&[APPLY, record(2, 1, 0, 1), variable(0), PROJECT, UNIT], 21, 0);
     ill_typed(&[case(0), record(4, 1, 0, 0), UNIT, PROJECT, UNIT, UNIT], 21, 0);
     ill_typed(&[APPLY, record(3, 1, 0, 0), UNIT, UNIT, UNIT], 20, 0);
+}
+
+#[test]
+fn question_21_at_a_recursion() {
+    // r of its type against the written group, over the diamond; ir plays no part, and the written
+    // group is none of the type's.
+    for r in 0..4 {
+        for (written, ir) in (0..4).flat_map(|written| [(written, 0), (written, r)]) {
+            let types = [[3, r, ir, 0], [0; 4], [0, r, ir, 0]].concat();
+            let script = [record(11, written, 0, 0), function(1), UNIT].concat();
+            let inputs = Inputs { groups: diamond_groups(), types, script };
+            if below(r, written) {
+                check_finds(&inputs, &inputs.types);
+            } else {
+                check_refuses(&inputs, 21, 0);
+            }
+        }
+    }
+    // Before 23, which type 10 fails, and both before the body, which is worse. The place is the
+    // recursion.
+    let worse = |written| [PAIR, UNIT, record(11, written, 0, 10), function(11), PROJECT, UNIT];
+    for written in 0..3 {
+        ill_typed(&worse(written), 21, 2);
+    }
+    ill_typed(&worse(3), 23, 2);
+    // What stands to its left comes first.
+    ill_typed(&[PAIR, PROJECT, UNIT, record(11, 0, 0, 10), UNIT], 20, 1);
 }
 
 #[test]
@@ -673,16 +714,15 @@ fn question_22_parameters_are_compared_the_other_way_round() {
 #[test]
 fn question_23_recursion() {
     // Types: function of each (r, ir) to unit of each (r, ir), over the diamond.
-    let below = |g: u8, h: u8| g == h || g == 0 || h == 3;
     for ir in 0..4 {
         for result in 0..4 {
             let types = [[3, 3, ir, 0], [0; 4], [0, 3, result, 0]].concat();
             // The body is refused by 20 at 2, but only after 23.
-            let script = [record(11, 0, 0, 0), function(1), PROJECT, UNIT].concat();
+            let script = [record(11, 3, 0, 0), function(1), PROJECT, UNIT].concat();
             let inputs = Inputs { groups: diamond_groups(), types, script };
             if below(ir, result) {
                 check_refuses(&inputs, 20, 2);
-                let script = [record(11, 0, 0, 0), function(1), UNIT].concat();
+                let script = [record(11, 3, 0, 0), function(1), UNIT].concat();
                 check_finds(&Inputs { script, ..inputs.clone() }, &inputs.types);
             } else {
                 check_refuses(&inputs, 23, 0);
@@ -690,9 +730,9 @@ fn question_23_recursion() {
         }
     }
     // Type 10 has (3,3) and a result (0,0); the place is the recursion.
-    ill_typed(&[PAIR, UNIT, record(11, 0, 0, 10), function(11), UNIT], 23, 2);
+    ill_typed(&[PAIR, UNIT, record(11, 3, 0, 10), function(11), UNIT], 23, 2);
     // What stands to its left comes first.
-    ill_typed(&[PAIR, PROJECT, UNIT, record(11, 0, 0, 10), UNIT], 20, 1);
+    ill_typed(&[PAIR, PROJECT, UNIT, record(11, 3, 0, 10), UNIT], 20, 1);
 }
 
 #[test]
@@ -903,7 +943,7 @@ fn slot(rng: &mut Rng) -> Slot {
         at,
         records: records.to_vec(),
     };
-    match rng.below(26) {
+    match rng.below(28) {
         0 => make(14, 0, &[[12, 0, 0, 0, 0, 0]]),
         1 => make(14, 1, &[function(0), [0, 0, 1, 0, 0, 0]]),
         2 => make(15, 0, &[record(1, 4, 0, 0)]),
@@ -918,7 +958,9 @@ fn slot(rng: &mut Rng) -> Slot {
         11 => make(21, 0, &[PROJECT, record(3, 1, 1, 0), UNIT, UNIT]),
         12 => make(22, 0, &[first(0), high_unit()]),
         13 => make(22, 0, &[record(11, 0, 0, 3), UNIT]),
-        14 => make(23, 0, &[record(11, 0, 0, 10), function(11), UNIT]),
+        14 => make(23, 0, &[record(11, 3, 0, 10), function(11), UNIT]),
+        15 => make(15, 0, &[record(11, 4, 0, 3), function(4), UNIT]),
+        16 => make(21, 0, &[record(11, 1, 0, 10), function(11), UNIT]),
         _ => Slot { fails: None, at: 0, records: vec![UNIT] },
     }
 }
@@ -1156,21 +1198,43 @@ fn substitution_counts_binders() {
 }
 
 #[test]
-fn unrolling_is_made_as_the_types_reader() {
-    // Type 10 is the function (3,3) from type 11.
-    let inputs = of(&[record(11, 0, 0, 10), PAIR, variable(0), UNIT]);
-    let expected = [
-        PAIR,
-        record(2, 3, 3, 11),
-        record(6, 3, 0, 0),
-        record(11, 0, 0, 10),
-        PAIR,
-        variable(0),
-        UNIT,
-        variable(0),
-        UNIT,
-    ];
-    assert_eq!(step_reports(&inputs, 600, 1, 9), expected.concat());
+fn unrolling_is_made_as_the_written_group() {
+    // Type 3 is the function (0,0) from type 4, type 10 the function (3,3) from type 11. The unrolled
+    // function has its type's groups, the application in it the written one, which the recursion keeps.
+    // A step types nothing, so that group may be any.
+    for (function, marks) in [(3, 0), (10, 3)] {
+        for written in 0..4 {
+            let recursion = record(11, written, 0, function);
+            let expected = [
+                PAIR,
+                record(2, marks, marks, function + 1),
+                record(6, written, 0, 0),
+                recursion,
+                PAIR,
+                variable(0),
+                UNIT,
+                variable(0),
+                UNIT,
+            ];
+            let inputs = of(&[recursion, PAIR, variable(0), UNIT]);
+            assert_eq!(step_reports(&inputs, 600, 1, 9), expected.concat());
+        }
+    }
+}
+
+#[test]
+fn who_a_recursive_call_is_made_as_decides_its_end() {
+    // μf. λx. f x of type 10, the function and both applications of group 3: each call but the first
+    // is made as the written group, which has to read the function again.
+    let apply = record(6, 3, 0, 0);
+    for written in 0..4 {
+        let own =
+            [record(11, written, 0, 10), record(2, 3, 3, 11), apply, variable(1), variable(0)];
+        let inputs = of(&[&[apply][..], &own, &[UNIT]].concat());
+        let (end, steps, records) = if below(3, written) { (1, 5, 13) } else { (2, 4, 15) };
+        run_reports(&inputs, 4, 1, 4, 15, None);
+        run_reports(&inputs, 5, end, steps, records, None);
+    }
 }
 
 #[test]

@@ -70,6 +70,15 @@ pub fn strip_types(types: &mut [u8]) {
     compared::strip_types(&before, types);
 }
 
+pub fn write_callers(types: &[u8], script: &mut [u8]) -> u64 {
+    #[cfg(feature = "engine")]
+    let before = script.to_vec();
+    let written = calls::write_callers(types, script);
+    #[cfg(feature = "engine")]
+    compared::write_callers(types, &before, written, script);
+    written
+}
+
 /// Checking with these buffers: the answer, and what the buffers hold afterwards.
 pub fn check_with(
     inputs: &Inputs,
@@ -342,6 +351,14 @@ mod compared {
         let mut given = Guarded::new(before);
         engine::strip_types(given.lend());
         same(given.take("types"), expected, "strip types");
+    }
+
+    pub fn write_callers(types: &[u8], before: &[u8], expected: u64, after: &[u8]) {
+        let (mut own, mut script) = (Guarded::new(types), Guarded::new(before));
+        let found = engine::write_callers(own.lend(), script.lend());
+        answers(found, expected, "write callers: records written");
+        same(script.take("script"), after, "write callers");
+        same(own.take("types"), types, "types are only read");
     }
 
     pub fn check(inputs: &Inputs, lent: [&[u8]; 2], expected: &Answer<u32>, after: [&[u8]; 2]) {
