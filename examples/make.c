@@ -67,9 +67,15 @@ static void choice_type(unsigned who)
     type(0, who);
 }
 
-static void pair_type(unsigned who)
+static void pair_type(unsigned who) { type(2, who); }
+static void function_type(unsigned who) { type(3, who); }
+
+/* A number from 0 to 3, its high bit first. */
+static void number_type(unsigned who)
 {
-    type(2, who);
+    pair_type(who);
+        choice_type(who);
+        choice_type(who);
 }
 
 /* Records of scripts. */
@@ -90,12 +96,21 @@ static void apply(unsigned reader) { record(6, reader, 0, 0); }
 static void first_of(unsigned reader) { record(7, reader, 0, 0); }
 static void second_of(unsigned reader) { record(8, reader, 0, 0); }
 static void when(unsigned reader, unsigned result) { record(9, reader, 0, result); }
+static void recursion(unsigned caller, unsigned function) { record(11, caller, 0, function); }
 
 /* The first or the second of a choice. */
 static void choice(unsigned second, unsigned who, unsigned type_index)
 {
     record(4 + second, who, who, type_index);
     record(1, who, who, 0);
+}
+
+/* A number; the bits are choices of the type `bit`. */
+static void number(unsigned value, unsigned who, unsigned bit)
+{
+    pair(who);
+        choice(value / 2, who, bit);
+        choice(value % 2, who, bit);
 }
 
 /* ---- a bench record */
@@ -132,30 +147,20 @@ static void bench_script(void)
 
 enum { LENT = 0, FIGURE = 3, BIT = 4, LOAN_ENTRY = 10 };
 
-/* A figure from 0 to 3, its high bit first. */
-static void figure_type(void)
-{
-    pair_type(LENDER);
-        choice_type(LENDER);
-        choice_type(LENDER);
-}
-
 static void loan_types(void)
 {
     choice_type(ANYONE); /* LENT: out, or back */
-    figure_type();       /* FIGURE, and BIT in it */
+    number_type(LENDER); /* FIGURE, and BIT in it */
     pair_type(ANYONE);   /* LOAN_ENTRY: lent or not, and the lender's figure */
         choice_type(ANYONE);
-        figure_type();
+        number_type(LENDER);
 }
 
 static void loan_entry(void)
 {
     pair(ANYONE); /* the entry: out, and the figure 2 */
         choice(0, ANYONE, LENT);
-        pair(LENDER);
-            choice(1, LENDER, BIT);
-            choice(0, LENDER, BIT);
+        number(2, LENDER, BIT);
 }
 
 /* The figure's high bit, read with the lender's right to. */
@@ -195,6 +200,73 @@ static void leak_script(void)
                     choice(0, ANYONE, LENT);
                     choice(1, ANYONE, LENT);
         loan_entry();
+}
+
+/* ---- a drying panel, by a rule that calls itself */
+
+enum { DRYING = 0, SIDE = 3, TURNING = 6, DAYS = 7, PANEL_ENTRY = 17 };
+
+static void panel_types(void)
+{
+    choice_type(ANYONE);  /* DRYING: yes, or no more */
+    choice_type(BENCH);   /* SIDE: face up, or face down; also a bit of DAYS */
+    function_type(BENCH); /* TURNING: the bench may call it, and so may the registrar */
+        number_type(BENCH); /* DAYS */
+        choice_type(BENCH);
+    pair_type(ANYONE);    /* PANEL_ENTRY: drying or not, and the days */
+        choice_type(ANYONE);
+        number_type(BENCH);
+}
+
+/* The side after a day more: the other one. */
+static void other_side(void)
+{
+    choice(1, BENCH, SIDE);
+    choice(0, BENCH, SIDE);
+}
+
+/* After no day the panel is face up, and otherwise on the other side than after a day less. Whoever calls the rule, the panel is
+   turned by the registrar's people: the rule calls itself as the registrar. */
+static void turning_rule(void)
+{
+    recursion(REGISTRAR, TURNING);
+        function(BENCH, DAYS);
+            when(BENCH, SIDE); /* is the low bit 0? */
+                second_of(BENCH);
+                    variable(0);
+                when(BENCH, SIDE); /* and the high bit too? */
+                    first_of(BENCH);
+                        variable(1);
+                    choice(0, BENCH, SIDE); /* no day: face up */
+                    when(BENCH, SIDE); /* two days: one less is 1 */
+                        apply(BENCH);
+                            variable(3);
+                            number(1, BENCH, SIDE);
+                        other_side();
+                when(BENCH, SIDE); /* one day or three: one less has the low bit 0 */
+                    apply(BENCH);
+                        variable(2);
+                        pair(BENCH);
+                            first_of(BENCH);
+                                variable(1);
+                            choice(0, BENCH, SIDE);
+                    other_side();
+}
+
+static void panel_script(void)
+{
+    apply(ANYONE);
+        function(ANYONE, PANEL_ENTRY);
+            pair(ANYONE);
+                first_of(ANYONE); /* drying or not */
+                    variable(0);
+                apply(BENCH); /* the bench asks which side is up in the end */
+                    turning_rule();
+                    second_of(ANYONE);
+                        variable(0);
+        pair(ANYONE); /* the entry: drying, for 3 days */
+            choice(0, ANYONE, DRYING);
+            number(3, BENCH, SIDE);
 }
 
 /* ---- a page in a studio's own words */
@@ -246,6 +318,7 @@ int main(int count, char **words)
     example(words[1], "bench-record", bench_types, bench_script);
     example(words[1], "loan-sheet", loan_types, loan_script);
     example(words[1], "loan-leak", loan_types, leak_script);
+    example(words[1], "drying-panel", panel_types, panel_script);
     example(words[1], "own-words", page_types, page_script);
     own_words(words[1], "own-words");
     return 0;

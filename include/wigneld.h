@@ -22,11 +22,12 @@ extern "C" {
 #endif
 
 /* Raised whenever a constant, a prototype or an answer changes. */
-#define WIGNELD_VERSION 2
+#define WIGNELD_VERSION 3
 
 /* The form of rows and records. Raised whenever a width below changes, or what a byte of a record means: files of another form
-   are to be rewritten before they are lent. */
-#define WIGNELD_FORMAT 1
+   are to be rewritten before they are lent. No file says its form, so keep it beside them. In form 1 byte 1 of a recursion was 0;
+   wigneld_write_callers (wigneld_office.h) rewrites such scripts. */
+#define WIGNELD_FORMAT 2
 
 /*
  * The groups table: rows, one for each group, numbered from 0. A row is a word of 4 bytes, lowest byte first: byte 0 has bits 0 to 7,
@@ -75,9 +76,10 @@ extern "C" {
  *     case                tested, two branches, each under    r, number: result type
  *                         a binder
  *     protect             the protected                       ir
- *     recursion           body, under a binder                number: function type
+ *     recursion           body, under a binder                r, number: function type
  *
- * r of an application, a projection or a case is the group that reads.
+ * r of an application, a projection or a case is the group that reads. r of a recursion is the group that it calls itself as,
+ * whoever calls it; it is at or above r of the function type.
  */
 #define WIGNELD_SCRIPT_RECORD_BYTES 6
 #define WIGNELD_AT_NUMBER 4
@@ -273,7 +275,7 @@ static inline const char *wigneld_asked(unsigned question)
         "the script is at most 256 records deep",                          /* 18 */
         "a variable is bound",                                             /* 19 */
         "what is applied, projected or tested has the form for it",        /* 20 */
-        "who reads an object is one of its readers",                       /* 21 */
+        "who reads an object is one of its readers",                       /* 21, also of a recursion and who it calls itself as */
         "what is handed on is at or below the type that is wanted",        /* 22 */
         "a recursion's result is as secret as the recursion",              /* 23 */
         "the type of a function or a pair has at most 63 records",         /* 24 */

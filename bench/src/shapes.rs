@@ -157,7 +157,7 @@ fn branches(size: usize) -> Inputs {
     let leaves = (size - 2) / 4 + 1;
     let rest = size - 1 - (4 * leaves - 3);
     let body = protect(rest, nested(leaves, 1));
-    inputs(Rc::new(Term::Recursion(FUNCTION_63, body)), size)
+    inputs(Rc::new(Term::Recursion(LOW.r, FUNCTION_63, body)), size)
 }
 
 /// A value: pairs halved down to injections, units and functions.
