@@ -4,6 +4,7 @@ use Prim.Native.Nat.{ℕ}
 use Rattle.calculus.specs.Security.{Property, Reader, Indirect, Security}
 use Rattle.calculus.specs.Types.{Ty, one, node, raiseT}
 use Rattle.calculus.specs.Subtyping.{Direction, below, above, leftward, le-toward, subtype}
+use Rattle.calculus.specs.Common.{bound, common}
 use Rattle.calculus.specs.Terms.{Term}
 use Rattle.calculus.specs.Reduction.{step}
 use Rattle.calculus.specs.Relabelling.{relabelT, relabelO}
@@ -27,9 +28,24 @@ module _ (caller caller′ : Property → Reader → Reader) (S : Security) wher
   raise-called (one k) m = refl
   raise-called (node f k s t) m = refl
 
+  bound-called : (d : Direction) (k l : Property) → bound (called-as caller S) d k l ≡ bound (called-as caller′ S) d k l
+  bound-called below k l = refl
+  bound-called above k l = refl
+
+  common-type-called : (d : Direction) (s t : Ty) → common (called-as caller S) d s t ≡ common (called-as caller′ S) d s t
+  unfolding common
+  common-type-called d (one k) (one l) = rw (bound-called d k l)
+  common-type-called d (one k) (node f l s t) = refl
+  common-type-called d (node f k s t) (one l) = refl
+  common-type-called d (node f k s t) (node g l s′ t′) =
+      rw (bound-called d k l, common-type-called (leftward f d) s s′, common-type-called d t t′)
+
   -- the same as equations between functions, to rewrite under binders
   pub comparison-called : subtype (called-as caller S) ≡ subtype (called-as caller′ S)
   comparison-called i d s t = subtype-called d s t i
+
+  pub common-called : common (called-as caller S) ≡ common (called-as caller′ S)
+  common-called i d s t = common-type-called d s t i
 
   pub raising-called : raiseT (called-as caller S) ≡ raiseT (called-as caller′ S)
   raising-called i t m = raise-called t m i

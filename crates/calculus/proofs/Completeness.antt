@@ -22,6 +22,7 @@ use Rattle.calculus.specs.Typing.{
   t-case,
   t-protect,
   t-mu,
+  Result,
   Table,
   infer,
 }
@@ -40,6 +41,7 @@ use Rattle.calculus.proofs.Subtyping.{subtype-reflexive, subtype-fits}
 use Rattle.calculus.proofs.Raising.{raise-directed}
 use Rattle.calculus.proofs.Inferred.{Inferred, i-var, i-unit, i-lam, i-pair, i-inj, i-app, i-proj, i-case, i-protect, i-mu}
 use Rattle.calculus.proofs.Inference.{inferred-infer}
+use Rattle.calculus.proofs.Results.{result-least}
 use Rattle.calculus.proofs.SecureTyping.{SecureContext, sc-empty, sc-extend, table-parts}
 
 -- Γ is below Δ: type by type
@@ -114,15 +116,17 @@ module _ {S : Security} {tab : ℕ → Ty} (L : Laws S) (T : Table S tab) where
       }
 
   -- the branches are inferred under the sides of the inferred type, so in a narrower context
-  case-below : {Γ : List Ty} {k : Property} {s t u : Ty} {e a b : Term} (w : Reader) (i : ℕ) → Inferred S tab Γ e u
-      → Directed S below u (node sum k s t) → So (S .permits k w) → ((s′ : Ty) → Directed S below s′ s → InferredBelow S tab (s′ ∷ Γ) a (tab i))
-      → ((t′ : Ty) → Directed S below t′ t → InferredBelow S tab (t′ ∷ Γ) b (tab i))
-      → InferredBelow S tab Γ (case w i e a b) (raiseT S (tab i) (S .influence k w))
-  case-below w i p (d-node h a b) m x y =
+  case-below : {Γ : List Ty} {k : Property} {s t u r : Ty} {e a b : Term} (w : Reader) (i : ℕ) → Inferred S tab Γ e u
+      → Directed S below u (node sum k s t) → So (S .permits k w) → Result tab i r
+      → ((s′ : Ty) → Directed S below s′ s → InferredBelow S tab (s′ ∷ Γ) a r)
+      → ((t′ : Ty) → Directed S below t′ t → InferredBelow S tab (t′ ∷ Γ) b r)
+      → InferredBelow S tab Γ (case w i e a b) (raiseT S r (S .influence k w))
+  case-below w i p (d-node h a b) m z x y =
+      let l = result-least L T z (x _ a .below) (y _ b .below) in
       record {
         least = _;
-        inferred = i-case p (L .permits-mono _ _ w h m) (x _ a .inferred) (x _ a .below) (y _ b .inferred) (y _ b .below);
-        below = raise-directed L _ _ (directed-refl L below (tab i) (T .secure i)) (L .influence-mono _ _ w h m);
+        inferred = i-case p (L .permits-mono _ _ w h m) (x _ a .inferred) (y _ b .inferred) (l .1);
+        below = raise-directed L _ _ (l .2) (L .influence-mono _ _ w h m);
       }
 
   protect-below : {Γ : List Ty} {t : Ty} {e : Term} (m : Indirect) → So (S .secureI m) → InferredBelow S tab Γ e t
@@ -148,9 +152,9 @@ module _ {S : Security} {tab : ℕ → Ty} (L : Laws S) (T : Table S tab) where
   typed-inferred (t-app {w = w} p q m) N =
       let x = typed-inferred p N in let y = typed-inferred q N in app-below w (x .inferred) (x .below) (y .inferred) (y .below) m
   typed-inferred (t-proj {d = d} {w = w} p m) N = let x = typed-inferred p N in proj-below d w (x .inferred) (x .below) m
-  typed-inferred (t-case {w = w} {i = i} p m q q′) N =
+  typed-inferred (t-case {w = w} {i = i} p m z q q′) N =
       let x = typed-inferred p N in
-      case-below w i (x .inferred) (x .below) m
+      case-below w i (x .inferred) (x .below) m z
       (λ s z. typed-inferred q (n-extend (directed-subtype z) N)) (λ t z. typed-inferred q′ (n-extend (directed-subtype z) N))
   typed-inferred (t-protect {m = m} h p) N = protect-below m h (typed-inferred p N)
   typed-inferred (t-mu {w = w} {i = i} e m h p) N = mu-below w i e m h (typed-inferred p (extend-table i N))

@@ -1,5 +1,5 @@
 -- Erasure of a step: where no reading is denied, the erased term does the same over one group.
-use mathlib.Core.Path.{_≡_, refl, sym}
+use mathlib.Core.Path.{_≡_, sym}
 use mathlib.Core.Bool.{So}
 use mathlib.Core.List.{[]}
 use Prim.Native.Nat.{ℕ, zero}

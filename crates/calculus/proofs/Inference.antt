@@ -1,20 +1,18 @@
 -- The function `infer` finds what the derivations without [Sub] give, and nothing else.
-use mathlib.Core.Path.{_≡_, refl, ap}
-use mathlib.Core.Bool.{Bool, true, false, So, _&&_}
+use mathlib.Core.Path.{_≡_}
+use mathlib.Core.Bool.{_&&_}
 use mathlib.Core.List.{List, _∷_}
-use mathlib.Core.Option.{Option, none, some, Option·some-injective, Option·none-ne-some}
+use mathlib.Core.Option.{some}
 use Prim.Native.Nat.{ℕ}
 use Rattle.calculus.specs.Security.{Security}
-use Rattle.calculus.specs.Types.{Former, sum, product, function, Ty, one, node, same, top, fits, when, Parts, parts}
+use Rattle.calculus.specs.Types.{sum, product, function, Ty, node, top, fits, parts}
 use Rattle.calculus.specs.Subtyping.{below, subtype}
 use Rattle.calculus.specs.Terms.{choose, Term, var, unit, lam, pair, inj, app, proj, case, protect, mu}
-use Rattle.calculus.specs.Typing.{_>>=_, recurs, infer}
+use Rattle.calculus.specs.Typing.{result, recurs, infer}
 use Rattle.calculus.proofs.Booleans.{both, and-left, and-right}
-use Rattle.calculus.proofs.Directed.{directed-test, test-directed, same-eq}
+use Rattle.calculus.proofs.Directed.{directed-test, test-directed}
+use Rattle.calculus.proofs.Answers.{when-holds, bind-some, when-some, parts-some}
 use Rattle.calculus.proofs.Inferred.{Inferred, i-var, i-unit, i-lam, i-pair, i-inj, i-app, i-proj, i-case, i-protect, i-mu}
-
-when-holds : {A : Type 0} {c : Bool} (a : A) → So c → when c a ≡ some a
-when-holds a h = rw h
 
 pub inferred-infer : {S : Security} {tab : ℕ → Ty} {Γ : List Ty} {e : Term} {t : Ty} → Inferred S tab Γ e t → infer S tab Γ e ≡ some t
 unfolding infer
@@ -25,26 +23,9 @@ inferred-infer (i-pair h p q f) = rw (inferred-infer p, inferred-infer q) (when-
 inferred-infer (i-inj h e p s) = rw (inferred-infer p, e) (when-holds _ (both h (directed-test s)))
 inferred-infer (i-app p q s m) = rw (inferred-infer p, inferred-infer q) (when-holds _ (both m (directed-test s)))
 inferred-infer (i-proj p m) = rw (inferred-infer p) (when-holds _ m)
-inferred-infer (i-case p m q s q′ s′) =
-    rw (inferred-infer p, inferred-infer q, inferred-infer q′) (when-holds _ (both m (both (directed-test s) (directed-test s′))))
+inferred-infer (i-case p m q q′ x) = rw (inferred-infer p, inferred-infer q, inferred-infer q′, x) (when-holds _ m)
 inferred-infer (i-protect h p) = rw (inferred-infer p) (when-holds _ h)
 inferred-infer (i-mu e m h p s) = rw (inferred-infer p, e) (when-holds _ (both (both m h) (rw e at (directed-test s))))
-
--- What an answer says of the questions before it, in continuation form: what is found is then a variable.
-
-bind-some : {A B P : Type 0} (m : Option A) (f : A → Option B) {b : B} → _>>=_ m f ≡ some b → ((a : A) → m ≡ some a → f a ≡ some b → P) → P
-bind-some none f {b} h k = absurd (Option·none-ne-some b h)
-bind-some (some a) f h k = k a refl h
-
-when-some : {A P : Type 0} (c : Bool) (a : A) {b : A} → when c a ≡ some b → (So c → a ≡ b → P) → P
-when-some true a {b} h k = k refl (Option·some-injective a b h)
-when-some false a {b} h k = absurd (Option·none-ne-some b h)
-
-parts-some : {P : Type 0} (f : Former) (t : Ty) {p : Parts} → parts f t ≡ some p → (t ≡ node f (p .own) (p .lhs) (p .rhs) → P) → P
-parts-some f (one k) {p} h κ = absurd (Option·none-ne-some p h)
-parts-some f (node g k s t) h κ =
-    when-some (same f g) _ h λ x e.
-    κ (rw (← same-eq f g x) (ap (λ (q : Parts). node f (q .own) (q .lhs) (q .rhs)) e))
 
 pub infer-inferred : {S : Security} {tab : ℕ → Ty} {Γ : List Ty} (e : Term) (t : Ty) → infer S tab Γ e ≡ some t → Inferred S tab Γ e t
 unfolding infer
@@ -87,10 +68,9 @@ infer-inferred {S} {tab} {Γ} (case w i c a b) t h =
     parts-some sum s q λ s-is.
     bind-some (infer S tab (z .lhs ∷ Γ) a) _ h2 λ u p2 h3.
     bind-some (infer S tab (z .rhs ∷ Γ) b) _ h3 λ v p3 h4.
-    when-some (S .permits (z .own) w && (subtype S below u (tab i) && subtype S below v (tab i))) _ h4 λ x e.
-    rw (← e) (i-case (rw s-is at (infer-inferred c s p)) (and-left _ _ x)
-    (infer-inferred a u p2) (test-directed below _ _ (and-left _ _ (and-right (S .permits (z .own) w) _ x)))
-    (infer-inferred b v p3) (test-directed below _ _ (and-right (subtype S below u (tab i)) _ (and-right (S .permits (z .own) w) _ x))))
+    bind-some (result S tab i u v) _ h4 λ r y h5.
+    when-some (S .permits (z .own) w) _ h5 λ x e.
+    rw (← e) (i-case (rw s-is at (infer-inferred c s p)) x (infer-inferred a u p2) (infer-inferred b v p3) y)
 infer-inferred {S} {tab} {Γ} (protect m b) t h =
     bind-some (infer S tab Γ b) _ h λ s p h1.
     when-some (S .secureI m) _ h1 λ x e.

@@ -8,7 +8,7 @@ use Rattle.calculus.specs.Security.{Property, Reader, Indirect, Security
 use Rattle.calculus.specs.Types.{sum, product, function, Ty, one, node, top, raiseT, fits}
 use Rattle.calculus.specs.Subtyping.{below}
 use Rattle.calculus.specs.Terms.{Side, choose, Term, var, unit, lam, pair, inj, app, proj, case, protect, mu}
-use Rattle.calculus.specs.Typing.{lookup}
+use Rattle.calculus.specs.Typing.{lookup, result}
 use Rattle.calculus.proofs.Directed.{Directed}
 
 pub data Inferred (S : Security) (tab : ℕ → Ty) : List Ty → Term → Ty → Type 0 where
@@ -24,9 +24,9 @@ pub data Inferred (S : Security) (tab : ℕ → Ty) : List Ty → Term → Ty �
       → Directed S below u s → So (S .permits k w) → Inferred S tab Γ (app w f a) (raiseT S t (S .influence k w))
   i-proj : {Γ : List Ty} {d : Side} {k : Property} {w : Reader} {e : Term} {s t : Ty} → Inferred S tab Γ e (node product k s t)
       → So (S .permits k w) → Inferred S tab Γ (proj d w e) (raiseT S (choose d s t) (S .influence k w))
-  i-case : {Γ : List Ty} {k : Property} {w : Reader} {i : ℕ} {e a b : Term} {s t u v : Ty} → Inferred S tab Γ e (node sum k s t)
-      → So (S .permits k w) → Inferred S tab (s ∷ Γ) a u → Directed S below u (tab i) → Inferred S tab (t ∷ Γ) b v → Directed S below v (tab i)
-      → Inferred S tab Γ (case w i e a b) (raiseT S (tab i) (S .influence k w))
+  i-case : {Γ : List Ty} {k : Property} {w : Reader} {i : ℕ} {e a b : Term} {s t u v r : Ty} → Inferred S tab Γ e (node sum k s t)
+      → So (S .permits k w) → Inferred S tab (s ∷ Γ) a u → Inferred S tab (t ∷ Γ) b v → result S tab i u v ≡ some r
+      → Inferred S tab Γ (case w i e a b) (raiseT S r (S .influence k w))
   i-protect : {Γ : List Ty} {m : Indirect} {e : Term} {t : Ty} → So (S .secureI m) → Inferred S tab Γ e t
       → Inferred S tab Γ (protect m e) (raiseT S t m)
   i-mu : {Γ : List Ty} {w : Reader} {i : ℕ} {e : Term} {k : Property} {s t u : Ty} → tab i ≡ node function k s t → So (S .permits k (S .caller k w))

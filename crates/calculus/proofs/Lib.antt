@@ -10,9 +10,12 @@ pub mod Redexes
 pub mod Contexts
 pub mod Agreement
 pub mod Reduction
+pub mod Answers
+pub mod Common
 pub mod Inferred
 pub mod Inference
 pub mod SecureTyping
+pub mod Results
 pub mod Soundness
 pub mod Completeness
 pub mod Narrowing

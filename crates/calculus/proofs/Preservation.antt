@@ -13,8 +13,8 @@ use Rattle.calculus.specs.Typing.{HasType, t-unit, t-lam, t-pair, t-prot
 use Rattle.calculus.proofs.Sides.{choose-both}
 use Rattle.calculus.proofs.Raising.{raise-fits}
 use Rattle.calculus.proofs.Inferred.{Inferred, i-var, i-unit, i-lam, i-pair, i-inj, i-app, i-proj, i-case, i-protect, i-mu}
-use Rattle.calculus.proofs.SecureTyping.{sc-empty, side-secure, table-parts, typed-secure}
-use Rattle.calculus.proofs.Soundness.{subsumption, inj-typed, infer-sound}
+use Rattle.calculus.proofs.SecureTyping.{sc-empty, sc-extend, side-secure, table-parts, typed-secure}
+use Rattle.calculus.proofs.Soundness.{subsumption, inj-typed, branches-typed, infer-sound}
 use Rattle.calculus.proofs.Completeness.{n-empty, typed-inferred, infer-complete}
 use Rattle.calculus.proofs.Substitution.{substitution}
 use Rattle.calculus.proofs.TypedContexts.{closed-typed, bound-typed, filled}
@@ -41,7 +41,7 @@ module _ {S : Security} {tab : ℕ → Ty} (L : Laws S) (T : Table S tab) where
   raised-typed m g x (i-inj {k = k} h e q r) = inj-typed L T (L .raise-secure k m h g) e (closed-typed L T q) r
   raised-typed m g x (i-app q r s y) = absurd (false≢true x)
   raised-typed m g x (i-proj q y) = absurd (false≢true x)
-  raised-typed m g x (i-case q y r s r′ s′) = absurd (false≢true x)
+  raised-typed m g x (i-case q y r r′ s) = absurd (false≢true x)
   raised-typed m g x (i-protect h q) = absurd (false≢true x)
   raised-typed m g x (i-mu e y h q s) = absurd (false≢true x)
 
@@ -51,10 +51,11 @@ module _ {S : Security} {tab : ℕ → Ty} (L : Laws S) (T : Table S tab) where
       protected w h m (substitution (subsumption (closed-typed L T r) s (T .secure i)) [] (bound-typed L T (tab i) (T .secure i) q))
   contraction (c-proj {d = d} {w = w} x y g) (i-proj (i-pair h q r f) m) =
       protected w h m (choose-both (HasType S tab []) d (closed-typed L T q) (closed-typed L T r))
-  contraction (c-case {d = d} {i = i} {j = j} {w = w} x g) (i-case (i-inj h e q z) m p s p′ s′) =
+  contraction (c-case {d = d} {i = i} {j = j} {w = w} x g) (i-case (i-inj h e q z) m p p′ r) =
       let y = table-parts T i e in
-      protected w h m (branch-typed d (subsumption (closed-typed L T q) z (side-secure d y))
-      (subsumption (bound-typed L T _ (y .left) p) s (T .secure j)) (subsumption (bound-typed L T _ (y .right) p′) s′ (T .secure j)))
+      let x = branches-typed L T j (sc-extend (y .left) sc-empty) (sc-extend (y .right) sc-empty)
+      (bound-typed L T _ (y .left) p) (bound-typed L T _ (y .right) p′) r in
+      protected w h m (branch-typed d (subsumption (closed-typed L T q) z (side-secure d y)) (x .1) (x .2))
   contraction (c-mu {i = i} x) (i-mu y m a p s) =
       let q = subsumption (bound-typed L T (tab i) (T .secure i) p) s (T .secure i) in
       rw (ap top (sym x ∙ y)) (substitution (unrolled-typed L T i y m a (t-mu y m a q)) [] q)

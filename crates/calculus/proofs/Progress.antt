@@ -45,7 +45,7 @@ canonical-forms f x (i-pair h p q g) = refl
 canonical-forms f x (i-inj h e p s) = refl
 canonical-forms f x (i-app p q s m) = absurd (false≢true x)
 canonical-forms f x (i-proj p m) = absurd (false≢true x)
-canonical-forms f x (i-case p m q s q′ s′) = absurd (false≢true x)
+canonical-forms f x (i-case p m q q′ r) = absurd (false≢true x)
 canonical-forms f x (i-protect h p) = absurd (false≢true x)
 canonical-forms f x (i-mu e m h p s) = absurd (false≢true x)
 
@@ -56,14 +56,14 @@ module _ {S : Security} {tab : ℕ → Ty} where
   denied-untyped : {e : Term} {t : Ty} → Denied S e → Inferred S tab [] e t → ⊥
   denied-untyped (denied-app x g) (i-app (i-lam h p f) q s m) = false≢true (sym g ∙ m)
   denied-untyped (denied-proj x y g) (i-proj (i-pair h p q f) m) = false≢true (sym g ∙ m)
-  denied-untyped (denied-case x g) (i-case (i-inj h e p z) m q s q′ s′) = false≢true (sym g ∙ m)
+  denied-untyped (denied-case x g) (i-case (i-inj h e p z) m q q′ r) = false≢true (sym g ∙ m)
 
   wrong-untyped : {e : Term} {t : Ty} → Wrong tab e → Inferred S tab [] e t → ⊥
   unfolding lookup
   wrong-untyped wrong-var (i-var {t = t} h) = Option·none-ne-some t h
   wrong-untyped (wrong-app x y g) (i-app p q s m) = false≢true (sym g ∙ canonical-forms function x p)
   wrong-untyped (wrong-proj x g) (i-proj p m) = false≢true (sym g ∙ canonical-forms product x p)
-  wrong-untyped (wrong-case x g) (i-case p m q s q′ s′) = false≢true (sym g ∙ canonical-forms sum x p)
+  wrong-untyped (wrong-case x g) (i-case p m q q′ r) = false≢true (sym g ∙ canonical-forms sum x p)
   wrong-untyped (wrong-mu g) (i-mu e m h p s) = Option·none-ne-some _ (sym g ∙ ap (parts function) e)
 
   module _ (L : Laws S) (T : Table S tab) where

@@ -13,6 +13,12 @@ module _ {G : Groups} (X : Lattice G) where
       let n′ = X .self-right m n q in
       X .least g m _ (X .trans g h _ p (X .upper-left h n h′ n′)) (X .trans m n _ q (X .upper-right h n h′ n′))
 
+  meet-mono : (g h m n : ℕ) → So (G .leq g h) → So (G .leq m n) → So (G .leq (G .meet g m) (G .meet h n))
+  meet-mono g h m n p q =
+      let g′ = X .self-left g h p in
+      let m′ = X .self-left m n q in
+      X .greatest h n _ (X .trans _ g h (X .lower-left g m g′ m′) p) (X .trans _ m n (X .lower-right g m g′ m′) q)
+
   -- (g ⊔ m) ⊔ n ⊑ (g ⊔ n) ⊔ m
   join-swap : (g m n : ℕ) → So (G .leq g g) → So (G .leq m m) → So (G .leq n n) → So (G .leq (G .join (G .join g m) n) (G .join (G .join g n) m))
   join-swap g m n p q s =
@@ -36,6 +42,14 @@ module _ {G : Groups} (X : Lattice G) where
     le-refl = λ k h. both (X .self-right _ _ h) (X .self-left _ _ h);
     le-trans = λ k l m p q. both (X .trans _ _ _ (r-le k l p) (r-le l m q)) (X .trans _ _ _ (ir-le k l p) (ir-le l m q));
     le-antisym = λ k l p q i. record { r = X .antisym _ _ (r-le k l p) (r-le l k q) i; ir = X .antisym _ _ (ir-le k l p) (ir-le l k q) i };
+    join-left = λ k l h g. both (X .upper-left _ _ (X .self-right _ _ h) (X .self-right _ _ g)) (X .upper-left _ _ (X .self-left _ _ h) (X .self-left _ _ g));
+    join-right = λ k l h g. both (X .upper-right _ _ (X .self-right _ _ h) (X .self-right _ _ g)) (X .upper-right _ _ (X .self-left _ _ h) (X .self-left _ _ g));
+    join-least = λ k l m p q. both (X .least _ _ _ (r-le k m p) (r-le l m q)) (X .least _ _ _ (ir-le k m p) (ir-le l m q));
+    join-secure = λ k l h g. join-mono _ _ _ _ h g;
+    meet-left = λ k l h g. both (X .lower-left _ _ (X .self-right _ _ h) (X .self-right _ _ g)) (X .lower-left _ _ (X .self-left _ _ h) (X .self-left _ _ g));
+    meet-right = λ k l h g. both (X .lower-right _ _ (X .self-right _ _ h) (X .self-right _ _ g)) (X .lower-right _ _ (X .self-left _ _ h) (X .self-left _ _ g));
+    meet-greatest = λ k l m p q. both (X .greatest _ _ _ (r-le m k p) (r-le m l q)) (X .greatest _ _ _ (ir-le m k p) (ir-le m l q));
+    meet-secure = λ k l h g. meet-mono _ _ _ _ h g;
     leI-refl = λ m h. X .in-table m h;
     raise-mono = λ k l m n p q. both (join-mono _ _ _ _ (r-le k l p) q) (join-mono _ _ _ _ (ir-le k l p) q);
     raise-secure = λ k m h g. join-mono _ _ _ _ h (X .in-table m g);

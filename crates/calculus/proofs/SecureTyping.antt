@@ -71,6 +71,7 @@ module _ {S : Security} {tab : ℕ → Ty} (L : Laws S) (T : Table S tab) where
   typed-secure C (t-app {w = w} p q m) = let x = secure-parts S _ _ _ _ (typed-secure C p) in read-secure _ w _ (x .own) m (x .right)
   typed-secure C (t-proj {d = d} {w = w} p m) =
       let x = secure-parts S _ _ _ _ (typed-secure C p) in read-secure _ w _ (x .own) m (side-secure d x)
-  typed-secure C (t-case {w = w} {i = i} p m q q′) = let x = secure-parts S _ _ _ _ (typed-secure C p) in read-secure _ w _ (x .own) m (T .secure i)
+  typed-secure C (t-case {w = w} p m r q q′) =
+      let x = secure-parts S _ _ _ _ (typed-secure C p) in read-secure _ w _ (x .own) m (typed-secure (sc-extend (x .left) C) q)
   typed-secure C (t-protect h p) = raise-secure L _ _ (typed-secure C p) h
   typed-secure C (t-mu {i = i} e m h p) = T .secure i

@@ -36,6 +36,6 @@ module _ {S : Security} {tab : ℕ → Ty} {v : Term} {s : Ty} (hv : HasType S t
   substitution Δ (t-inj h e p) = t-inj h e (substitution Δ p)
   substitution Δ (t-app p q m) = t-app (substitution Δ p) (substitution Δ q) m
   substitution Δ (t-proj p m) = t-proj (substitution Δ p) m
-  substitution Δ (t-case {s = a} {t = b} p m q q′) = t-case (substitution Δ p) m (substitution (a ∷ Δ) q) (substitution (b ∷ Δ) q′)
+  substitution Δ (t-case {s = a} {t = b} p m r q q′) = t-case (substitution Δ p) m r (substitution (a ∷ Δ) q) (substitution (b ∷ Δ) q′)
   substitution Δ (t-protect h p) = t-protect h (substitution Δ p)
   substitution Δ (t-mu {i = i} e m h p) = t-mu e m h (substitution (tab i ∷ Δ) p)

@@ -38,6 +38,6 @@ module _ {S : Security} {tab : ℕ → Ty} (L : Laws S) (T : Table S tab) where
   filled (pair-left k E b) (i-pair h p q f) = framed (λ e′ r. t-pair h r (closed-typed q) f) (filled E p)
   filled (pair-right k v g E) (i-pair h p q f) = framed (λ e′ r. t-pair h (closed-typed p) r f) (filled E q)
   filled (in-protect m E) (i-protect h p) = framed (λ e′ q. t-protect h q) (filled E p)
-  filled (in-case w i E a b) (i-case p m q s q′ s′) =
+  filled (in-case w i E a b) (i-case p m q q′ y) =
       let x = secure-parts S _ _ _ _ (typed-secure L T sc-empty (closed-typed p)) in
-      framed (λ e′ h. case-typed L T h m (bound-typed _ (x .left) q) s (bound-typed _ (x .right) q′) s′) (filled E p)
+      framed (λ e′ h. case-typed L T sc-empty h m (bound-typed _ (x .left) q) (bound-typed _ (x .right) q′) y) (filled E p)

@@ -23,6 +23,6 @@ weakening Δ (t-pair h p q f) = t-pair h (weakening Δ p) (weakening Δ q) f
 weakening Δ (t-inj h e p) = t-inj h e (weakening Δ p)
 weakening Δ (t-app p q m) = t-app (weakening Δ p) (weakening Δ q) m
 weakening Δ (t-proj p m) = t-proj (weakening Δ p) m
-weakening Δ (t-case p m q q′) = t-case (weakening Δ p) m (weakening Δ q) (weakening Δ q′)
+weakening Δ (t-case p m r q q′) = t-case (weakening Δ p) m r (weakening Δ q) (weakening Δ q′)
 weakening Δ (t-protect h p) = t-protect h (weakening Δ p)
 weakening Δ (t-mu e m h p) = t-mu e m h (weakening Δ p)

@@ -10,6 +10,8 @@ abbrev pub called-as : (Property → Reader → Reader) → Security → Securit
 called-as caller S = record {
   le = S .le;
   leI = S .leI;
+  join = S .join;
+  meet = S .meet;
   raise = S .raise;
   permits = S .permits;
   influence = S .influence;

@@ -11,6 +11,8 @@ pub record Groups : Type 0 where
   pub leq : ℕ → ℕ → Bool
   -- g ⊔ h
   pub join : ℕ → ℕ → ℕ
+  -- g ⊓ h
+  pub meet : ℕ → ℕ → ℕ
 
 -- What questions 2 to 7 make of a groups table: a lattice with 0 at the bottom, in which a group is what is ⊑ itself.
 pub record Lattice (G : Groups) : Type 0 where
@@ -21,6 +23,9 @@ pub record Lattice (G : Groups) : Type 0 where
   pub upper-left : (g h : ℕ) → So (G .leq g g) → So (G .leq h h) → So (G .leq g (G .join g h))
   pub upper-right : (g h : ℕ) → So (G .leq g g) → So (G .leq h h) → So (G .leq h (G .join g h))
   pub least : (g h k : ℕ) → So (G .leq g k) → So (G .leq h k) → So (G .leq (G .join g h) k)
+  pub lower-left : (g h : ℕ) → So (G .leq g g) → So (G .leq h h) → So (G .leq (G .meet g h) g)
+  pub lower-right : (g h : ℕ) → So (G .leq g g) → So (G .leq h h) → So (G .leq (G .meet g h) h)
+  pub greatest : (g h k : ℕ) → So (G .leq k g) → So (G .leq k h) → So (G .leq k (G .meet g h))
   pub bottom : (g : ℕ) → So (G .leq g g) → So (G .leq zero g)
   pub in-table : (g : ℕ) → So (G .group g) → So (G .leq g g)
   pub groups-only : (g h : ℕ) → So (G .leq g h) → So (G .group g)
@@ -30,6 +35,8 @@ abbrev pub properties : Groups → Security
 properties G = record {
   le = λ k l. G .leq (k .r) (l .r) && G .leq (k .ir) (l .ir);
   leI = λ m n. G .leq m n;
+  join = λ k l. record { r = G .join (k .r) (l .r); ir = G .join (k .ir) (l .ir) };
+  meet = λ k l. record { r = G .meet (k .r) (l .r); ir = G .meet (k .ir) (l .ir) };
   raise = λ k m. record { r = G .join (k .r) m; ir = G .join (k .ir) m };
   permits = λ k w. G .leq (k .r) w;
   influence = λ k w. k .ir;

@@ -2,6 +2,7 @@ pub mod Security
 pub mod Groups
 pub mod Types
 pub mod Subtyping
+pub mod Common
 pub mod Terms
 pub mod Reduction
 pub mod Stuck

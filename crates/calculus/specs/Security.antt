@@ -23,6 +23,9 @@ pub record Security : Type 0 where
   pub le : Property → Property → Bool
   -- ir ⊑ ir′
   pub leI : Indirect → Indirect → Bool
+  -- κ ⊔ κ′ and κ ⊓ κ′: the least property at or above both, and the greatest at or below both
+  pub join : Property → Property → Property
+  pub meet : Property → Property → Property
   -- κ • ir
   pub raise : Property → Indirect → Property
   -- r ⊑ r′: may a destructor labelled r′ read an object with this property?
@@ -42,6 +45,14 @@ pub record Laws (S : Security) : Type 0 where
   pub le-refl : (k : Property) → So (S .secure k) → So (S .le k k)
   pub le-trans : (k l m : Property) → So (S .le k l) → So (S .le l m) → So (S .le k m)
   pub le-antisym : (k l : Property) → So (S .le k l) → So (S .le l k) → k ≡ l
+  pub join-left : (k l : Property) → So (S .secure k) → So (S .secure l) → So (S .le k (S .join k l))
+  pub join-right : (k l : Property) → So (S .secure k) → So (S .secure l) → So (S .le l (S .join k l))
+  pub join-least : (k l m : Property) → So (S .le k m) → So (S .le l m) → So (S .le (S .join k l) m)
+  pub join-secure : (k l : Property) → So (S .secure k) → So (S .secure l) → So (S .secure (S .join k l))
+  pub meet-left : (k l : Property) → So (S .secure k) → So (S .secure l) → So (S .le (S .meet k l) k)
+  pub meet-right : (k l : Property) → So (S .secure k) → So (S .secure l) → So (S .le (S .meet k l) l)
+  pub meet-greatest : (k l m : Property) → So (S .le m k) → So (S .le m l) → So (S .le m (S .meet k l))
+  pub meet-secure : (k l : Property) → So (S .secure k) → So (S .secure l) → So (S .secure (S .meet k l))
   pub leI-refl : (m : Indirect) → So (S .secureI m) → So (S .leI m m)
   pub raise-mono : (k l : Property) (m n : Indirect) → So (S .le k l) → So (S .leI m n) → So (S .le (S .raise k m) (S .raise l n))
   pub raise-secure : (k : Property) (m : Indirect) → So (S .secure k) → So (S .secureI m) → So (S .secure (S .raise k m))

@@ -63,6 +63,10 @@ abbrev pub when : {A : Type 0} → Bool → A → Option A
 when true a = some a
 when false a = none
 
+abbrev pub _>>=_ : {A B : Type 0} → Option A → (A → Option B) → Option B
+_>>=_ none f = none
+_>>=_ (some a) f = f a
+
 -- the parts of a type of the wanted form
 abbrev pub parts : Former → Ty → Option Parts
 parts f (one k) = none

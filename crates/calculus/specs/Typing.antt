@@ -1,12 +1,14 @@
 -- Table 3 with document 01's departures and limits: as a relation with subsumption, and as a function.
 use mathlib.Core.Path.{_≡_}
-use mathlib.Core.Bool.{Bool, _&&_, So}
+use mathlib.Core.Bool.{Bool, false, cond, _&&_, So}
 use mathlib.Core.List.{List, [], _∷_}
 use mathlib.Core.Option.{Option, none, some}
 use Prim.Native.Nat.{ℕ, suc, zero}
+use lib.Dec.{eqb}
 use Rattle.calculus.specs.Security.{Property, Reader, Indirect, Security}
-use Rattle.calculus.specs.Types.{Former, sum, product, function, Ty, one, node, top, raiseT, secureT, fits, when, Parts, parts}
+use Rattle.calculus.specs.Types.{Former, sum, product, function, Ty, one, node, top, raiseT, secureT, fits, when, _>>=_, Parts, parts}
 use Rattle.calculus.specs.Subtyping.{Subtype, subtype, below}
+use Rattle.calculus.specs.Common.{common}
 use Rattle.calculus.specs.Terms.{Side, choose, Term, var, unit, lam, pair, inj, app, proj, case, protect, mu}
 
 -- the type of variable n in a context, whose nearest binder stands first
@@ -14,6 +16,18 @@ unfoldable pub lookup : List Ty → ℕ → Option Ty
 lookup [] n = none
 lookup (t ∷ Γ) zero = some t
 lookup (t ∷ Γ) (suc n) = lookup Γ n
+
+-- Item 3: "A case whose number is 65,535 takes the lowest type at or above both branches."
+abbrev pub own-type : ℕ
+own-type = 65535
+
+abbrev pub finds-own : ℕ → Bool
+finds-own i = eqb i own-type
+
+-- The types that a case with number i may give its branches: the named one, or any. [Sub] leads up to it.
+pub data Result (tab : ℕ → Ty) : ℕ → Ty → Type 0 where
+  as-named : {i : ℕ} → finds-own i ≡ false → Result tab i (tab i)
+  as-found : {i : ℕ} {t : Ty} → So (finds-own i) → Result tab i t
 
 -- Table 3, Γ ⊢ e : s. `tab i` is the type with index i. Types are secure types, so [Sub] leads to no other.
 -- Question 24 is the last premise of [Lam] and [Pair], and questions 21 and 23 are premises of [Rec].
@@ -33,9 +47,9 @@ pub data HasType (S : Security) (tab : ℕ → Ty) : List Ty → Term → Ty →
   t-proj : {Γ : List Ty} {d : Side} {k : Property} {w : Reader} {e : Term} {s t : Ty} → HasType S tab Γ e (node product k s t)
       → So (S .permits k w) → HasType S tab Γ (proj d w e) (raiseT S (choose d s t) (S .influence k w))
   -- "Both branches are at or below the result type s, and the case has s • ir of the tested operand."
-  t-case : {Γ : List Ty} {k : Property} {w : Reader} {i : ℕ} {e a b : Term} {s t : Ty} → HasType S tab Γ e (node sum k s t)
-      → So (S .permits k w) → HasType S tab (s ∷ Γ) a (tab i) → HasType S tab (t ∷ Γ) b (tab i)
-      → HasType S tab Γ (case w i e a b) (raiseT S (tab i) (S .influence k w))
+  t-case : {Γ : List Ty} {k : Property} {w : Reader} {i : ℕ} {e a b : Term} {s t u : Ty} → HasType S tab Γ e (node sum k s t)
+      → So (S .permits k w) → Result tab i u → HasType S tab (s ∷ Γ) a u → HasType S tab (t ∷ Γ) b u
+      → HasType S tab Γ (case w i e a b) (raiseT S u (S .influence k w))
   t-protect : {Γ : List Ty} {m : Indirect} {e : Term} {t : Ty} → So (S .secureI m) → HasType S tab Γ e t
       → HasType S tab Γ (protect m e) (raiseT S t m)
   -- "21 is put to the recursion before 23, with r of its type against the written group."
@@ -49,9 +63,9 @@ pub record Table (S : Security) (tab : ℕ → Ty) : Type 0 where
   pub small : (i : ℕ) → So (fits (tab i))
   pub left : {f : Former} {k : Property} {s t : Ty} (i : ℕ) → tab i ≡ node f k s t → tab (suc i) ≡ s
 
-abbrev pub _>>=_ : {A B : Type 0} → Option A → (A → Option B) → Option B
-_>>=_ none f = none
-_>>=_ (some a) f = f a
+-- the result type of a case with number i whose branches have these types
+unfoldable pub result : Security → (ℕ → Ty) → ℕ → Ty → Ty → Option Ty
+result S tab i t u = cond (finds-own i) (common S below t u) (when (subtype S below t (tab i) && subtype S below u (tab i)) (tab i))
 
 -- questions 21 and 23 of a recursion labelled w, of a type with these parts
 abbrev pub recurs : Security → Parts → Reader → Bool
@@ -86,7 +100,8 @@ infer S tab Γ (case w i e a b) = do
   p ← parts sum s
   t ← infer S tab (p .lhs ∷ Γ) a
   u ← infer S tab (p .rhs ∷ Γ) b
-  when (S .permits (p .own) w && (subtype S below t (tab i) && subtype S below u (tab i))) (raiseT S (tab i) (S .influence (p .own) w))
+  r ← result S tab i t u
+  when (S .permits (p .own) w) (raiseT S r (S .influence (p .own) w))
 infer S tab Γ (protect m e) = do
   t ← infer S tab Γ e
   when (S .secureI m) (raiseT S t m)
