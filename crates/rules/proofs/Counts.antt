@@ -46,7 +46,7 @@ zip-all P [] (e ∷ es) h = tt
 zip-all P (m ∷ ms) [] h = tt
 zip-all P (m ∷ ms) (e ∷ es) h = (h .0 m, zip-all P ms es (h .1))
 
-module _ (deeper bound : ℕ → ℕ) where
+module _ (wide : ℕ → ℕ → ℕ) (deeper bound : ℕ → ℕ) where
   -- the operands' numbers
   abbrev pub under : ℕ → Term → List ℕ
   under n (var m) = []
@@ -56,7 +56,7 @@ module _ (deeper bound : ℕ → ℕ) where
   under n (inj d k i e) = deeper n ∷ []
   under n (app w f a) = deeper n ∷ deeper n ∷ []
   under n (proj d w e) = deeper n ∷ []
-  under n (case w i e a b) = deeper n ∷ bound n ∷ bound n ∷ []
+  under n (case w i e a b) = deeper (wide i n) ∷ bound (wide i n) ∷ bound (wide i n) ∷ []
   under n (protect m e) = deeper n ∷ []
   under n (mu w i e) = bound n ∷ []
 
@@ -85,25 +85,25 @@ module _ (deeper bound : ℕ → ℕ) where
   abbrev pub counted : Shape (ℕ × Term)
   counted = record { operands = numbered; size = λ p. size (p .1); size-is = numbered-size-is; induction = numbered-induction }
 
-  pub counts-is : (n : ℕ) (e : Term) → counts deeper bound n e ≡ n ∷ joined (λ (q : ℕ × Term). counts deeper bound (q .0) (q .1)) (numbered (n, e))
+  pub counts-is : (n : ℕ) (e : Term) → counts wide deeper bound n e ≡ n ∷ joined (λ (q : ℕ × Term). counts wide deeper bound (q .0) (q .1)) (numbered (n, e))
   unfolding counts
   counts-is n (var m) = refl
   counts-is n (unit k) = refl
-  counts-is n (lam k i e) = rw (append-nil (counts deeper bound (bound n) e))
-  counts-is n (pair k a b) = rw (append-nil (counts deeper bound (deeper n) b))
-  counts-is n (inj d k i e) = rw (append-nil (counts deeper bound (deeper n) e))
-  counts-is n (app w f a) = rw (append-nil (counts deeper bound (deeper n) a))
-  counts-is n (proj d w e) = rw (append-nil (counts deeper bound (deeper n) e))
-  counts-is n (case w i e a b) = rw (append-nil (counts deeper bound (bound n) b))
-  counts-is n (protect m e) = rw (append-nil (counts deeper bound (deeper n) e))
-  counts-is n (mu w i e) = rw (append-nil (counts deeper bound (bound n) e))
+  counts-is n (lam k i e) = rw (append-nil (counts wide deeper bound (bound n) e))
+  counts-is n (pair k a b) = rw (append-nil (counts wide deeper bound (deeper n) b))
+  counts-is n (inj d k i e) = rw (append-nil (counts wide deeper bound (deeper n) e))
+  counts-is n (app w f a) = rw (append-nil (counts wide deeper bound (deeper n) a))
+  counts-is n (proj d w e) = rw (append-nil (counts wide deeper bound (deeper n) e))
+  counts-is n (case w i e a b) = rw (append-nil (counts wide deeper bound (bound (wide i n)) b))
+  counts-is n (protect m e) = rw (append-nil (counts wide deeper bound (deeper n) e))
+  counts-is n (mu w i e) = rw (append-nil (counts wide deeper bound (bound n) e))
 
   abbrev pub count-code : Code counted
   count-code =
       record {
         width = 1;
         head = λ p. p .0 ∷ [];
-        encode = λ p. counts deeper bound (p .0) (p .1);
+        encode = λ p. counts wide deeper bound (p .0) (p .1);
         head-length = λ p. refl;
         encode-is = λ p. counts-is (p .0) (p .1);
       }
@@ -123,13 +123,13 @@ module _ (deeper bound : ℕ → ℕ) where
         encode-is = numbered-encode-is;
       }
 
-  pub counts-length : (n : ℕ) (e : Term) → length (counts deeper bound n e) ≡ size e
+  pub counts-length : (n : ℕ) (e : Term) → length (counts wide deeper bound n e) ≡ size e
   counts-length n e = omega (arith, encode-length count-code (n, e))
 
   -- the number and the record of a node
-  pub count-at : {n m : ℕ} {e c : Term} {j : ℕ} → At counted (n, e) j (m, c) → getD (counts deeper bound n e) j 0 ≡ m
+  pub count-at : {n m : ℕ} {e c : Term} {j : ℕ} → At counted (n, e) j (m, c) → getD (counts wide deeper bound n e) j 0 ≡ m
   count-at {n} {m} {e} {c} {j} a =
-      let s = counts deeper bound n e in
+      let s = counts wide deeper bound n e in
       let z : j ≡ 1 * (0 + j) = omega arith in
       ap (λ k. byte s k) z ∙ sym (record-first 1 s (0 + j) (omega arith))
       ∙ ap (λ b. byte b 0) (at-record count-code a s 0 [] (alone count-code (n, e)))
@@ -142,12 +142,12 @@ module _ (deeper bound : ℕ → ℕ) where
   -- What holds of the number and the record of every node holds of every record with its number, and back.
   module _ (R : ℕ → Bytes → Type 0) (n : ℕ) (e : Term) where
     pub to-counted-records : Every counted (λ p. R (p .0) (term-head (p .1))) (n, e)
-        → (j : ℕ) → j < size e → R (getD (counts deeper bound n e) j 0) (record-at script-width (encode e) j)
+        → (j : ℕ) → j < size e → R (getD (counts wide deeper bound n e) j 0) (record-at script-width (encode e) j)
     to-counted-records h j l =
         let c = node-at counted (n, e) j l in
         rw (count-at (c .1), head-at (c .1)) (h .at j (c .0) (c .1))
 
-    pub to-counted-nodes : ((j : ℕ) → j < size e → R (getD (counts deeper bound n e) j 0) (record-at script-width (encode e) j))
+    pub to-counted-nodes : ((j : ℕ) → j < size e → R (getD (counts wide deeper bound n e) j 0) (record-at script-width (encode e) j))
         → Every counted (λ p. R (p .0) (term-head (p .1))) (n, e)
     to-counted-nodes h =
         record { at = λ j c a. rw (count-at a, head-at a) at (h j (omega (arith, at-size counted a, term-shape .size-is (c .1)))) }

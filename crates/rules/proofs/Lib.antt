@@ -26,4 +26,5 @@ pub mod SecureTables
 pub mod Cases
 pub mod CallExamples
 pub mod WordExamples
+pub mod FoundExamples
 pub mod Examples

@@ -1,11 +1,12 @@
 -- Questions 15 and 16 of a node, in the words of the tree: its labels are groups with ir ⊑ r, and the types that it names exist.
 use mathlib.Core.Path.{_≡_, refl, sym, subst}
-use mathlib.Core.Bool.{Bool, true, So, _&&_, and-eq-true-iff}
+use mathlib.Core.Bool.{Bool, true, So, _&&_, and-eq-true-iff, _||_}
 use Prim.Native.Nat.{ℕ, _+_, _*_, _/_, _%_, _<_}
 use borrow.Author.Tests.{ltb-true, lt-ltb, eqb-true, eq-eqb}
 use lib.Dec.{eqb, ltb}
 use Rattle.calculus.specs.Security.{Property}
 use Rattle.calculus.specs.Terms.{first, second, Term, var, unit, lam, pair, inj, app, proj, case, protect, mu}
+use Rattle.calculus.specs.Typing.{finds-own}
 use Rattle.rules.specs.Answer.{Bytes}
 use Rattle.rules.specs.Groups.{rows, leq}
 use Rattle.rules.specs.Types.{type-count, type-kind}
@@ -86,7 +87,7 @@ module _ (t : Bytes) where
   Named (inj d k i e) = Of-kind 1 i
   Named (app w f a) = Unit {0}
   Named (proj d w e) = Unit {0}
-  Named (case w i e a b) = i < type-count t
+  Named (case w i e a b) = (finds-own i || ltb i (type-count t)) ≡ true
   Named (protect m e) = Unit {0}
   Named (mu w i e) = Of-kind 3 i
 
@@ -108,6 +109,15 @@ module _ (t : Bytes) where
 
   abbrev is-function : ℕ → Bool
   is-function n = ltb n (type-count t) && eqb (type-kind t n) 3
+
+  abbrev found-or-exists : ℕ → Bool
+  found-or-exists n = (finds-own n || ltb n (type-count t)) && true
+
+  finding : (i : ℕ) → Stored found-or-exists i → (finds-own i || ltb i (type-count t)) ≡ true
+  finding i h = and-eq-true-iff (finds-own i || ltb i (type-count t)) true .0 (stored found-or-exists i h) .0
+
+  store-finding : (i : ℕ) → (finds-own i || ltb i (type-count t)) ≡ true → Stored found-or-exists i
+  store-finding i h = store found-or-exists i (and-eq-true-iff (finds-own i || ltb i (type-count t)) true .1 (h, refl))
 
   existing : (i : ℕ) → Stored exists i → i < type-count t
   existing i h = ltb-true i (type-count t) (and-eq-true-iff _ _ .0 (stored exists i h) .0)
@@ -133,7 +143,7 @@ module _ (t : Bytes) where
   named (app w f a) h = tt
   named (proj first w e) h = tt
   named (proj second w e) h = tt
-  named (case w i e a b) h = existing i h
+  named (case w i e a b) h = finding i h
   named (protect m e) h = tt
   named (mu w i e) h = a-function i h
 
@@ -158,6 +168,6 @@ module _ (t : Bytes) where
   named-ok16 (app w f a) h = refl
   named-ok16 (proj first w e) h = refl
   named-ok16 (proj second w e) h = refl
-  named-ok16 (case w i e a b) h = store-index i h
+  named-ok16 (case w i e a b) h = store-finding i h
   named-ok16 (protect m e) h = refl
   named-ok16 (mu w i e) h = store-function i h

@@ -7,7 +7,7 @@ use native.Mathlib.Omega.{arith}
 use borrow.Author.Tests.{ltb-true, lt-ltb}
 use Rattle.calculus.specs.Terms.{first, second, Term, var, unit, lam, pair, inj, app, proj, case, protect, mu}
 use Rattle.rules.specs.Answer.{Bytes, accepted}
-use Rattle.rules.specs.Script.{encode, records, term, binders, ok19, q19}
+use Rattle.rules.specs.Script.{unwidened, encode, records, term, binders, ok19, q19}
 use Rattle.rules.proofs.Search.{each-all, each-accepted}
 use Rattle.rules.proofs.Nodes.{Every, every-here, every-below, every-node}
 use Rattle.rules.proofs.TermCode.{term-head, two-bytes}
@@ -33,7 +33,7 @@ abbrev Bound : ℕ → Bytes → Type 0
 Bound n h = ok19 (n ∷ []) h 0 ≡ true
 
 abbrev Bounds : ℕ → Term → Type 0
-Bounds n e = Every (counted stay up) (λ p. Bound (p .0) (term-head (p .1))) (n, e)
+Bounds n e = Every (counted unwidened stay up) (λ p. Bound (p .0) (term-head (p .1))) (n, e)
 
 bounds-scoped : (e : Term) (n : ℕ) → Bounds n e → Scoped n e
 unfolding ok19
@@ -68,7 +68,7 @@ scoped-bounds (mu w i e) n h = every-node refl (scoped-bounds e (suc n) h, tt)
 pub q19-scoped : (e : Term) → q19 (encode e) ≡ accepted tt → Scoped 0 e
 q19-scoped e q =
     bounds-scoped e 0
-    (to-counted-nodes stay up Bound 0 e
+    (to-counted-nodes unwidened stay up Bound 0 e
     (λ j l. ok19-record (encode e) j (binders e)
     ∙ ap (λ d. ok19 (binders d) (encode e) j) (sym (term-encode e))
     ∙ each-all 19 (records (encode e)) (ok19 (binders (term (encode e))) (encode e)) q j (omega (arith, records-encode e))))
@@ -77,4 +77,4 @@ pub q19-encode : (e : Term) → Scoped 0 e → q19 (encode e) ≡ accepted tt
 q19-encode e h =
     each-accepted 19 (records (encode e)) (ok19 (binders (term (encode e))) (encode e))
     (λ j l. ap (λ d. ok19 (binders d) (encode e) j) (term-encode e) ∙ sym (ok19-record (encode e) j (binders e))
-    ∙ to-counted-records stay up Bound 0 e (scoped-bounds e 0 h) j (omega (arith, records-encode e)))
+    ∙ to-counted-records unwidened stay up Bound 0 e (scoped-bounds e 0 h) j (omega (arith, records-encode e)))

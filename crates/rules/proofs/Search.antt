@@ -5,7 +5,7 @@ use mathlib.Core.Option.{Option, none, some}
 use Prim.Native.Nat.{ℕ, zero, suc, _+_, _≤_, _<_}
 use native.Mathlib.Omega.{arith}
 use native.Mathlib.Decide.{ℕ-discrete}
-use Rattle.rules.specs.Answer.{accepted, refused, first-from, all-below, is-none, refused-at, each}
+use Rattle.rules.specs.Answer.{accepted, refused, first-from, last-below, all-below, is-none, refused-at, each}
 
 pub from-none : (test : ℕ → Bool) (n i : ℕ) → ((k : ℕ) → i ≤ k → k < i + n → test k ≡ false) → first-from test n i ≡ none
 unfolding first-from
@@ -116,3 +116,30 @@ found test (suc n) i j e = here (test i) refl (λ h. found test n (suc i) j h)
         let q : i ≡ j = some-inj (rw (p, first-from) at e) in
         record { passes = ap test (sym q) ∙ p; low = omega arith; high = omega arith; least = λ k a b. absurd (omega arith) }
     here false p ih = later p (ih (rw (p, first-from) at e))
+
+-- The last number that passes: it passes, stands in the range, and none after it passes.
+pub record Last (test : ℕ → Bool) (n j : ℕ) : Type 0 where
+  pub passes : test j ≡ true
+  pub high : j < n
+  pub greatest : (k : ℕ) → k < n → test k ≡ true → k ≤ j
+
+-- where some number passes, there is a last one
+pub last : {P : Type 0} (test : ℕ → Bool) (n i : ℕ) → i < n → test i ≡ true → ((j : ℕ) → last-below test n ≡ some j → Last test n j → P) → P
+unfolding last-below
+last test zero i l e κ = absurd (omega arith)
+last {P} test (suc n) i l e κ = here (test n) refl (λ a k. last test n i a e k)
+  where
+    here : (b : Bool) → test n ≡ b → (i < n → ((j : ℕ) → last-below test n ≡ some j → Last test n j → P) → P) → P
+    here true p ih = κ n (rw (p, last-below)) (record { passes = p; high = omega arith; greatest = λ k a q. omega arith })
+    here false p ih = ih (inside (ℕ-discrete i n)) λ j q x. κ j (rw (p, last-below) q) (wider j x)
+      where
+        inside : Dec (i ≡ n) → i < n
+        inside (yes q) = absurd (false≢true (sym p ∙ (ap test (sym q) ∙ e)))
+        inside (no ne) = omega arith
+
+        wider : (j : ℕ) → Last test n j → Last test (suc n) j
+        wider j x = let h = x .high in record { passes = x .passes; high = omega arith; greatest = λ k a q. bounded k (ℕ-discrete k n) a q }
+          where
+            bounded : (k : ℕ) → Dec (k ≡ n) → k < suc n → test k ≡ true → k ≤ j
+            bounded k (yes r) a q = absurd (false≢true (sym p ∙ (ap test (sym r) ∙ q)))
+            bounded k (no ne) a q = x .greatest k (omega arith) q

@@ -45,6 +45,11 @@ first-from test (suc n) i = elim (test i) [ true ↦ some i | false ↦ first-fr
 abbrev pub first-below : (ℕ → Bool) → ℕ → Option ℕ
 first-below test n = first-from test n 0
 
+-- the last number below n that passes the test
+unfoldable pub last-below : (ℕ → Bool) → ℕ → Option ℕ
+last-below test zero = none
+last-below test (suc n) = elim (test n) [ true ↦ some n | false ↦ last-below test n ]
+
 abbrev pub is-none : {A : Type 0} → Option A → Bool
 is-none none = true
 is-none (some a) = false

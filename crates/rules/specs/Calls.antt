@@ -8,15 +8,16 @@ use lib.ListN.{length, drop, replicate}
 use Rattle.calculus.specs.Security.{Security}
 use Rattle.calculus.specs.Types.{Ty, sizeT}
 use Rattle.calculus.specs.Subtyping.{subtype}
+use Rattle.calculus.specs.Common.{common}
 use Rattle.calculus.specs.Terms.{Term, subst, raise-value, is-value}
 use Rattle.calculus.specs.Reduction.{step, operand-first, reading, apply, project, branch, unroll}
-use Rattle.rules.specs.Answer.{Bytes, Answer, accepted, refused, _>>=_, _>>_, ask, first-from}
+use Rattle.rules.specs.Answer.{Bytes, Answer, accepted, refused, _>>=_, _>>_, ask, first-from, last-below}
 use Rattle.rules.specs.Limits.{work-length, answer-length, sheet-width}
-use Rattle.rules.specs.Groups.{rows, join, ok3, ok4, ok5, ok6, ok7, q2, q3, q4, q5, q6, q7, readers}
+use Rattle.rules.specs.Groups.{rows, join, meet, ok3, ok4, ok5, ok6, ok7, q2, q3, q4, q5, q6, q7, readers}
 use Rattle.rules.specs.Types.{type-count, encode-type, type-at, ok9, ok10, ok11, ok12, q8, q9, q10, q11, q12}
 use Rattle.rules.specs.Comparison.{equal-types, Comparison, comparison}
 use Rattle.rules.specs.Script.{records, encode, term, size, depth, counts, term-end, ok14, ok15, ok16, ok18, ok19, q13, q14, q15, q16, q17, q18, q19}
-use Rattle.rules.specs.Typing.{typing}
+use Rattle.rules.specs.Typing.{of-typing, typing}
 use Rattle.rules.specs.Step.{End, at-value, moves, may-not, wrong-kind, too-big, end-number, end-count, step-in, exceeds}
 use Rattle.rules.specs.Run.{Ran, run}
 use Rattle.rules.specs.Sheet.{sheet}
@@ -56,7 +57,7 @@ q25 place index count = ask 25 place (ltb index count)
 
 -- "At or below, of two type indexes: 2 to 12, 25", whose answer document 02 makes same, below or neither.
 unfoldable pub comparing : Bytes → Bytes → ℕ → ℕ → Answer Comparison
-unfolding types-check subtype equal-types type-at join
+unfolding types-check subtype equal-types type-at join meet last-below common
 comparing g t i j = do
   types-check g t
   q25 0 i (type-count t)
@@ -89,7 +90,7 @@ checking-by S work answer g t s = do
   typing S (type-at t) [] 0 (term s)
 
 unfoldable pub checking : ℕ → ℕ → Bytes → Bytes → Bytes → Answer Ty
-unfolding script-check typing size sizeT subtype type-at term join
+unfolding script-check typing size sizeT subtype type-at term join meet last-below common
 checking work answer g t s = checking-by (readers g) work answer g t s
 
 -- "It then gives the type's record count,"
@@ -113,7 +114,7 @@ answer-after (refused q p) old = old
 -- typing (question 20 and on) the work buffer is left all zeros."
 abbrev pub work-after : Answer Ty → Bytes → Bytes
 work-after (accepted s) old = zeros (length old)
-work-after (refused q p) old = cond (leb 20 q) (zeros (length old)) old
+work-after (refused q p) old = cond (of-typing q) (zeros (length old)) old
 
 -- "Step and run: 2 to 19." A step, with the length of the written buffer.
 abbrev pub stepping-by : Security → Bytes → Bytes → Bytes → ℕ → Answer End
@@ -122,7 +123,7 @@ stepping-by S g t s room = do
   accepted (step-in S (type-at t) room (term s))
 
 unfoldable pub stepping : Bytes → Bytes → Bytes → ℕ → Answer End
-unfolding script-check step-in step operand-first reading apply project branch unroll subst raise-value exceeds size depth type-at term join
+unfolding script-check step-in step operand-first reading apply project branch unroll subst raise-value exceeds size depth type-at term join meet last-below common
 stepping g t s room = stepping-by (readers g) g t s room
 
 -- "A step reports its end and a record count, the script's own unless it moved."
@@ -153,7 +154,7 @@ running-by S g t s budget first scratch = do
   accepted (run S (type-at t) (min first scratch) budget (term s))
 
 unfoldable pub running : Bytes → Bytes → Bytes → ℕ → ℕ → ℕ → Answer Ran
-unfolding script-check run is-value step-in step operand-first reading apply project branch unroll subst raise-value exceeds size depth type-at term join
+unfolding script-check run is-value step-in step operand-first reading apply project branch unroll subst raise-value exceeds size depth type-at term join meet last-below common
 running g t s budget first scratch = running-by (readers g) g t s budget first scratch
 
 -- "A run reports end, steps made and record count."

@@ -6,7 +6,7 @@ use lib.Dec.{eqb, leb, ltb}
 use lib.ListN.{length}
 use Rattle.calculus.specs.Security.{Security}
 use Rattle.calculus.specs.Groups.{Groups, properties}
-use Rattle.rules.specs.Answer.{Bytes, byte, Answer, _>>_, ask, each, first-from, first-below, all-below, _⇒_}
+use Rattle.rules.specs.Answer.{Bytes, byte, Answer, _>>_, ask, each, first-from, first-below, last-below, all-below, _⇒_}
 use Rattle.rules.specs.Limits.{row-width, group-limit}
 
 -- "A groups table is 1 to 32 rows of 4 bytes, no header, each a little-endian word."
@@ -36,6 +36,15 @@ or-zero (some n) = n
 unfoldable pub join : Bytes → ℕ → ℕ → ℕ
 unfolding first-from
 join t g h = or-zero (first-below (common t g h) group-limit)
+
+-- is k ⊑ both?
+abbrev pub below-both : Bytes → ℕ → ℕ → ℕ → Bool
+below-both t g h k = leq t k g && leq t k h
+
+-- The meet g ⊓ h, for item 3's parameters: the highest-numbered group that is ⊑ both.
+unfoldable pub meet : Bytes → ℕ → ℕ → ℕ
+unfolding last-below
+meet t g h = or-zero (last-below (below-both t g h) group-limit)
 
 -- 2. Groups: whole rows, 1 to 32? (0)
 abbrev pub q2 : Bytes → Answer (Unit {0})
@@ -96,7 +105,7 @@ q7 t = ask 7 0 (ok7 t)
 
 -- a groups table as the calculus sees it
 abbrev pub groups-of : Bytes → Groups
-groups-of t = record { group = λ g. ltb g (rows t); leq = leq t; join = join t }
+groups-of t = record { group = λ g. ltb g (rows t); leq = leq t; join = join t; meet = meet t }
 
 -- readers and indirect readers over a groups table
 abbrev pub readers : Bytes → Security

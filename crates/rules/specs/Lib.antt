@@ -18,3 +18,4 @@ pub mod Cases
 pub mod Examples
 pub mod CallExamples
 pub mod WordExamples
+pub mod FoundExamples

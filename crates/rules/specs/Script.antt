@@ -1,5 +1,5 @@
 -- Document 01, 'Scripts', and questions 13 to 19.
-use mathlib.Core.Bool.{Bool, true, false, not, _&&_, _||_}
+use mathlib.Core.Bool.{Bool, true, false, cond, not, _&&_, _||_}
 use mathlib.Core.List.{List, [], _∷_, _++_}
 use mathlib.Core.Option.{Option, none, some}
 use Prim.Native.Nat.{ℕ, suc, _+_, _*_, _-_, _/_, _%_, max}
@@ -7,6 +7,7 @@ use lib.Dec.{eqb, leb, ltb}
 use lib.ListN.{length, getD, take, drop}
 use Rattle.calculus.specs.Security.{Property}
 use Rattle.calculus.specs.Terms.{first, second, Term, var, unit, lam, pair, inj, app, proj, case, protect, mu}
+use Rattle.calculus.specs.Typing.{finds-own}
 use Rattle.rules.specs.Answer.{Bytes, byte, Answer, accepted, refused, _>>_, ask, each, first-from, all-below, _⇒_}
 use Rattle.rules.specs.Limits.{script-width, script-limit, depth-limit}
 use Rattle.rules.specs.Groups.{rows, leq}
@@ -144,6 +145,10 @@ size (case w i e a b) = 1 + (size e + (size a + size b))
 size (protect m e) = 1 + size e
 size (mu w i e) = 1 + size e
 
+-- Item 3: the operands of a case that finds its own type "have its own depth plus two".
+abbrev pub weight : ℕ → ℕ
+weight i = cond (finds-own i) 2 1
+
 -- the depth of a term's deepest record: "the outermost record has depth 1"
 unfoldable pub depth : Term → ℕ
 depth (var n) = 1
@@ -153,24 +158,26 @@ depth (pair k a b) = 1 + max (depth a) (depth b)
 depth (inj d k i e) = 1 + depth e
 depth (app w f a) = 1 + max (depth f) (depth a)
 depth (proj d w e) = 1 + depth e
-depth (case w i e a b) = 1 + max (depth e) (max (depth a) (depth b))
+depth (case w i e a b) = weight i + max (depth e) (max (depth a) (depth b))
 depth (protect m e) = 1 + depth e
 depth (mu w i e) = 1 + depth e
 
 -- A number for each record, in the records' order: n at the node, `deeper n` at an operand, and `bound n` at one that a
--- binder stands over. "Kinds 2 and 11 bind one in their operand, a case one in each branch (operands 2 and 3)."
-unfoldable pub counts : (ℕ → ℕ) → (ℕ → ℕ) → ℕ → Term → List ℕ
-counts deeper bound n (var m) = n ∷ []
-counts deeper bound n (unit k) = n ∷ []
-counts deeper bound n (lam k i e) = n ∷ counts deeper bound (bound n) e
-counts deeper bound n (pair k a b) = n ∷ (counts deeper bound (deeper n) a ++ counts deeper bound (deeper n) b)
-counts deeper bound n (inj d k i e) = n ∷ counts deeper bound (deeper n) e
-counts deeper bound n (app w f a) = n ∷ (counts deeper bound (deeper n) f ++ counts deeper bound (deeper n) a)
-counts deeper bound n (proj d w e) = n ∷ counts deeper bound (deeper n) e
-counts deeper bound n (case w i e a b) =
-    n ∷ (counts deeper bound (deeper n) e ++ (counts deeper bound (bound n) a ++ counts deeper bound (bound n) b))
-counts deeper bound n (protect m e) = n ∷ counts deeper bound (deeper n) e
-counts deeper bound n (mu w i e) = n ∷ counts deeper bound (bound n) e
+-- binder stands over; a case with number i passes on `wide i n` in the place of n. "Kinds 2 and 11 bind one in their operand, a
+-- case one in each branch (operands 2 and 3)."
+unfoldable pub counts : (ℕ → ℕ → ℕ) → (ℕ → ℕ) → (ℕ → ℕ) → ℕ → Term → List ℕ
+counts wide deeper bound n (var m) = n ∷ []
+counts wide deeper bound n (unit k) = n ∷ []
+counts wide deeper bound n (lam k i e) = n ∷ counts wide deeper bound (bound n) e
+counts wide deeper bound n (pair k a b) = n ∷ (counts wide deeper bound (deeper n) a ++ counts wide deeper bound (deeper n) b)
+counts wide deeper bound n (inj d k i e) = n ∷ counts wide deeper bound (deeper n) e
+counts wide deeper bound n (app w f a) = n ∷ (counts wide deeper bound (deeper n) f ++ counts wide deeper bound (deeper n) a)
+counts wide deeper bound n (proj d w e) = n ∷ counts wide deeper bound (deeper n) e
+counts wide deeper bound n (case w i e a b) =
+    n ∷ (counts wide deeper bound (deeper (wide i n)) e
+    ++ (counts wide deeper bound (bound (wide i n)) a ++ counts wide deeper bound (bound (wide i n)) b))
+counts wide deeper bound n (protect m e) = n ∷ counts wide deeper bound (deeper n) e
+counts wide deeper bound n (mu w i e) = n ∷ counts wide deeper bound (bound n) e
 
 abbrev one-more : ℕ → ℕ
 one-more n = suc n
@@ -178,13 +185,20 @@ one-more n = suc n
 abbrev no-more : ℕ → ℕ
 no-more n = n
 
+-- one deeper still, where the case finds its own type
+abbrev pub widened : ℕ → ℕ → ℕ
+widened i n = cond (finds-own i) (suc n) n
+
+abbrev pub unwidened : ℕ → ℕ → ℕ
+unwidened i n = n
+
 -- the depth of each record
 abbrev pub depths : Term → List ℕ
-depths e = counts one-more one-more 1 e
+depths e = counts widened one-more one-more 1 e
 
 -- the count of binders over each record
 abbrev pub binders : Term → List ℕ
-binders e = counts no-more one-more 0 e
+binders e = counts unwidened no-more one-more 0 e
 
 -- 13. Script: whole records, 1 to 8,192, and in a run within both buffers? (0) `rooms` are the lengths of a run's buffers.
 abbrev pub q13 : List ℕ → Bytes → Answer (Unit {0})
@@ -215,11 +229,15 @@ ok15 g s i =
 abbrev pub q15 : Bytes → Bytes → Answer (Unit {0})
 q15 g s = each 15 (records s) (ok15 g s)
 
--- 16. Does a named type exist, a sum for 4 and 5, a function for 11?
+-- is record i a case that finds its own type?
+abbrev pub own-at : Bytes → ℕ → Bool
+own-at s i = eqb (kind s i) 9 && finds-own (number s i)
+
+-- 16. Does a named type exist, a sum for 4 and 5, a function for 11? A case's number 65,535 names none.
 unfoldable pub ok16 : Bytes → Bytes → ℕ → Bool
 unfolding signature-of
 ok16 t s i =
-    (signature-of (kind s i) .typed ⇒ ltb (number s i) (type-count t))
+    (signature-of (kind s i) .typed ⇒ own-at s i || ltb (number s i) (type-count t))
     && ((eqb (kind s i) 4 || eqb (kind s i) 5 ⇒ eqb (type-kind t (number s i)) 1) && (eqb (kind s i) 11 ⇒ eqb (type-kind t (number s i)) 3))
 
 abbrev pub q16 : Bytes → Bytes → Answer (Unit {0})
