@@ -1,11 +1,14 @@
 -- A formed term, stripped, is formed over the one-group table and the stripped types.
 use mathlib.Core.Path.{refl, _∙_}
+use mathlib.Core.Bool.{_||_, So}
 use Prim.Native.Nat.{ℕ, suc, _<_}
+use lib.Dec.{ltb}
 use native.Mathlib.Omega.{arith}
 use Rattle.calculus.specs.Terms.{Term, var, unit, lam, pair, inj, app, proj, case, protect, mu}
 use Rattle.calculus.specs.Relabelling.{relabel}
 use Rattle.calculus.specs.Erasure.{public, erase}
 use Rattle.calculus.proofs.Erasure.{OneGroup}
+use Rattle.calculus.specs.Typing.{finds-own}
 use Rattle.rules.specs.Answer.{Bytes}
 use Rattle.rules.specs.Groups.{rows, join, readers}
 use Rattle.rules.specs.Types.{type-count}
@@ -26,6 +29,9 @@ the-group = omega arith
 in-stripped : (t : Bytes) (i : ℕ) → i < type-count t → i < type-count (strip-types t)
 in-stripped t i l = omega (arith, strip-type-count t)
 
+found-stripped : (t : Bytes) (i : ℕ) → So (finds-own i || ltb i (type-count t)) → So (finds-own i || ltb i (type-count (strip-types t)))
+found-stripped t i h = rw (strip-type-count t) h
+
 pub erase-formed : (g t : Bytes) (n : ℕ) (e : Term) → Formed g t n e → Formed one-group (strip-types t) n (erase e)
 unfolding Formed relabel
 erase-formed g t n (var m) F = F
@@ -36,6 +42,6 @@ erase-formed g t n (inj d k i e) F = (public-labelled, in-stripped t i (F .1), s
 erase-formed g t n (app w f a) F = (the-group, erase-formed g t n f (F .1), erase-formed g t n a (F .2))
 erase-formed g t n (proj d w e) F = (the-group, erase-formed g t n e (F .1))
 erase-formed g t n (case w i e a b) F =
-    (the-group, in-stripped t i (F .1), erase-formed g t n e (F .2), erase-formed g t (suc n) a (F .3), erase-formed g t (suc n) b (F .4))
+    (the-group, found-stripped t i (F .1), erase-formed g t n e (F .2), erase-formed g t (suc n) a (F .3), erase-formed g t (suc n) b (F .4))
 erase-formed g t n (protect m e) F = (the-group, erase-formed g t n e (F .1))
 erase-formed g t n (mu w i e) F = (the-group, in-stripped t i (F .1), strip-type-kind t i ∙ F .2, erase-formed g t (suc n) e (F .3))

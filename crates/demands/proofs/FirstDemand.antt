@@ -1,10 +1,10 @@
 -- Demand 1.
 use mathlib.Core.Path.{_≡_, ap, _∙_}
-use mathlib.Core.Bool.{cond, _&&_}
+use mathlib.Core.Bool.{Bool, false, cond, _&&_}
 use mathlib.Core.List.{List, [], _∷_, _++_}
 use Prim.Native.Nat.{ℕ, _%_, _≤_, _<_}
 use native.Mathlib.Omega.{arith}
-use borrow.Author.Tests.{le-leb, lt-leb}
+use borrow.Author.Tests.{lt-leb, ne-eqb}
 use lib.Dec.{eqb, leb, ltb}
 use lib.ListN.{length, getD}
 use Rattle.calculus.specs.Types.{Ty}
@@ -14,7 +14,7 @@ use Rattle.rules.specs.Limits.{row-width, type-width, script-width, group-limit
 use Rattle.rules.specs.Groups.{rows, readers, ok3, ok4, ok5, ok6, ok7, q2, q3, q4, q5, q6, q7}
 use Rattle.rules.specs.Types.{type-count, type-at, ok9, ok10, ok11, ok12, q8, q9, q10, q11, q12}
 use Rattle.rules.specs.Script.{records, term, size, depths, binders, term-end, ok14, ok15, ok16, ok18, ok19, q13, q14, q15, q16, q17, q18, q19}
-use Rattle.rules.specs.Typing.{typing}
+use Rattle.rules.specs.Typing.{of-typing, typing}
 use Rattle.rules.specs.Step.{End}
 use Rattle.rules.specs.Run.{Ran}
 use Rattle.rules.specs.Sheet.{sheet}
@@ -70,8 +70,8 @@ script-decided rooms g t s =
     (decided-then (q18 s) (q19 s) (decided-one (each-own 18 (records s) (ok18 (depths (term s)))))
     (decided-one (each-own 19 (records s) (ok19 (binders (term s)) s)))))))))
 
--- 2 to 19 are below 20
-pub script-below : (rooms : List ℕ) (g t s : Bytes) (q place : ℕ) → script-check rooms g t s ≡ refused q place → q < 20
+-- 2 to 19 are none of typing's
+script-below : (rooms : List ℕ) (g t s : Bytes) (q place : ℕ) → script-check rooms g t s ≡ refused q place → q < 20
 unfolding Below
 script-below rooms g t s q place e = refusal-below numbers (script-decided rooms g t s) e
   where
@@ -83,6 +83,12 @@ script-below rooms g t s q place e = refusal-below numbers (script-decided rooms
 
     numbers : Below 20 (of-groups g ++ of-types g t ++ of-script rooms g t s)
     numbers = (omega arith, (omega arith, (omega arith, (omega arith, (omega arith, (omega arith, of-12))))))
+
+below-typing : (q : ℕ) → q < 20 → of-typing q ≡ false
+below-typing q l = rw (lt-leb 20 q l, ne-eqb q 31 (λ e. omega arith))
+
+pub script-early : (rooms : List ℕ) (g t s : Bytes) (q place : ℕ) → script-check rooms g t s ≡ refused q place → of-typing q ≡ false
+script-early rooms g t s q place e = below-typing q (script-below rooms g t s q place e)
 
 comparison-decided : (g t : Bytes) (i j : ℕ)
     → Decided (of-groups g ++ of-types g t ++ (question 25 (q25 0 i (type-count t)) ∷ question 25 (q25 1 j (type-count t)) ∷ [])) (comparing g t i j)
@@ -123,13 +129,6 @@ page-decided g t s group room =
     (decided-then (q26 (term s)) _ (decided-one (ask-own 26 0 (is-value (term s))))
     (decided-then (q27 (sheet g group (term s)) room) _ (decided-one (ask-own 27 0 (leb (length (sheet g group (term s))) room))) (decided-yes _))))
 
--- what a refusal leaves in the buffers
-work-kept : (q : ℕ) (old : Bytes) → q < 20 → cond (leb 20 q) (zeros (length old)) old ≡ old
-work-kept q old l = rw (lt-leb 20 q l)
-
-work-zeroed : (q : ℕ) (old : Bytes) → 20 ≤ q → cond (leb 20 q) (zeros (length old)) old ≡ zeros (length old)
-work-zeroed q old l = rw (le-leb 20 q l)
-
 pub first-demand : (g t s : Bytes) → Demand1 g t s
 first-demand g t s = record {
   groups = decides (groups-decided g);
@@ -143,8 +142,8 @@ first-demand g t s = record {
   page = λ group room. decides (page-decided g t s group room);
   check-keeps = λ work answer q place e old. (
     ap (λ (x : Answer Ty). answer-after x old) e,
-    λ l. ap (λ (x : Answer Ty). work-after x old) e ∙ work-kept q old l,
-    λ l. ap (λ (x : Answer Ty). work-after x old) e ∙ work-zeroed q old l,
+    λ l. ap (λ (x : Answer Ty). work-after x old) e ∙ ap (λ (b : Bool). cond b (zeros (length old)) old) l,
+    λ l. ap (λ (x : Answer Ty). work-after x old) e ∙ ap (λ (b : Bool). cond b (zeros (length old)) old) l,
   );
   step-keeps = λ room q place e old. ap (λ (x : Answer End). written-after x old) e;
   run-keeps = λ budget first scratch q place e old. (ap (λ (x : Answer Ran). first-after x old) e, ap (λ (x : Answer Ran). scratch-after x old) e);

@@ -1,5 +1,5 @@
 -- A groups table that passes questions 2 to 7 is a lattice with 0 at the bottom, and readers over it obey the calculus's laws.
-use mathlib.Core.Path.{_≡_, refl, sym, ap, _∙_}
+use mathlib.Core.Path.{_≡_, refl, sym, ap, subst, _∙_}
 use mathlib.Core.Bool.{Bool, true, false, _&&_, So, Bool·beq, false≢true}
 use mathlib.Core.Option.{Option, none, some}
 use Prim.Native.Nat.{ℕ, zero, _+_, _*_, _%_, _^_, _≤_, _<_}
@@ -12,9 +12,9 @@ use lib.ListN.{length, List·getD-eq-default}
 use Rattle.calculus.specs.Groups.{Lattice}
 use Rattle.rules.specs.Answer.{Bytes, byte, Octets, accepted, first-below, _⇒_}
 use Rattle.rules.specs.Limits.{row-width, group-limit}
-use Rattle.rules.specs.Groups.{rows, row, bit, leq, common, join, or-zero, within, row-of-lowest, is-number, ok3, ok4, ok5, ok6, ok7, q2, q3, q4, q5, q6, q7, groups-of}
+use Rattle.rules.specs.Groups.{rows, row, bit, leq, common, join, below-both, meet, or-zero, within, row-of-lowest, is-number, ok3, ok4, ok5, ok6, ok7, q2, q3, q4, q5, q6, q7, groups-of}
 use Rattle.rules.specs.Calls.{groups-check}
-use Rattle.rules.proofs.Search.{each-all, all-below-all, Found, found}
+use Rattle.rules.proofs.Search.{each-all, all-below-all, Found, found, Last, last}
 use Rattle.demands.proofs.Answers.{both}
 use Rattle.rules.proofs.Asked.{and-then, ask-true, implied}
 use Rattle.calculus.proofs.Booleans.{same-bits}
@@ -144,6 +144,27 @@ module _ (t : Bytes) (octets : Octets t) (passed : groups-check t ≡ accepted t
   unfolding ok7
   bottom-row h l = all-below-all (rows t) (λ h. bit (row t 0) h) (ask-true 7 0 _ (asked-all .5)) h l
 
+  -- the meet: 0 is below both, so there is a highest; and the join with any other is one of them, so it is no other
+  met : (g h : ℕ) → g < rows t → h < rows t → Last (below-both t g h) group-limit (meet t g h)
+  unfolding meet
+  met g h l m =
+      let f = few in
+      let z : below-both t g h 0 ≡ true = rw (bottom-row g l, bottom-row h m) in
+      last (below-both t g h) group-limit 0 (omega arith) z λ j e x. rw e x
+
+  greatest-lower : (g h k : ℕ) → So (leq t k g) → So (leq t k h) → So (leq t k (meet t g h))
+  greatest-lower g h k p q =
+      let x = met g h (col-in k g p) (col-in k h q) in
+      let b = both (leq t (meet t g h) g) (leq t (meet t g h) h) (x .passes) in
+      let u = upper (meet t g h) k (row-in (meet t g h) g (b .0)) (row-in k g p) in
+      let f = few in
+      let r = row-in (join t (meet t g h) k) g (least-upper (meet t g h) k g (b .0) p) in
+      let j : below-both t g h (join t (meet t g h) k) ≡ true = rw (least-upper (meet t g h) k g (b .0) p, least-upper (meet t g h) k h (b .1) q) in
+      let up = x .greatest (join t (meet t g h) k) (omega arith) j in
+      let low = rising (meet t g h) (join t (meet t g h) k) (u .0) in
+      let e : join t (meet t g h) k ≡ meet t g h = omega arith in
+      subst (λ (n : ℕ). So (leq t k n)) e (u .1)
+
   pub lattice : Lattice (groups-of t)
   lattice = record {
     self-left = λ g h p. reflexive g (row-in g h p);
@@ -153,6 +174,9 @@ module _ (t : Bytes) (octets : Octets t) (passed : groups-check t ≡ accepted t
     upper-left = λ g h p q. upper g h (row-in g g p) (row-in h h q) .0;
     upper-right = λ g h p q. upper g h (row-in g g p) (row-in h h q) .1;
     least = least-upper;
+    lower-left = λ g h p q. both _ _ (met g h (row-in g g p) (row-in h h q) .passes) .0;
+    lower-right = λ g h p q. both (leq t (meet t g h) g) _ (met g h (row-in g g p) (row-in h h q) .passes) .1;
+    greatest = greatest-lower;
     bottom = λ g p. bottom-row g (row-in g g p);
     in-table = λ g h. reflexive g (ltb-true g (rows t) h);
     groups-only = λ g h p. lt-ltb g (rows t) (row-in g h p);

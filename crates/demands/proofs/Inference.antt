@@ -1,6 +1,6 @@
 -- The document's typing, with questions and places, finds exactly the type that the calculus's inference finds.
 use mathlib.Core.Path.{_≡_, refl}
-use mathlib.Core.Bool.{Bool, true, false, So, _&&_}
+use mathlib.Core.Bool.{Bool, true, false, So, _&&_, cond}
 use mathlib.Core.List.{List, [], _∷_}
 use mathlib.Core.Option.{Option, none, some}
 use Prim.Native.Nat.{ℕ, suc, zero, _+_, _<_}
@@ -11,13 +11,14 @@ use Rattle.calculus.specs.Security.{Property, Reader, Security}
 use Rattle.calculus.specs.Types.{Former, sum, product, function, Ty, one, node, top, raiseT, fits, when, Parts, parts}
 use Rattle.calculus.specs.Subtyping.{subtype, below}
 use Rattle.calculus.specs.Terms.{Side, choose, Term, var, unit, lam, pair, inj, app, proj, case, protect, mu}
-use Rattle.calculus.specs.Typing.{lookup, recurs, infer}
-use Rattle.calculus.specs.Typing as typing
+use Rattle.calculus.specs.Typing.{finds-own, lookup, recurs, result, infer}
+use Rattle.calculus.specs.Common.{common}
+use Rattle.calculus.specs.Types as typing
 use Rattle.rules.specs.Answer.{Bytes, Answer, accepted, refused, _>>=_, _>>_, ask}
 use Rattle.rules.specs.Groups.{readers}
 use Rattle.rules.specs.Types.{type-at, type-count, type-kind, no-type}
 use Rattle.rules.specs.Script.{size}
-use Rattle.rules.specs.Typing.{has-form, left, right, q20, q21, q22, q23, q24, typing}
+use Rattle.rules.specs.Typing.{has-form, left, right, q20, q21, q22, q23, q24, found-or, typing}
 use Rattle.demands.proofs.Formed.{Formed}
 
 -- a found type, without the question and place of a refusal
@@ -138,13 +139,55 @@ proj-rule S d w p m o e =
     (λ s. part-forget product s p (λ s. _>>_ (q21 S p s w) (accepted (raiseT S (choose d (left s) (right s)) (S .influence (top s) w)))) _
     (λ k l r. only-forget 21 p (S .permits k w) (raiseT S (choose d l r) (S .influence k w))))
 
-case-rule : (S : Security) (w : Reader) (a : Ty) (p : ℕ) (m : Answer Ty) (o : Option Ty) (m′ m″ : Ty → Answer Ty) (o′ o″ : Ty → Option Ty) → forget m ≡ o
+-- a case's last questions: 22 of the second branch, or 31
+last-named : (q p : ℕ) (a b c : Bool) (t : Ty) (h : Ty → Ty) → a ≡ true → b ≡ true
+    → forget (_>>_ (ask q p c) (accepted (h t))) ≡ typing._>>=_ (when (b && c) t) (λ r. when a (h r))
+last-named q p a b true t h x y = rw (y, x)
+last-named q p a b false t h x y = rw y
+
+last-found : (p : ℕ) (a : Bool) (c : Option Ty) (h : Ty → Ty) → a ≡ true
+    → forget (_>>=_ (found-or p c) (λ r. accepted (h r))) ≡ typing._>>=_ c (λ r. when a (h r))
+last-found p a none h x = refl
+last-found p a (some r) h x = rw x
+
+-- without leave to read, what the branches have doesn't matter
+dead-case : (o : Option Ty) (o′ : Option Ty) (b : Bool) (c : Ty → Ty → Option Ty) (h : Ty → Ty) → b ≡ false
+    → none ≡ typing._>>=_ o (λ u. typing._>>=_ o′ (λ v. typing._>>=_ (c u v) (λ r. when b (h r))))
+dead-case none o′ b c h e = refl
+dead-case (some u) none b c h e = refl
+dead-case (some u) (some v) b c h e = go (c u v)
+  where
+    go : (x : Option Ty) → none ≡ typing._>>=_ x (λ r. when b (h r))
+    go none = refl
+    go (some r) = rw e
+
+dead-branch : (o : Option Ty) (b : Bool) (c : Ty → Bool) (t : Ty) (k : Ty → Option Ty) → b ≡ false
+    → none ≡ typing._>>=_ o (λ v. typing._>>=_ (when (b && c v) t) k)
+dead-branch none b c t k e = refl
+dead-branch (some v) b c t k e = rw e
+
+-- `own`: does the case find its type?
+case-rule : (S : Security) (w : Reader) (own : Bool) (a : Ty) (p : ℕ) (m : Answer Ty) (o : Option Ty) (m′ m″ : Ty → Answer Ty) (o′ o″ : Ty → Option Ty) → forget m ≡ o
     → ((s : Ty) → forget (m′ s) ≡ o′ s) → ((s : Ty) → forget (m″ s) ≡ o″ s)
     → forget (_>>=_ m (λ s. _>>_ (q20 p sum s) (_>>_ (q21 S p s w)
-    (_>>=_ (m′ (left s)) (λ u. _>>_ (q22 S p u a) (_>>=_ (m″ (right s)) (λ v. _>>_ (q22 S p v a) (accepted (raiseT S a (S .influence (top s) w))))))))))
+    (_>>=_ (m′ (left s)) (λ u. _>>_ (cond own (accepted tt) (q22 S p u a)) (_>>=_ (m″ (right s)) (λ v. _>>_ (cond own (accepted tt) (q22 S p v a))
+    (_>>=_ (cond own (found-or p (common S below u v)) (accepted a)) (λ r. accepted (raiseT S r (S .influence (top s) w)))))))))))
     ≡ typing._>>=_ o (λ s. typing._>>=_ (parts sum s) (λ x. typing._>>=_ (o′ (x .lhs)) (λ u. typing._>>=_ (o″ (x .rhs))
-    (λ v. when (S .permits (x .own) w && (subtype S below u a && subtype S below v a)) (raiseT S a (S .influence (x .own) w))))))
-case-rule S w a p m o m′ m″ o′ o″ e e′ e″ =
+    (λ v. typing._>>=_ (cond own (common S below u v) (when (subtype S below u a && subtype S below v a) a))
+    (λ r. when (S .permits (x .own) w) (raiseT S r (S .influence (x .own) w)))))))
+case-rule S w true a p m o m′ m″ o′ o″ e e′ e″ =
+    bind-forget m _ o _ e
+    (λ s. part-forget sum s p
+    (λ s. _>>_ (q21 S p s w) (_>>=_ (m′ (left s)) (λ u. _>>=_ (m″ (right s)) (λ v. _>>=_ (found-or p (common S below u v))
+    (λ r. accepted (raiseT S r (S .influence (top s) w)))))))
+    _
+    (λ k l r.
+    ask-forget 21 p (S .permits k w)
+    (_>>=_ (m′ l) (λ u. _>>=_ (m″ r) (λ v. _>>=_ (found-or p (common S below u v)) (λ r. accepted (raiseT S r (S .influence k w)))))) _
+    (λ yes. bind-forget (m′ l) _ (o′ l) _ (e′ l) (λ u. bind-forget (m″ r) _ (o″ r) _ (e″ r)
+    (λ v. last-found p (S .permits k w) (common S below u v) (λ t. raiseT S t (S .influence k w)) yes)))
+    (λ no. dead-case (o′ l) (o″ r) (S .permits k w) (λ u v. common S below u v) (λ t. raiseT S t (S .influence k w)) no)))
+case-rule S w false a p m o m′ m″ o′ o″ e e′ e″ =
     bind-forget m _ o _ e
     (λ s. part-forget sum s p
     (λ s. _>>_ (q21 S p s w)
@@ -155,9 +198,10 @@ case-rule S w a p m o m′ m″ o′ o″ e e′ e″ =
     ask-forget 21 p (S .permits k w) (_>>=_ (m′ l) (λ u. _>>_ (q22 S p u a) (_>>=_ (m″ r) (λ v. _>>_ (q22 S p v a) (accepted res))))) _
     (λ yes. bind-forget (m′ l) _ (o′ l) _ (e′ l)
     (λ u. ask-forget 22 p (subtype S below u a) (_>>=_ (m″ r) (λ v. _>>_ (q22 S p v a) (accepted res))) _
-    (λ first. bind-forget (m″ r) _ (o″ r) _ (e″ r) (λ v. last-two 22 p (S .permits k w) (subtype S below u a) (subtype S below v a) res yes first))
-    (λ no. dead-second (o″ r) (S .permits k w) (subtype S below u a) (λ v. subtype S below v a) (λ v. res) no)))
-    (λ no. dead-both (λ u. o″ r) (o′ l) (S .permits k w) (λ u v. subtype S below u a && subtype S below v a) res no)))
+    (λ first. bind-forget (m″ r) _ (o″ r) _ (e″ r)
+    (λ v. last-named 22 p (S .permits k w) (subtype S below u a) (subtype S below v a) a (λ t. raiseT S t (S .influence k w)) yes first))
+    (λ no. dead-branch (o″ r) (subtype S below u a) (λ v. subtype S below v a) a (λ t. when (S .permits k w) (raiseT S t (S .influence k w))) no)))
+    (λ no. dead-case (o′ l) (o″ r) (S .permits k w) (λ u v. when (subtype S below u a && subtype S below v a) a) (λ t. raiseT S t (S .influence k w)) no)))
 
 protect-rule : (S : Security) (i : ℕ) (m : Answer Ty) (o : Option Ty) → forget m ≡ o → S .secureI i ≡ true
     → forget (_>>=_ m (λ s. accepted (raiseT S s i))) ≡ typing._>>=_ o (λ s. when (S .secureI i) (raiseT S s i))
@@ -188,7 +232,7 @@ module _ (g t : Bytes) (sums : (i : ℕ) → i < type-count t → type-kind t i 
   tab = type-at t
 
   pub agree : (Γ : List Ty) (p : ℕ) (e : Term) → Formed g t (length Γ) e → forget (typing S tab Γ p e) ≡ infer S tab Γ e
-  unfolding Formed typing infer
+  unfolding Formed typing infer result
   agree Γ p (var n) F = lookup-is Γ n F
   agree Γ p (unit k) F = rw F
   agree Γ p (lam k i e) F = lam-rule S k (tab i) p (typing S tab (tab i ∷ Γ) (1 + p) e) (infer S tab (tab i ∷ Γ) e) (agree (tab i ∷ Γ) (1 + p) e (F .2)) (F .0)
@@ -202,7 +246,7 @@ module _ (g t : Bytes) (sums : (i : ℕ) → i < type-count t → type-kind t i 
       (agree Γ (1 + p + size f) a (F .2))
   agree Γ p (proj d w e) F = proj-rule S d w p (typing S tab Γ (1 + p) e) (infer S tab Γ e) (agree Γ (1 + p) e (F .1))
   agree Γ p (case w i e a b) F =
-      case-rule S w (tab i) p (typing S tab Γ (1 + p) e) (infer S tab Γ e) (λ s. typing S tab (s ∷ Γ) (1 + p + size e) a)
+      case-rule S w (finds-own i) (tab i) p (typing S tab Γ (1 + p) e) (infer S tab Γ e) (λ s. typing S tab (s ∷ Γ) (1 + p + size e) a)
       (λ s. typing S tab (s ∷ Γ) (1 + p + size e + size a) b) (λ s. infer S tab (s ∷ Γ) a) (λ s. infer S tab (s ∷ Γ) b) (agree Γ (1 + p) e (F .2))
       (λ s. agree (s ∷ Γ) (1 + p + size e) a (F .3)) (λ s. agree (s ∷ Γ) (1 + p + size e + size a) b (F .4))
   agree Γ p (protect m e) F = protect-rule S m (typing S tab Γ (1 + p) e) (infer S tab Γ e) (agree Γ (1 + p) e (F .1)) (lt-ltb _ _ (F .0))

@@ -25,3 +25,4 @@ pub mod Closed
 pub mod WrittenTerms
 pub mod WrittenScripts
 pub mod Rewriting
+pub mod CommonTypes

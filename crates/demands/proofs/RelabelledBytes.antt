@@ -37,18 +37,19 @@ relabel-depth R (case w i e a b) = rw (relabel-depth R e, relabel-depth R a, rel
 relabel-depth R (protect m e) = rw (relabel-depth R e)
 relabel-depth R (mu w i e) = rw (relabel-depth R e)
 
-pub relabel-counts : (R : Labels) (deeper bound : ℕ → ℕ) (n : ℕ) (e : Term) → counts deeper bound n (relabel R e) ≡ counts deeper bound n e
+pub relabel-counts : (R : Labels) (wide : ℕ → ℕ → ℕ) (deeper bound : ℕ → ℕ) (n : ℕ) (e : Term) → counts wide deeper bound n (relabel R e) ≡ counts wide deeper bound n e
 unfolding counts relabel
-relabel-counts R f b n (var m) = refl
-relabel-counts R f b n (unit k) = refl
-relabel-counts R f b n (lam k i e) = rw (relabel-counts R f b (b n) e)
-relabel-counts R f b n (pair k x y) = rw (relabel-counts R f b (f n) x, relabel-counts R f b (f n) y)
-relabel-counts R f b n (inj d k i e) = rw (relabel-counts R f b (f n) e)
-relabel-counts R f b n (app w x y) = rw (relabel-counts R f b (f n) x, relabel-counts R f b (f n) y)
-relabel-counts R f b n (proj d w e) = rw (relabel-counts R f b (f n) e)
-relabel-counts R f b n (case w i e x y) = rw (relabel-counts R f b (f n) e, relabel-counts R f b (b n) x, relabel-counts R f b (b n) y)
-relabel-counts R f b n (protect m e) = rw (relabel-counts R f b (f n) e)
-relabel-counts R f b n (mu w i e) = rw (relabel-counts R f b (b n) e)
+relabel-counts R v f b n (var m) = refl
+relabel-counts R v f b n (unit k) = refl
+relabel-counts R v f b n (lam k i e) = rw (relabel-counts R v f b (b n) e)
+relabel-counts R v f b n (pair k x y) = rw (relabel-counts R v f b (f n) x, relabel-counts R v f b (f n) y)
+relabel-counts R v f b n (inj d k i e) = rw (relabel-counts R v f b (f n) e)
+relabel-counts R v f b n (app w x y) = rw (relabel-counts R v f b (f n) x, relabel-counts R v f b (f n) y)
+relabel-counts R v f b n (proj d w e) = rw (relabel-counts R v f b (f n) e)
+relabel-counts R v f b n (case w i e x y) =
+    rw (relabel-counts R v f b (f (v i n)) e, relabel-counts R v f b (b (v i n)) x, relabel-counts R v f b (b (v i n)) y)
+relabel-counts R v f b n (protect m e) = rw (relabel-counts R v f b (f n) e)
+relabel-counts R v f b n (mu w i e) = rw (relabel-counts R v f b (b n) e)
 
 relabel-operands : (R : Labels) (e : Term) → term-operands (relabel R e) ≡ map (relabel R) (term-operands e)
 unfolding relabel

@@ -120,7 +120,7 @@ module _ (t s : Bytes) where
   -- 18 and 19 are asked of its term
   module _ (e : term new ≡ write (type-at t) (term s)) where
     q18-same : q18 new ≡ q18 s
-    q18-same = ap₂ (λ (n : ℕ) (ds : List ℕ). each 18 n (ok18 ds)) count (ap depths e ∙ relabel-counts (written (type-at t)) _ _ 1 (term s))
+    q18-same = ap₂ (λ (n : ℕ) (ds : List ℕ). each 18 n (ok18 ds)) count (ap depths e ∙ relabel-counts (written (type-at t)) _ _ _ 1 (term s))
 
     ok19-same : (bs : List ℕ) (i : ℕ) → ok19 bs new i ≡ ok19 bs s i
     unfolding ok19
@@ -128,7 +128,7 @@ module _ (t s : Bytes) where
 
     q19-same : q19 new ≡ q19 s
     q19-same =
-        ap₂ (λ (n : ℕ) (bs : List ℕ). each 19 n (ok19 bs new)) count (ap binders e ∙ relabel-counts (written (type-at t)) _ _ 0 (term s))
+        ap₂ (λ (n : ℕ) (bs : List ℕ). each 19 n (ok19 bs new)) count (ap binders e ∙ relabel-counts (written (type-at t)) _ _ _ 0 (term s))
         ∙ each-same 19 (records s) _ _ (λ i l. ok19-same (binders (term s)) i)
 
 -- Over tables that pass, r of a type is a group, and so is 0.

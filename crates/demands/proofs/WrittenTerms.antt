@@ -6,15 +6,16 @@ use Prim.Native.Nat.{ℕ, suc, zero, _+_}
 use Rattle.calculus.specs.Security.{Security}
 use Rattle.calculus.specs.Types.{sum, Ty, top, raiseT}
 use Rattle.calculus.specs.Subtyping.{subtype}
+use Rattle.calculus.specs.Common.{common}
 use Rattle.calculus.specs.Terms.{Term, var, unit, lam, pair, inj, app, proj, case, protect, mu, is-value}
 use Rattle.calculus.specs.Reduction.{Outcome, value, moved, denied, stuck, step}
 use Rattle.calculus.specs.Relabelling.{relabel, relabelO}
 use Rattle.calculus.specs.Callers.{called-as, as-written, as-typed, written, write}
 use Rattle.calculus.proofs.RelabelledTerms.{relabel-value}
-use Rattle.calculus.proofs.Callers.{comparison-called, raising-called, write-step}
+use Rattle.calculus.proofs.Callers.{comparison-called, common-called, raising-called, write-step}
 use Rattle.rules.specs.Answer.{accepted, _>>=_, _>>_}
 use Rattle.rules.specs.Script.{size}
-use Rattle.rules.specs.Typing.{left, right, q20, q21, q22, typing}
+use Rattle.rules.specs.Typing.{left, right, q20, q21, q22-of-branch, branch-type, typing}
 use Rattle.rules.specs.Step.{End, at-value, moves, may-not, wrong-kind, too-big, exceeds, limited, step-in}
 use Rattle.rules.specs.Run.{Ran, one-step-more, run}
 use Rattle.demands.proofs.RelabelledBytes.{relabel-size, relabel-depth}
@@ -29,6 +30,9 @@ module _ (rules : Security) (tab : ℕ → Ty) where
 
   comparison : subtype S ≡ subtype S′
   comparison = comparison-called as-written as-typed rules
+
+  commons : common S ≡ common S′
+  commons = common-called as-written as-typed rules
 
   raising : raiseT S ≡ raiseT S′
   raising = raising-called as-written as-typed rules
@@ -45,16 +49,17 @@ module _ (rules : Security) (tab : ℕ → Ty) where
       rw (relabel-size (written tab) f, write-typing Γ (1 + p) f, write-typing Γ (1 + p + size f) a, comparison, raising)
   write-typing Γ p (proj d w e) = rw (write-typing Γ (1 + p) e, raising)
   write-typing Γ p (case w i e a b) =
-      rw (relabel-size (written tab) e, relabel-size (written tab) a, comparison, raising)
+      rw (relabel-size (written tab) e, relabel-size (written tab) a, comparison, raising, commons)
       λ j.
       _>>=_ (write-typing Γ (1 + p) e j) λ s.
       _>>_ (q20 p sum s)
       (_>>_ (q21 S′ p s w)
       (_>>=_ (write-typing (left s ∷ Γ) (1 + p + size e) a j) λ t.
-      _>>_ (q22 S′ p t (tab i))
+      _>>_ (q22-of-branch S′ p tab i t)
       (_>>=_ (write-typing (right s ∷ Γ) (1 + p + size e + size a) b j) λ u.
-      _>>_ (q22 S′ p u (tab i))
-      (accepted (raiseT S′ (tab i) (rules .influence (top s) w))))))
+      _>>_ (q22-of-branch S′ p tab i u)
+      (_>>=_ (branch-type S′ p tab i t u) λ r.
+      accepted (raiseT S′ r (rules .influence (top s) w))))))
   write-typing Γ p (protect m e) = rw (write-typing Γ (1 + p) e, raising)
   write-typing Γ p (mu w i e) = rw (write-typing (tab i ∷ Γ) (1 + p) e, comparison)
 

@@ -15,7 +15,7 @@ use Rattle.rules.specs.Answer.{Bytes, Octets, accepted, refused}
 use Rattle.rules.specs.Groups.{rows, readers}
 use Rattle.rules.specs.Types.{type-count, type-at, encode-type}
 use Rattle.rules.specs.Script.{encode, term, size}
-use Rattle.rules.specs.Typing.{typing}
+use Rattle.rules.specs.Typing.{of-typing, typing}
 use Rattle.rules.specs.Step.{at-value, moves, may-not, wrong-kind, too-big, exceeds}
 use Rattle.rules.specs.Run.{Ran}
 use Rattle.rules.specs.Strip.{strip-script, strip-types, one-group}
@@ -37,8 +37,8 @@ pub record Demand1 (g t s : Bytes) : Type 0 where
   pub check : (work answer : ℕ)
       → Checks (question 1 (q1 work answer) ∷ [] ++ of-groups g ++ of-types g t ++ of-script [] g t s) (typing (readers g) (type-at t) [] 0 (term s))
       (checking work answer g t s)
-  -- typing asks 20 to 24 in the order of its definition, and each of a record of the script
-  pub typing-asks : (q place : ℕ) → typing (readers g) (type-at t) [] 0 (term s) ≡ refused q place → (20 ≤ q) × (q ≤ 24) × (place < size (term s))
+  -- typing asks its questions in the order of its definition, and each of a record of the script
+  pub typing-asks : (q place : ℕ) → typing (readers g) (type-at t) [] 0 (term s) ≡ refused q place → (of-typing q ≡ true) × (place < size (term s))
   pub step : (room : ℕ) → Decides (of-groups g ++ of-types g t ++ of-script [] g t s) (stepping g t s room)
   pub run : (budget first scratch : ℕ)
       → Decides (of-groups g ++ of-types g t ++ of-script (first ∷ scratch ∷ []) g t s) (running g t s budget first scratch)
@@ -51,8 +51,8 @@ pub record Demand1 (g t s : Bytes) : Type 0 where
       (sheeting g t s group room)
   pub check-keeps : (work answer q place : ℕ) → checking work answer g t s ≡ refused q place → (old : Bytes)
       → (answer-after (checking work answer g t s) old ≡ old)
-      × (q < 20 → work-after (checking work answer g t s) old ≡ old)
-      × (20 ≤ q → work-after (checking work answer g t s) old ≡ zeros (length old))
+      × (of-typing q ≡ false → work-after (checking work answer g t s) old ≡ old)
+      × (of-typing q ≡ true → work-after (checking work answer g t s) old ≡ zeros (length old))
   pub step-keeps : (room q place : ℕ) → stepping g t s room ≡ refused q place → (old : Bytes) → written-after (stepping g t s room) old ≡ old
   pub run-keeps : (budget first scratch q place : ℕ) → running g t s budget first scratch ≡ refused q place → (old : Bytes)
       → (first-after (running g t s budget first scratch) old ≡ old) × (scratch-after (running g t s budget first scratch) old ≡ old)

@@ -4,3 +4,4 @@ pub mod Demands
 pub mod Comparison
 pub mod Closed
 pub mod Rewriting
+pub mod CommonTypes
