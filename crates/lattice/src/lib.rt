@@ -1,10 +1,11 @@
-// The lattice of groups over a table of rows: readers and indirect readers, their order and their join.
+// The lattice of groups over a table of rows: readers and indirect readers, their order, their join and their meet.
 
 ghost use mathlib.Core.Path.{_≡_};
-ghost use Prim.Native.Nat.{_<_};
+ghost use Prim.Native.Nat.{ℕ, _≤_, _<_};
 ghost use lib.ListN.{length};
 ghost use Rattle.rules.specs.Answer.{byte};
-ghost use Rattle.rules.specs.Groups.{rows, row, bit, leq, join};
+ghost use Rattle.rules.specs.Limits.{group-limit};
+ghost use Rattle.rules.specs.Groups.{rows, row, bit, leq, join, below-both, meet};
 
 // Readers and indirect readers: two types, so that neither is handed over in the other's place.
 pub struct Reader(pub u8);
@@ -15,7 +16,7 @@ pub const ROW_WIDTH: usize = 4;
 
 pub const GROUP_LIMIT: usize = 32;
 
-// Byte i, and 0 past the end, so that order and join are total in the table's length.
+// Byte i, and 0 past the end, so that order, join and meet are total in the table's length.
 fn byte(groups: &[u8], i: usize) -> u32
     ensures { λ a. ⌜ (a ≡ byte (now (groups .entry)) i) × (a < 256) ⌝ }
 {
@@ -103,6 +104,41 @@ fn join(groups: &[u8], g: u8, h: u8) -> u8
     u32::trailing_zeros(both) as u8
 }
 
+// How many rows a search over the groups goes through: past the table they are 0. A row cut short is one of them.
+fn rows_to_search(groups: &[u8]) -> usize
+    ensures { λ a. ⌜ (a ≤ group-limit)
+        × ((k : ℕ) → a ≤ k → k < group-limit → 0 ≡ row (now (groups .entry)) k) ⌝ }
+{
+    let n = row_count(groups);
+    if n < GROUP_LIMIT {
+        return n + 1;
+    }
+    GROUP_LIMIT
+}
+
+// k ⊑ g and k ⊑ h
+fn below_both(groups: &[u8], k: usize, g: u8, h: u8) -> bool
+    ensures { λ a. ⌜ a ≡ below-both (now (groups .entry)) g h k ⌝ }
+{
+    let word = row(groups, k);
+    bit(word, index(g)) & bit(word, index(h))
+}
+
+// g ⊓ h, the highest group ⊑ both; 0 where there is none. The groups below a group stand in its column, so this costs a pass down
+// the table, at most 32 rows, where a join costs two.
+fn meet(groups: &[u8], g: u8, h: u8) -> u8
+    ensures { λ a. ⌜ a ≡ meet (now (groups .entry)) g h ⌝ }
+{
+    let mut k = rows_to_search(groups);
+    while 0 < k {
+        k -= 1;
+        if below_both(groups, k, g, h) {
+            return k as u8;
+        }
+    }
+    0
+}
+
 impl Reader {
     // r ⊑ r′
     pub fn at_or_below(self, groups: &[u8], reader: Reader) -> bool
@@ -116,6 +152,20 @@ impl Reader {
         ensures { λ a. ⌜ a .0 ≡ join (now (groups .entry)) (self .0) (by .0) ⌝ }
     {
         Reader(join(groups, self.0, by.0))
+    }
+
+    // r ⊔ r′
+    pub fn join(self, groups: &[u8], reader: Reader) -> Reader
+        ensures { λ a. ⌜ a .0 ≡ join (now (groups .entry)) (self .0) (reader .0) ⌝ }
+    {
+        Reader(join(groups, self.0, reader.0))
+    }
+
+    // r ⊓ r′
+    pub fn meet(self, groups: &[u8], reader: Reader) -> Reader
+        ensures { λ a. ⌜ a .0 ≡ meet (now (groups .entry)) (self .0) (reader .0) ⌝ }
+    {
+        Reader(meet(groups, self.0, reader.0))
     }
 }
 
@@ -134,10 +184,17 @@ impl Indirect {
         leq(groups, self.0, r.0)
     }
 
-    // ir ⊔ ir′: what • makes of the indirect reader
+    // ir ⊔ ir′, which is also what • makes of the indirect reader
     pub fn joined(self, groups: &[u8], by: Indirect) -> Indirect
         ensures { λ a. ⌜ a .0 ≡ join (now (groups .entry)) (self .0) (by .0) ⌝ }
     {
         Indirect(join(groups, self.0, by.0))
+    }
+
+    // ir ⊓ ir′
+    pub fn meet(self, groups: &[u8], indirect: Indirect) -> Indirect
+        ensures { λ a. ⌜ a .0 ≡ meet (now (groups .entry)) (self .0) (indirect .0) ⌝ }
+    {
+        Indirect(meet(groups, self.0, indirect.0))
     }
 }
