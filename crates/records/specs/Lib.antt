@@ -2,4 +2,5 @@ pub mod Kinds
 pub mod Place
 pub mod Operands
 pub mod Binders
+pub mod Weight
 pub mod Said

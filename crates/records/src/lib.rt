@@ -5,10 +5,11 @@ use lattice::Reader;
 ghost use mathlib.Core.Path.{_≡_};
 ghost use Prim.Native.Nat.{_+_, _≤_, _<_};
 ghost use Rattle.calculus.specs.Terms.{Term};
-ghost use Rattle.rules.specs.Script.{records, kind, r, ir, zero-byte, number, signature, signature-of, arity, size, term-end};
+ghost use Rattle.rules.specs.Script.{records, kind, r, ir, zero-byte, number, signature, signature-of, arity, size, own-at, term-end};
 ghost use Rattle.records.specs.Place.{At, Here};
 ghost use Rattle.records.specs.Said.{said-line, said-end};
 ghost use Rattle.records.specs.Binders.{binds};
+ghost use Rattle.records.specs.Weight.{weight-at};
 
 pub const SCRIPT_WIDTH: usize = 6;
 
@@ -36,6 +37,9 @@ pub const CASE: u8 = 9;
 pub const PROTECT: u8 = 10;
 
 pub const RECURSION: u8 = 11;
+
+// The number of a case that finds its own type, in the place of a type's.
+pub const OWN_TYPE: u16 = 65535;
 
 pub fn wide(x: u8) -> usize
     ensures { λ a. ⌜ (a ≡ x) × (a < 256) ⌝ }
@@ -147,6 +151,25 @@ pub fn arity(kind: u8) -> usize
 {
     let f = signature_of(kind);
     wide(f.operands)
+}
+
+// Is record i a case that finds its own type?
+pub fn finds_own(script: &[u8], i: usize) -> bool
+    requires { ⌜ i < records (now script) ⌝ }
+    ensures { λ a. ⌜ a ≡ own-at (now (script .entry)) i ⌝ }
+{
+    (kind(script, i) == CASE) & (number(script, i) == OWN_TYPE)
+}
+
+// How much deeper than record i its operands stand.
+pub fn weight(script: &[u8], i: usize) -> usize
+    requires { ⌜ i < records (now script) ⌝ }
+    ensures { λ a. ⌜ (a ≡ weight-at (now (script .entry)) i) × (a ≤ 2) ⌝ }
+{
+    if finds_own(script, i) {
+        return 2;
+    }
+    1
 }
 
 // How many binders stand over operand j, counted from 0, of a record of this kind.

@@ -14,17 +14,18 @@ use Rattle.rules.specs.Script.{size}
 use Rattle.rules.proofs.TermCode.{two-bytes}
 use Rattle.records.specs.Kinds as kinds
 use Rattle.records.specs.Operands.{first-operand, second-operand}
+use Rattle.records.specs.Weight.{weight-of}
 use Rattle.records.proofs.Stands.{kind-of, operands}
 use Rattle.records.proofs.Made.{number-of, by-kind}
 use Rattle.redex.specs.Contexts.{offset, level}
 use Rattle.redex.specs.Fates.{goes, wrong-kind, property-of, is-function, ready, reading-fate, fate}
 use Rattle.redex.specs.Found.{is-destructor, is-injection, takes-apart}
 
--- x is the operand that e evaluates next, n records on
-pub record Position (e x : Term) (n : ℕ) : Type 0 where
+-- x is the operand that e evaluates next, n records on and m levels down
+pub record Position (e x : Term) (n m : ℕ) : Type 0 where
   pub context : Context
   pub whole : e ≡ plug context x
-  pub under : level context ≡ 1
+  pub under : level context ≡ m
   pub from : offset context ≡ n
 
 -- e evaluates its first operand: all do but those without one and those with a binder over it
@@ -32,22 +33,22 @@ abbrev pub Evaluates : Term → Type 0
 Evaluates e =
     (kind-of e ≡ kinds.variable → ⊥) × (kind-of e ≡ kinds.unit → ⊥) × (kind-of e ≡ kinds.function → ⊥) × (kind-of e ≡ kinds.recursion → ⊥)
 
-pub first-position : (e : Term) → Evaluates e → Position e (first-operand e) 1
+pub first-position : (e : Term) → Evaluates e → (m : ℕ) → m ≡ weight-of e → Position e (first-operand e) 1 m
 unfolding plug offset level
-first-position (var n) v = absurd (v .0 refl)
-first-position (unit k) v = absurd (v .1 refl)
-first-position (lam k i e) v = absurd (v .2 refl)
-first-position (pair k a b) v = record { context = pair-left k hole b; whole = refl; under = refl; from = refl }
-first-position (inj d k i e) v = record { context = in-inj d k i hole; whole = refl; under = refl; from = refl }
-first-position (app w f a) v = record { context = app-left w hole a; whole = refl; under = refl; from = refl }
-first-position (proj d w e) v = record { context = in-proj d w hole; whole = refl; under = refl; from = refl }
-first-position (case w i e a b) v = record { context = in-case w i hole a b; whole = refl; under = refl; from = refl }
-first-position (protect m e) v = record { context = in-protect m hole; whole = refl; under = refl; from = refl }
-first-position (mu w i e) v = absurd (v .3 refl)
+first-position (var n) v m h = absurd (v .0 refl)
+first-position (unit k) v m h = absurd (v .1 refl)
+first-position (lam k i e) v m h = absurd (v .2 refl)
+first-position (pair k a b) v m h = record { context = pair-left k hole b; whole = refl; under = omega (arith, h); from = refl }
+first-position (inj d k i e) v m h = record { context = in-inj d k i hole; whole = refl; under = omega (arith, h); from = refl }
+first-position (app w f a) v m h = record { context = app-left w hole a; whole = refl; under = omega (arith, h); from = refl }
+first-position (proj d w e) v m h = record { context = in-proj d w hole; whole = refl; under = omega (arith, h); from = refl }
+first-position (case w i e a b) v m h = record { context = in-case w i hole a b; whole = refl; under = omega (arith, h); from = refl }
+first-position (protect i e) v m h = record { context = in-protect i hole; whole = refl; under = omega (arith, h); from = refl }
+first-position (mu w i e) v m h = absurd (v .3 refl)
 
 -- a pair or an application, whose first operand is a value
 pub record Second (e : Term) : Type 0 where
-  pub position : Position e (second-operand e) (1 + size (first-operand e))
+  pub position : Position e (second-operand e) (1 + size (first-operand e)) 1
   pub sizes : size e ≡ 1 + (size (first-operand e) + size (second-operand e))
   pub applies : (kind-of e ≡ kinds.pair → ⊥) → kind-of e ≡ kinds.application
 

@@ -46,12 +46,12 @@ pub found-value : {S : Security} {tab : ℕ → Ty} {i d : ℕ} {e : Term} {n : 
 found-value (finds-value v n) = (v, n)
 
 -- an operand's place
-pub position-at : {s : Bytes} {i : ℕ} {e x : Term} {n : ℕ} (j : ℕ) → Position e x n → At s i e → j ≡ i + n → At s j x
-position-at {s} {i} {e} {x} {n} j p a h =
+pub position-at : {s : Bytes} {i : ℕ} {e x : Term} {n m : ℕ} (j : ℕ) → Position e x n m → At s i e → j ≡ i + n → At s j x
+position-at {s} {i} {e} {x} j p a h =
     let q : i + offset (p .context) ≡ j = omega (arith, p .from) in
     rw (← q) (hole-at (p .context) x a (p .whole))
 
-pub position-shallow : {e x : Term} {n : ℕ} (d : ℕ) → Position e x n → d + depth e ≤ depth-limit → d + 1 + depth x ≤ depth-limit
+pub position-shallow : {e x : Term} {n m : ℕ} (d : ℕ) → Position e x n m → d + depth e ≤ depth-limit → d + m + depth x ≤ depth-limit
 position-shallow {e} {x} d p h = omega (arith, p .under, ap depth (p .whole), plug-depth (p .context) x)
 
 -- what is no value
@@ -64,7 +64,7 @@ not-value (inr (inl e)) = absurd (omega arith)
 not-value (inr (inr e)) = absurd (omega arith)
 
 module _ (S : Security) (tab : ℕ → Ty) (i d : ℕ) (e : Term) where
-  lift-site : {x : Term} {n place around : ℕ} (j : ℕ) → j ≡ i + n → Position e x n → Site S tab j (d + 1) x place around → Site S tab i d e place around
+  lift-site : {x : Term} {n m place around : ℕ} (j : ℕ) → j ≡ i + n → Position e x n m → Site S tab j (d + m) x place around → Site S tab i d e place around
   lift-site j h p s =
       record {
         context = compose (p .context) (s .context);
@@ -77,7 +77,7 @@ module _ (S : Security) (tab : ℕ → Ty) (i d : ℕ) (e : Term) where
       }
 
   -- what is reported of the operand is reported of the whole term, as it is, unless it is a value
-  pub lift : {x : Term} {n : ℕ} {a : Found} (j : ℕ) → j ≡ i + n → Position e x n → Finds S tab j (d + 1) x a → Other a → Finds S tab i d e a
+  pub lift : {x : Term} {n m : ℕ} {a : Found} (j : ℕ) → j ≡ i + n → Position e x n m → Finds S tab j (d + m) x a → Other a → Finds S tab i d e a
   lift j h p (finds-value v n) k = not-value k
   lift j h p (finds-redex s) k = finds-redex (lift-site j h p s)
   lift {x} j h p (finds-denied q) k = finds-denied (ap (step S tab) (p .whole) ∙ plug-step S tab (p .context) x denied refl q)

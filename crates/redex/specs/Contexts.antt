@@ -15,7 +15,7 @@ use Rattle.calculus.specs.Reduction.{
   in-case,
 }
 use Rattle.rules.specs.Answer.{Bytes}
-use Rattle.rules.specs.Script.{script-record, encode, size, depth}
+use Rattle.rules.specs.Script.{script-record, encode, size, weight, depth}
 use Rattle.records.specs.Kinds as kinds
 
 -- the bytes before the hole
@@ -70,7 +70,7 @@ beside (pair-right k v h E) = 1 + (size v + beside E)
 beside (in-protect m E) = 1 + beside E
 beside (in-case w i E a b) = 1 + (beside E + (size a + size b))
 
--- the records around the hole: each is one level of depth
+-- the depth of the hole: each record around it is one level, and a case that finds its own type two
 unfoldable pub level : Context → ℕ
 level hole = 0
 level (app-left w E a) = 1 + level E
@@ -80,7 +80,7 @@ level (in-inj d k i E) = 1 + level E
 level (pair-left k E b) = 1 + level E
 level (pair-right k v h E) = 1 + level E
 level (in-protect m E) = 1 + level E
-level (in-case w i E a b) = 1 + level E
+level (in-case w i E a b) = weight i + level E
 
 -- the depth of the deepest record before or after the hole, 0 where there is none
 unfoldable pub depth-beside : Context → ℕ
@@ -93,4 +93,4 @@ depth-beside (in-inj d k i E) = 1 + depth-beside E
 depth-beside (pair-left k E b) = 1 + max (depth-beside E) (depth b)
 depth-beside (pair-right k v h E) = 1 + max (depth v) (depth-beside E)
 depth-beside (in-protect m E) = 1 + depth-beside E
-depth-beside (in-case w i E a b) = 1 + max (depth-beside E) (max (depth a) (depth b))
+depth-beside (in-case w i E a b) = weight i + max (depth-beside E) (max (depth a) (depth b))

@@ -17,13 +17,13 @@ use Rattle.redex.specs.Fates.{Fate, goes, not-permitted, wrong-kind, rea
 use Rattle.redex.specs.declared.Found.{Found}
 use Rattle.redex.specs.declared.Found.the-variants.{Value, Redex, Denied, Stuck}
 
--- A term stands at record i, with d records around it, and no record of it is deeper than a script's may be.
+-- A term stands at record i, d levels down, and no record of it is deeper than a script's may be.
 pub record Shallow (s : Bytes) (i d : ℕ) : Type 0 where
   pub tree : Term
   pub at : At s i tree
   pub shallow : d + depth tree ≤ depth-limit
 
--- the redex of e, which stands at record i with d records around it: the redex's own record, and the records around that one
+-- the redex of e, which stands at record i, d levels down: the own record of the redex, and how many levels down it stands
 pub record Site (S : Security) (tab : ℕ → Ty) (i d : ℕ) (e : Term) (place around : ℕ) : Type 0 where
   pub context : Context
   pub redex : Term
@@ -33,7 +33,7 @@ pub record Site (S : Security) (tab : ℕ → Ty) (i d : ℕ) (e : Term) (place 
   pub turn : So (ready redex)
   pub goes : fate S tab redex ≡ goes
 
--- what the search's answer says of the term e at record i, with d records around it
+-- what the answer of the search says of the term e at record i, d levels down
 pub data Finds (S : Security) (tab : ℕ → Ty) (i d : ℕ) (e : Term) : Found → Type 0 where
   -- e is a value, and the record after it is told
   finds-value : {end : ℕ} → So (is-value e) → end ≡ i + size e → Finds S tab i d e (Value end)

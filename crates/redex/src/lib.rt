@@ -26,7 +26,7 @@ ghost use Rattle.records.specs.Place.{At};
 ghost use Rattle.redex.specs.Fates.{is-function, fate};
 ghost use Rattle.redex.specs.Found.{Shallow, Finds, answer, is-destructor, takes-apart};
 
-// What the search for the redex reports: a value and the record after it; the redex and the number of records around it; or why no
+// What the search for the redex reports: a value and the record after it; the redex and its depth less one; or why no
 // step moves the term, a reader that may not (end 2) or a wrong kind (end 3).
 pub enum Found {
     Value(usize),
@@ -98,7 +98,7 @@ fn unrolling(types: &[u8], script: &[u8], at: usize, depth: usize) -> Found
     Found::Redex(at, depth)
 }
 
-// One pass from left to right over the term at record `at`, which has `depth` records around it. A value tells its end, so none is
+// One pass from left to right over the term at record `at`, which stands `depth` levels down. A value tells its end, so none is
 // passed over twice, and no call is deeper than the term.
 pub fn find(groups: &[u8], types: &[u8], script: &[u8], at: usize, depth: usize) -> Found
     requires { ⌜ Shallow (now script) at depth ⌝ }
@@ -118,7 +118,8 @@ pub fn find(groups: &[u8], types: &[u8], script: &[u8], at: usize, depth: usize)
     if kind == RECURSION {
         return unrolling(types, script, at, depth);
     }
-    let first = find(groups, types, script, at + 1, depth + 1);
+    let inside = depth + records::weight(script, at);
+    let first = find(groups, types, script, at + 1, inside);
     let Found::Value(next) = first else {
         return first;
     };

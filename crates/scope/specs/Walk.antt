@@ -5,7 +5,7 @@ use Prim.Native.Nat.{ℕ, suc}
 use lib.Dec.{eqb, leb, ltb}
 use Rattle.rules.specs.Answer.{Bytes, Answer, accepted, refused, _⇒_}
 use Rattle.rules.specs.Limits.{depth-limit}
-use Rattle.rules.specs.Script.{kind, number}
+use Rattle.rules.specs.Script.{kind, number, widened}
 use Rattle.records.specs.Kinds as kinds
 use Rattle.records.specs.Binders.{binds}
 
@@ -30,6 +30,10 @@ deeper q n = cond (asks-depth q) (suc n) n
 abbrev pub bound : ℕ → ℕ
 bound n = suc n
 
--- by how much the number of operand j, counted from 0, exceeds that of its record, which has this kind
-abbrev pub increment : ℕ → ℕ → ℕ → ℕ
-increment q kind j = cond (asks-depth q) 1 (binds kind j)
+-- a case's number, where its operands are one deeper still for a found type: at question 18 alone
+abbrev pub wide : ℕ → ℕ → ℕ → ℕ
+wide q i n = cond (asks-depth q) (widened i n) n
+
+-- by how much the number of operand j, counted from 0, exceeds that of its record, which has this weight and this kind
+abbrev pub increment : ℕ → ℕ → ℕ → ℕ → ℕ
+increment q weight kind j = cond (asks-depth q) weight (binds kind j)

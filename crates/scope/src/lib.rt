@@ -2,13 +2,13 @@
 
 use answer::Checked;
 ghost use mathlib.Core.Path.{_≡_};
-ghost use Prim.Native.Nat.{_+_, _≤_, _<_};
+ghost use Prim.Native.Nat.{_+_, _*_, _≤_, _<_};
 ghost use Rattle.calculus.specs.Terms.{Term};
 ghost use Rattle.rules.specs.Script.{records, encode, term, counts, q18, q19};
 ghost use Rattle.answer.specs.Said.{said};
 ghost use Rattle.records.specs.Place.{At, Here};
 ghost use Rattle.scope.specs.Said.{said-walk, said-asked};
-ghost use Rattle.scope.specs.Walk.{scan, passes, deeper, bound, increment};
+ghost use Rattle.scope.specs.Walk.{scan, passes, deeper, bound, wide, increment};
 
 pub const DEPTH_LIMIT: usize = 256;
 
@@ -43,12 +43,13 @@ fn passes(script: &[u8], question: u8, i: usize, n: usize) -> bool
     )
 }
 
-// By how much the number of operand j, counted from 0, exceeds that of its record, which has this kind.
-fn increment(question: u8, kind: u8, j: usize) -> usize
-    ensures { λ a. ⌜ (a ≡ increment question kind j) × (a ≤ 1) ⌝ }
+// By how much the number of operand j, counted from 0, exceeds that of its record, which has this weight and this kind.
+fn increment(question: u8, weight: usize, kind: u8, j: usize) -> usize
+    requires { ⌜ weight ≤ 2 ⌝ }
+    ensures { λ a. ⌜ (a ≡ increment question weight kind j) × (a ≤ 2) ⌝ }
 {
     if question == 18 {
-        return 1;
+        return weight;
     }
     records::binders(kind, j)
 }
@@ -56,19 +57,25 @@ fn increment(question: u8, kind: u8, j: usize) -> usize
 // Question 18 or 19 of the term at record i, in script order: n is the record's depth or its count of binders. No call is deeper
 // than the first record that is refused, and question 18 bounds the calls of question 19.
 fn walk(script: &[u8], question: u8, i: usize, n: usize) -> Walked
-    requires { ⌜ Here (now script) i × (n ≤ i + 1) ⌝ }
+    requires { ⌜ Here (now script) i × (n ≤ 2 * i + 1) ⌝ }
     ensures { λ a. ⌜ ((e : Term) → At (now (script .entry)) i e
-        → said-walk a ≡ scan question (passes question (now (script .entry))) i (counts (deeper question) bound n e)) ⌝ }
+        → said-walk a ≡ scan question (passes question (now (script .entry))) i (counts (wide question) (deeper question) bound n e)) ⌝ }
 {
     if !passes(script, question, i, n) {
         return Walked::Stopped(question, i);
     }
+    let weight = records::weight(script, i);
     let k = records::kind(script, i);
     let arity = records::arity(k);
     let mut next = i + 1;
     let mut j: usize = 0;
     while j < arity {
-        let a = walk(script, question, next, n + increment(question, k, j));
+        let a = walk(
+            script,
+            question,
+            next,
+            n + increment(question, weight, k, j),
+        );
         let Walked::Past(end) = a else {
             return a;
         };

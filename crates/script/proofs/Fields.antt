@@ -1,12 +1,12 @@
 -- Questions 14, 15 and 16 of one record, from the fields that the code has read.
 use mathlib.Core.Path.{_≡_, refl, ap, ap₂, _∙_}
-use mathlib.Core.Bool.{Bool, not, _&&_, _||_}
+use mathlib.Core.Bool.{Bool, true, false, not, _&&_, _||_}
 use Prim.Native.Nat.{ℕ}
 use lib.Dec.{eqb, leb, ltb}
 use Rattle.rules.specs.Answer.{Bytes, _⇒_}
 use Rattle.rules.specs.Groups.{rows, leq}
 use Rattle.rules.specs.Types.{type-count, type-kind}
-use Rattle.rules.specs.Script.{kind, r, ir, zero-byte, number, Signature, signature-of, ok14, ok15, ok16}
+use Rattle.rules.specs.Script.{kind, r, ir, zero-byte, number, Signature, signature-of, own-at, ok14, ok15, ok16}
 use Rattle.records.specs.Kinds as kinds
 use Rattle.answer.proofs.Implications.{not-or-implies}
 
@@ -43,10 +43,17 @@ module _ (s : Bytes) (i : ℕ) {k : ℕ} {f : Signature} (kind-is : k ≡ kind s
       three (ea ∙ below (ap (λ l. l .r) same-line) er en) (eb ∙ below (ap (λ l. l .ir) same-line) ei en)
       (not-or-implies (leb kinds.unit k && leb k kinds.second-injection) _ ∙ ap₂ (λ x y. leb kinds.unit x && leb x kinds.second-injection ⇒ y) kind-is ew)
 
-  pub ok16-is : (t : Bytes) {vn v : ℕ} {a : Bool} → vn ≡ number s i → v ≡ type-kind t (number s i) → a ≡ (f .typed ⇒ ltb vn (type-count t))
-      → (a && ((not (eqb k kinds.first-injection || eqb k kinds.second-injection) || eqb v 1) && (not (eqb k kinds.recursion) || eqb v 3))) ≡ ok16 t s i
+  -- a case that finds its own type names none
+  or-own : (own typed b : Bool) → (own || (typed ⇒ b)) ≡ (typed ⇒ own || b)
+  or-own true true b = refl
+  or-own true false b = refl
+  or-own false typed b = refl
+
+  pub ok16-is : (t : Bytes) {vn v : ℕ} {o a : Bool} → vn ≡ number s i → v ≡ type-kind t (number s i) → o ≡ own-at s i
+      → a ≡ (f .typed ⇒ ltb vn (type-count t))
+      → ((o || a) && ((not (eqb k kinds.first-injection || eqb k kinds.second-injection) || eqb v 1) && (not (eqb k kinds.recursion) || eqb v 3))) ≡ ok16 t s i
   unfolding ok16
-  ok16-is t en ev ea =
-      three (ea ∙ below (ap (λ l. l .typed) same-line) en refl)
+  ok16-is t en ev eo ea =
+      three (ap₂ _||_ eo (ea ∙ below (ap (λ l. l .typed) same-line) en refl) ∙ or-own (own-at s i) (signature-of (kind s i) .typed) _)
       (not-or-implies (eqb k kinds.first-injection || eqb k kinds.second-injection) _ ∙ ap₂ (λ x y. eqb x kinds.first-injection || eqb x kinds.second-injection ⇒ eqb y 1) kind-is ev)
       (not-or-implies (eqb k kinds.recursion) _ ∙ ap₂ (λ x y. eqb x kinds.recursion ⇒ eqb y 3) kind-is ev)

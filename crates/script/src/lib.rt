@@ -129,9 +129,11 @@ fn type_right(types: &[u8], script: &[u8], i: usize) -> bool
     let f = records::signature_of(k);
     let n = records::number(script, i);
     let named = type_kind(types, n);
+    let own = records::finds_own(script, i);
     let exists = answer::below_if(f.typed, records::index(n), types.len() / TYPE_WIDTH);
     let injects = (k == FIRST_INJECTION) | (k == SECOND_INJECTION);
-    exists & ((!injects | (named == types::SUM)) & ((k != RECURSION) | (named == types::FUNCTION)))
+    (own | exists)
+        & ((!injects | (named == types::SUM)) & ((k != RECURSION) | (named == types::FUNCTION)))
 }
 
 // 16. Does a named type exist, a sum for 4 and 5, a function for 11?

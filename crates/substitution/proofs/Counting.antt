@@ -13,6 +13,7 @@ use Rattle.rules.proofs.Prefix.{total}
 use Rattle.rules.proofs.Parts.{total-append}
 use Rattle.rules.proofs.TermCode.{term-operands, term-size-is}
 use Rattle.records.specs.Place.{At}
+use Rattle.records.specs.Weight.{weight-of}
 use Rattle.records.specs.Kinds as kinds
 use Rattle.records.proofs.Passing.{Passed, Ahead, started, passed-more, operand-here, split-at, whole}
 use Rattle.records.proofs.Stands.{kind-of, stands-kind}
@@ -51,7 +52,7 @@ module _ {i n : ℕ} {e v : Term} {j next sum below : ℕ} (p : Counted i n e v 
         below-is = omega (arith, p .below-is, m .deep, ap (greatest depth) u, greatest-append depth s (subst level v (a .operand) ∷ []));
       }
 
-  pub counted-bound : size v ≤ value-limit → (sum ≤ value-limit * size e) × (below < sum)
+  pub counted-bound : size v ≤ value-limit → (sum ≤ value-limit * size e) × (below < 2 * sum)
   counted-bound small =
       let q = p .passed in (
         omega
@@ -59,8 +60,9 @@ module _ {i n : ℕ} {e v : Term} {j next sum below : ℕ} (p : Counted i n e v 
         omega (arith, p .sum-is, p .below-is, greatest-records (under (kind-of e) n v 0 (q .before))),
       )
 
-  pub counted-all : (kind-of e ≡ kinds.variable → ⊥) → j ≡ length (term-operands e) → Measured i n e v (record { next = next; records = sum; depth = below + 1 })
-  counted-all h l =
+  pub counted-all : (kind-of e ≡ kinds.variable → ⊥) → j ≡ length (term-operands e) → (weight : ℕ) → weight ≡ weight-of e
+      → Measured i n e v (record { next = next; records = sum; depth = below + weight })
+  counted-all h l weight weighs =
       let q = p .passed in
       let w = whole q l in
       let u = ap (under (kind-of e) n v 0) w in

@@ -1,5 +1,5 @@
 -- Substitution, records and depth of a node by its operands, whatever its kind.
-use mathlib.Core.Path.{_≡_, refl, ap, _∙_}
+use mathlib.Core.Path.{_≡_, refl, ap, ap₂, _∙_}
 use mathlib.Core.Bool.{Bool, true, false, cond}
 use mathlib.Core.List.{List, [], _∷_, _++_}
 use Prim.Native.Nat.{ℕ, suc, _+_, _*_, _≤_, max}
@@ -15,7 +15,9 @@ use Rattle.rules.proofs.Parts.{all-of, total-append}
 use Rattle.rules.proofs.TermCode.{term-operands, term-head, term-induction, term-size-is, term-encode-is}
 use Rattle.records.specs.Kinds as kinds
 use Rattle.records.proofs.Stands.{kind-of}
+use Rattle.records.proofs.Weights.{weights}
 use Rattle.records.specs.Binders.{binds}
+use Rattle.records.specs.Weight.{weight-of}
 use Rattle.substitution.specs.Substituted.{value-limit}
 
 abbrev pub greatest : {T : Type 0} → (T → ℕ) → List T → ℕ
@@ -26,7 +28,7 @@ pub greatest-append : {T : Type 0} (f : T → ℕ) (xs ys : List T) → greatest
 greatest-append f [] ys = omega arith
 greatest-append f (x ∷ xs) ys = omega (arith, greatest-append f xs ys)
 
-pub term-depth-is : (e : Term) → depth e ≡ suc (greatest depth (term-operands e))
+pub term-depth-is : (e : Term) → depth e ≡ weight-of e + greatest depth (term-operands e)
 unfolding depth
 term-depth-is (var n) = refl
 term-depth-is (unit k) = refl
@@ -75,22 +77,23 @@ under-append k n v j (x ∷ xs) ys =
 -- Substitution keeps a node's record and goes to its operands.
 pub record Node (n : ℕ) (v e : Term) : Type 0 where
   pub head : term-head (subst n v e) ≡ term-head e
+  pub weight : weight-of (subst n v e) ≡ weight-of e
   pub operands : term-operands (subst n v e) ≡ under (kind-of e) n v 0 (term-operands e)
 
 pub subst-node : (n : ℕ) (v e : Term) → (kind-of e ≡ kinds.variable → ⊥) → Node n v e
 unfolding subst binds
 subst-node n v (var m) h = absurd (h refl)
-subst-node n v (unit k) h = record { head = refl; operands = refl }
-subst-node n v (lam k i e) h = record { head = refl; operands = rw (add-one n) }
-subst-node n v (pair k a b) h = record { head = refl; operands = rw (add-zero n) }
-subst-node n v (inj first k i e) h = record { head = refl; operands = rw (add-zero n) }
-subst-node n v (inj second k i e) h = record { head = refl; operands = rw (add-zero n) }
-subst-node n v (app w f a) h = record { head = refl; operands = rw (add-zero n) }
-subst-node n v (proj first w e) h = record { head = refl; operands = rw (add-zero n) }
-subst-node n v (proj second w e) h = record { head = refl; operands = rw (add-zero n) }
-subst-node n v (case w i e a b) h = record { head = refl; operands = rw (add-zero n, add-one n) }
-subst-node n v (protect m e) h = record { head = refl; operands = rw (add-zero n) }
-subst-node n v (mu w i e) h = record { head = refl; operands = rw (add-one n) }
+subst-node n v (unit k) h = record { head = refl; weight = refl; operands = refl }
+subst-node n v (lam k i e) h = record { head = refl; weight = refl; operands = rw (add-one n) }
+subst-node n v (pair k a b) h = record { head = refl; weight = refl; operands = rw (add-zero n) }
+subst-node n v (inj first k i e) h = record { head = refl; weight = refl; operands = rw (add-zero n) }
+subst-node n v (inj second k i e) h = record { head = refl; weight = refl; operands = rw (add-zero n) }
+subst-node n v (app w f a) h = record { head = refl; weight = refl; operands = rw (add-zero n) }
+subst-node n v (proj first w e) h = record { head = refl; weight = refl; operands = rw (add-zero n) }
+subst-node n v (proj second w e) h = record { head = refl; weight = refl; operands = rw (add-zero n) }
+subst-node n v (case w i e a b) h = record { head = refl; weight = refl; operands = rw (add-zero n, add-one n) }
+subst-node n v (protect m e) h = record { head = refl; weight = refl; operands = rw (add-zero n) }
+subst-node n v (mu w i e) h = record { head = refl; weight = refl; operands = rw (add-one n) }
 
 pub subst-var : (n : ℕ) (v : Term) (m : ℕ) → subst n v (var m) ≡ cond (eqb m n) v (var m)
 unfolding subst
@@ -100,8 +103,8 @@ module _ (n : ℕ) (v e : Term) (h : kind-of e ≡ kinds.variable → ⊥) where
   pub subst-size : size (subst n v e) ≡ suc (total size (under (kind-of e) n v 0 (term-operands e)))
   subst-size = term-size-is (subst n v e) ∙ ap (λ es. suc (total size es)) (subst-node n v e h .operands)
 
-  pub subst-depth : depth (subst n v e) ≡ suc (greatest depth (under (kind-of e) n v 0 (term-operands e)))
-  subst-depth = term-depth-is (subst n v e) ∙ ap (λ es. suc (greatest depth es)) (subst-node n v e h .operands)
+  pub subst-depth : depth (subst n v e) ≡ weight-of e + greatest depth (under (kind-of e) n v 0 (term-operands e))
+  subst-depth = term-depth-is (subst n v e) ∙ ap₂ (λ m es. m + greatest depth es) (subst-node n v e h .weight) (subst-node n v e h .operands)
 
   pub subst-encode : encode (subst n v e) ≡ term-head e ++ joined encode (under (kind-of e) n v 0 (term-operands e))
   subst-encode =
@@ -114,17 +117,17 @@ pub operand-size : (e : Term) (before : List Term) (d : Term) (after : List Term
 operand-size e before d after s = omega (arith, term-size-is e, ap (total size) s, total-append size before (d ∷ after))
 
 pub operand-depth : (e : Term) (before : List Term) (d : Term) (after : List Term) → term-operands e ≡ before ++ d ∷ after → suc (depth d) ≤ depth e
-operand-depth e before d after s = omega (arith, term-depth-is e, ap (greatest depth) s, greatest-append depth before (d ∷ after))
+operand-depth e before d after s = omega (arith, term-depth-is e, weights e .0, ap (greatest depth) s, greatest-append depth before (d ∷ after))
 
--- no term is deeper than it has records
-greatest-total : (es : List Term) → All (λ e. depth e ≤ size e) es → greatest depth es ≤ total size es
+-- no term is deeper than twice its records: a case that finds its own type weighs two
+greatest-total : (es : List Term) → All (λ e. depth e ≤ 2 * size e) es → greatest depth es ≤ 2 * total size es
 greatest-total [] h = omega arith
 greatest-total (e ∷ es) h = omega (arith, h .0, greatest-total es (h .1))
 
-pub depth-size : (e : Term) → depth e ≤ size e
-depth-size = term-induction (λ e. depth e ≤ size e) λ e h. omega (arith, term-depth-is e, term-size-is e, greatest-total (term-operands e) h)
+pub depth-size : (e : Term) → depth e ≤ 2 * size e
+depth-size = term-induction (λ e. depth e ≤ 2 * size e) λ e h. omega (arith, term-depth-is e, weights e .1, term-size-is e, greatest-total (term-operands e) h)
 
-pub greatest-records : (es : List Term) → greatest depth es ≤ total size es
+pub greatest-records : (es : List Term) → greatest depth es ≤ 2 * total size es
 greatest-records es = greatest-total es (all-of _ depth-size es)
 
 -- A value puts at most its own records in the place of each record.

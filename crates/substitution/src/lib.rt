@@ -89,7 +89,7 @@ pub fn measure(script: &[u8], i: usize, n: u16, records: usize, deep: usize) -> 
         below = larger(below, x.depth);
         j += 1;
     }
-    let depth = below + 1;
+    let depth = below + records::weight(script, i);
     Extent {
         next,
         records: sum,

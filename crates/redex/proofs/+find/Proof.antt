@@ -15,8 +15,9 @@ use Rattle.records.specs.Place.{At}
 use Rattle.redex.specs.declared.Found.{Found}
 use Rattle.records.specs.Operands.{first-operand, second-operand}
 use Rattle.redex.specs.Found.{Finds, finds-value, is-destructor, is-injection}
+use Rattle.records.proofs.Weights.{weights, stands-weight}
 use Rattle.records.proofs.Stands.{kind-of, there, stands-kind, here}
-use Rattle.redex.proofs.Forms.{Evaluates, first-position, Second, second-position, unit-value, function-value, pair-value, injection-value}
+use Rattle.redex.proofs.Forms.{Position, Evaluates, first-position, Second, second-position, unit-value, function-value, pair-value, injection-value}
 use Rattle.redex.proofs.Forms.{variable-turn, recursion-turn, protect-turn, application-turn, destructor-turn, application-reads}
 use Rattle.redex.proofs.Searches.{found-value, position-at, position-shallow, lift, fired}
 use Prim.Native.Nat.{ℕ, _+_, _-_, _<_}
@@ -29,6 +30,7 @@ use Rattle.records.proofs.end_of.Reads as end-of-reads
 use Rattle.redex.proofs.reading.Reads as reading-reads
 use Rattle.redex.proofs.unrolling.Reads as unrolling-reads
 use Rattle.records.proofs.kind.Reads as kind-reads
+use Rattle.records.proofs.weight.Reads as weight-reads
 use Rattle.redex.proofs.+find.{statement}
 use Rattle.redex.proofs.+find.Tie.{close}
 
@@ -43,7 +45,7 @@ find-below t = and 3 find-kinds.ps (falls 3 find-kinds.ps _<_ μ-find t) find.Pr
 
 -- what `find` is given of the functions that it calls
 abbrev find-claims : ℕ → find-lts.Claims
-find-claims t = (kind-reads.Asked, kind-reads.Learnt, end-of-reads.Asked, end-of-reads.Learnt, unrolling-reads.Asked, unrolling-reads.Learnt, find-below t, find.Post, reading-reads.Asked, reading-reads.Learnt)
+find-claims t = (kind-reads.Asked, kind-reads.Learnt, end-of-reads.Asked, end-of-reads.Learnt, unrolling-reads.Asked, unrolling-reads.Learnt, weight-reads.Asked, weight-reads.Learnt, find-below t, find.Post, reading-reads.Asked, reading-reads.Learnt)
 
 module _ (t : ℕ) where
   abbrev Start : Type 0
@@ -92,18 +94,28 @@ module _ (t : ℕ) where
       )
 
   first-at : (c : Opened) (e : Term) → U (opened c) e → At (opened c .args .script .now) (opened c .args .at + 1) (first-operand e)
-  first-at c e a = position-at _ (first-position e (evaluates c e a)) a refl
+  first-at c e a = position-at _ (first-position e (evaluates c e a) _ refl) a refl
 
   -- the record after that of a node with an operand
   first-there : (c : Opened) → opened c .args .at + 1 < records (opened c .args .script .now)
   first-there c = there _ _ _ (first-at c _ (opened c .pre .1 .at))
 
+  -- its depth is known
+  abbrev Weighed : Type 0
+  Weighed = find-lts.After-weight (find-claims t) (find-at t) find.Post
+
+  first-of : (c : Weighed) (e : Term) → U (opened (c .before)) e → Position e (first-operand e) 1 (c .weight .result)
+  first-of c e a = first-position e (evaluates (c .before) e a) _ (c .weight .ensures .0 ∙ stands-weight a)
+
   -- the first operand is a value
   abbrev First-value : Type 0
   First-value = find-lts.After-known-told (find-claims t) (find-at t) find.Post
 
+  abbrev weighed : First-value → Weighed
+  weighed c = c .before .before .before .before
+
   abbrev opening : First-value → Opened
-  opening c = c .before .before .before .before
+  opening c = weighed c .before
 
   abbrev first-end : First-value → ℕ
   first-end c = c .before .first .given .0 .0
@@ -112,7 +124,7 @@ module _ (t : ℕ) where
   first-found c e a =
       let s = opened (opening c) in
       found-value
-      (subst (λ (x : Found). Finds (S s) (tab s) (s .args .at + 1) (s .args .depth + 1) (first-operand e) x)
+      (subst (λ (x : Found). Finds (S s) (tab s) (s .args .at + 1) (s .args .depth + weighed c .weight .result) (first-operand e) x)
       (c .before .first .given .1)
       (c .before .before .before .find .ensures (first-operand e) (first-at (opening c) e a)))
 
@@ -160,8 +172,8 @@ module _ (t : ℕ) where
       let v = variable-turn (S (entry g)) (tab (entry g)) e (sym (kind-is g e a) ∙ c .if1 .taken) in
       fired (S (entry g)) (tab (entry g)) _ _ e (v .0) (rw (v .1))
 
-  find-add-t12 : find-lts.Need-add-t12 (find-claims t) (find-at t) find.Post
-  find-add-t12 c = let g = c .before .before in omega (arith, record-there (entry g), entry g .good)
+  find-add-t13 : find-lts.Need-add-t13 (find-claims t) (find-at t) find.Post
+  find-add-t13 c = let g = c .before .before in omega (arith, record-there (entry g), entry g .good)
 
   find-returns-2 : find-lts.Need-returns-2 (find-claims t) (find-at t) find.Post
   find-returns-2 c e a =
@@ -187,18 +199,23 @@ module _ (t : ℕ) where
       let v = recursion-turn (S (entry g)) (tab (entry g)) e (sym (kind-is g e a) ∙ c .before .if4 .taken) in
       fired (S (entry g)) (tab (entry g)) _ _ e (v .0) (c .unrolling .ensures (S (entry g)) e a (sym (g .kind .ensures) ∙ c .before .if4 .taken))
 
-  find-add-find : find-lts.Need-add-find (find-claims t) (find-at t) find.Post
-  find-add-find c = omega (arith, record-there (opened c), opened c .good)
+  find-weight-requires : find-lts.Need-weight-requires (find-claims t) (find-at t) find.Post
+  find-weight-requires c κs = record-there (opened c)
 
-  find-add-find-2 : find-lts.Need-add-find-2 (find-claims t) (find-at t) find.Post
-  find-add-find-2 c = omega (arith, opened c .pre .1 .shallow)
+  find-add-inside : find-lts.Need-add-inside (find-claims t) (find-at t) find.Post
+  find-add-inside c = omega (arith, opened (c .before) .pre .1 .shallow, c .weight .ensures .1)
+
+  find-add-find : find-lts.Need-add-find (find-claims t) (find-at t) find.Post
+  find-add-find c = omega (arith, record-there (opened (c .before)), opened (c .before) .good)
 
   find-find-requires : find-lts.Need-find-requires (find-claims t) (find-at t) find.Post
   find-find-requires c κs =
-      let g = opened c in
+      let g = opened (c .before) in
       let e = g .pre .1 .tree in
-      let h = position-shallow (g .args .depth) (first-position e (evaluates c e (g .pre .1 .at))) (g .pre .1 .shallow) in
-      (omega arith, record { tree = first-operand e; at = first-at c e (g .pre .1 .at); shallow = h })
+      let h = position-shallow (g .args .depth) (first-of c e (g .pre .1 .at)) (g .pre .1 .shallow) in (
+        omega (arith, g .pre .0, h, c .weight .ensures .0, stands-weight (g .pre .1 .at), weights e .0),
+        record { tree = first-operand e; at = first-at (c .before) e (g .pre .1 .at); shallow = h },
+      )
 
   find-enum-known-first : find-lts.Need-enum-known-first (find-claims t) (find-at t) find.Post
   find-enum-known-first c = search needs
@@ -206,9 +223,9 @@ module _ (t : ℕ) where
   find-returns-5 : find-lts.Need-returns-5 (find-claims t) (find-at t) find.Post
   find-returns-5 c e a =
       let f = c .before .before in
-      let g = opened f in
-      lift (S g) (tab g) (g .args .at) (g .args .depth) e (g .args .at + 1) refl (first-position e (evaluates f e a))
-      (c .before .find .ensures (first-operand e) (first-at f e a)) (c .match .keys2)
+      let g = opened (f .before) in
+      lift (S g) (tab g) (g .args .at) (g .args .depth) e (g .args .at + 1) refl (first-of f e a)
+      (c .before .find .ensures (first-operand e) (first-at (f .before) e a)) (c .match .keys2)
 
   find-returns-6 : find-lts.Need-returns-6 (find-claims t) (find-at t) find.Post
   find-returns-6 c e a =
@@ -237,8 +254,8 @@ module _ (t : ℕ) where
       let v = destructor-turn e (evaluates (opening f) e a) (λ h. c .before .before .if6 .left (q ∙ h)) (rw (← q) (c .before .if7 .taken)) (first-found f e a .0) in
       fired (S g) (tab g) _ _ e (v .0) (c .reading .ensures (tab g) e a (ap is-destructor (stands-kind _ _ e a) ∙ v .1))
 
-  find-add-find-3 : find-lts.Need-add-find-3 (find-claims t) (find-at t) find.Post
-  find-add-find-3 c = omega (arith, two c .pre .1 .shallow)
+  find-add-find-2 : find-lts.Need-add-find-2 (find-claims t) (find-at t) find.Post
+  find-add-find-2 c = omega (arith, two c .pre .1 .shallow)
 
   find-find-requires-2 : find-lts.Need-find-requires-2 (find-claims t) (find-at t) find.Post
   find-find-requires-2 c κs =
@@ -284,14 +301,15 @@ pub +find-spec : {M : Type 1} → statement M
     find.Post
     (find-kind-requires t)
     (find-returns t)
-    (find-add-t12 t)
+    (find-add-t13 t)
     (find-returns-2 t)
     (find-end-of-requires t)
     (find-returns-3 t)
     (find-unrolling-requires t)
     (find-returns-4 t)
+    (find-weight-requires t)
+    (find-add-inside t)
     (find-add-find t)
-    (find-add-find-2 t)
     (find-find-requires t)
     (find-enum-known-first t)
     (find-returns-5 t)
@@ -299,7 +317,7 @@ pub +find-spec : {M : Type 1} → statement M
     (find-returns-7 t)
     (find-reading-requires t)
     (find-returns-8 t)
-    (find-add-find-3 t)
+    (find-add-find-2 t)
     (find-find-requires-2 t)
     (find-enum-known-second t)
     (find-returns-9 t)

@@ -1,5 +1,5 @@
 -- `scope::walk` meets its contract: the loop has scanned the first j operands. The measure is what is left of the script.
-use mathlib.Core.Path.{_≡_, sym, ap, _∙_}
+use mathlib.Core.Path.{_≡_, sym, ap, ap₂, _∙_}
 use mathlib.Core.Bool.{true}
 use Prim.Native.Nat.{ℕ, _+_, _-_, _≤_, _<_}
 use native.Mathlib.Omega.{arith}
@@ -11,6 +11,8 @@ use lib.ListN.{length}
 use Rattle.calculus.specs.Terms.{Term}
 use Rattle.rules.specs.Script.{arity}
 use Rattle.records.specs.Place.{At}
+use Rattle.records.specs.Weight.{weight-of}
+use Rattle.records.proofs.Weights.{stands-weight}
 use Rattle.records.proofs.Passing.{Ahead, ahead, operand-here}
 use Rattle.records.proofs.Stands.{operands, kind-of, here, there, stands-kind, stands-arity}
 use Rattle.scope.specs.Said.{said-walk}
@@ -19,6 +21,7 @@ use Rattle.scope.proofs.Walks.{scanned, refuse, Reached, reach, end, st
 use Rattle.scope.proofs.walk.Reads as walk
 use Rattle.scope.proofs.walk.Kinds as walk-kinds
 use Rattle.scope.proofs.+walk.Lts-walk as lts
+use Rattle.records.proofs.weight.Reads as weight-reads
 use Rattle.records.proofs.kind.Reads as kind-reads
 use Rattle.records.proofs.arity.Reads as arity-reads
 use Rattle.scope.proofs.passes.Reads as passes-reads
@@ -36,17 +39,19 @@ abbrev walk-below : ℕ → In 1 walk-kinds.ps
 walk-below t = and 1 walk-kinds.ps (falls 1 walk-kinds.ps _<_ μ-walk t) walk.Pre
 
 abbrev Inv-loop : lts.InvT-loop
-Inv-loop script question i n k arity next₀ j₀ next j =
+Inv-loop script question i n weight k arity next₀ j₀ next j =
     (j ≤ arity) × ((u : Term) → At script i u → Reached question script i n u j next)
 
 abbrev μ-loop : lts.MeasureT-loop
-μ-loop script question i n k arity next₀ j₀ next j = arity - j
+μ-loop script question i n weight k arity next₀ j₀ next j = arity - j
 
 -- what `walk` is given of the functions that it calls
 abbrev claims : ℕ → lts.Claims
 claims t = (
   passes-reads.Asked,
   passes-reads.Learnt,
+  weight-reads.Asked,
+  weight-reads.Learnt,
   kind-reads.Asked,
   kind-reads.Learnt,
   arity-reads.Asked,
@@ -79,10 +84,10 @@ module _ (t : ℕ) where
 
   -- the record passes
   abbrev entry : Known → Start
-  entry c = c .before .before .before .before .before
+  entry c = c .before .before .before .before .before .before
 
   passed : (c : Known) → passes (entry c .args .question) (entry c .args .script .now) (entry c .args .i) (entry c .args .n) ≡ true
-  passed c = sym (c .before .before .before .passes .ensures) ∙ not-false _ (c .before .before .if1 .left)
+  passed c = sym (c .before .before .before .before .passes .ensures) ∙ not-false _ (c .before .before .before .if1 .left)
 
   arity-is : (c : Known) (u : Term) → Stands (entry c) u → c .arity .result ≡ operands u
   arity-is c u w = c .arity .ensures .0 ∙ ap arity (c .before .kind .ensures) ∙ stands-arity _ _ _ w
@@ -105,11 +110,12 @@ module _ (t : ℕ) where
     ahead-of : Ahead (so-far .passed)
     ahead-of = ahead (so-far .passed) (omega (arith, c .before .loop-test .taken, arity-is (known c) u w))
 
-    number-is : number c ≡ start c .args .n + increment (start c .args .question) (kind-of u) (c .before .before .loop .j)
+    number-is : number c ≡ start c .args .n + increment (start c .args .question) (weight-of u) (kind-of u) (c .before .before .loop .j)
     number-is =
         ap (λ b. start c .args .n + b)
         (c .increment .ensures .0
-        ∙ ap (λ k. increment (start c .args .question) k (c .before .before .loop .j)) (known c .before .kind .ensures ∙ stands-kind _ _ _ w))
+        ∙ ap₂ (λ m k. increment (start c .args .question) m k (c .before .before .loop .j))
+        (known c .before .before .weight .ensures .0 ∙ stands-weight w) (known c .before .kind .ensures ∙ stands-kind _ _ _ w))
 
   operand-scan : (c : Turned) (u : Term) (w : Stands (start (c .before)) u)
       → said-walk (c .walk .result)
@@ -125,8 +131,11 @@ module _ (t : ℕ) where
       let a = c .before .before .before .args in
       refuse (a .question) (a .script .now) (a .i) (a .n) u (sym (c .before .passes .ensures) ∙ not-true _ (c .if1 .taken))
 
+  weight-requires : lts.Need-weight-requires (claims t) (walk-at t) walk.Post Inv-loop μ-loop
+  weight-requires c κs = there _ _ _ (given (c .before .before .before))
+
   kind-requires : lts.Need-kind-requires (claims t) (walk-at t) walk.Post Inv-loop μ-loop
-  kind-requires c κs = there _ _ _ (given (c .before .before .before))
+  kind-requires c κs = there _ _ _ (given (c .before .before .before .before))
 
   arity-requires : lts.Need-arity-requires (claims t) (walk-at t) walk.Post Inv-loop μ-loop
   arity-requires c κs = search needs
@@ -189,6 +198,7 @@ pub +walk-spec : {M : Type 1} → statement M
     lts.spec (claims t) (walk-at t) walk.Post Inv-loop μ-loop
     (passes-requires t)
     (returns t)
+    (weight-requires t)
     (kind-requires t)
     (arity-requires t)
     (add-next t)

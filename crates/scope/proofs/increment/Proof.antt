@@ -13,7 +13,7 @@ binders-requires : tie.Need-binders-requires
 binders-requires c κs = search needs
 
 returns-2 : tie.Need-returns-2
-returns-2 c = (c .binders .ensures .0 ∙ at-scope _ _ _ (c .before .if1 .left), c .binders .ensures .1)
+returns-2 c = (c .binders .ensures .0 ∙ at-scope _ _ _ (c .before .if1 .left), omega (arith, c .binders .ensures .1))
 
 pub increment-spec : {M : Type 1} → statement M
 increment-spec = tie.close (tie.spec returns binders-requires returns-2)

@@ -13,6 +13,7 @@ use Rattle.rules.proofs.TermCode.{term-operands}
 use Rattle.records.specs.Place.{At}
 use Rattle.records.specs.Kinds as kinds
 use Rattle.records.proofs.Passing.{Ahead, ahead, operand-here}
+use Rattle.records.proofs.Weights.{stands-weight}
 use Rattle.records.proofs.Stands.{kind-of, there, stands-kind, stands-arity}
 use Rattle.records.specs.Binders.{binds}
 use Rattle.substitution.specs.Substituted.{value-limit, Sizes}
@@ -21,6 +22,7 @@ use Rattle.substitution.proofs.measure.Reads as measure
 use Rattle.substitution.proofs.measure.Kinds as measure-kinds
 use Rattle.substitution.proofs.+measure.Lts-measure as lts
 use Rattle.records.proofs.kind.Reads as kind-reads
+use Rattle.records.proofs.weight.Reads as weight-reads
 use Rattle.records.proofs.binders.Reads as binders-reads
 use Rattle.substitution.proofs.larger.Reads as larger-reads
 use Rattle.substitution.proofs.measure_variable.Reads as measure-variable-reads
@@ -59,6 +61,8 @@ claims t = (
   measure.Post,
   larger-reads.Asked,
   larger-reads.Learnt,
+  weight-reads.Asked,
+  weight-reads.Learnt,
 )
 
 small-value : {s : Bytes} {i n records deep : ℕ} (q : Sizes s i n records deep) → size (q .value) ≤ value-limit
@@ -177,16 +181,24 @@ module _ (t : ℕ) where
   loop-again : lts.Need-loop-again (claims t) (measure-at t) measure.Post Inv-loop μ-loop
   loop-again c = (omega arith, λ u v a e f. rw (c .larger .ensures) (so-far-next (c .before .before) u v a e f))
 
+  -- after the last turn
+  abbrev entered : lts.After-weight (claims t) (measure-at t) measure.Post Inv-loop μ-loop → Known
+  entered c = c .before .before .before
+
+  weight-requires : lts.Need-weight-requires (claims t) (measure-at t) measure.Post Inv-loop μ-loop
+  weight-requires c κs = there _ _ _ (sizes (entry (c .before .before)) .at)
+
   add-depth : lts.Need-add-depth (claims t) (measure-at t) measure.Post Inv-loop μ-loop
   add-depth c =
-      let q = sizes (c .before .before .before .before .before .before) in
-      let b = counted-bound (c .before .loop .inv .1 _ _ (q .at) (q .records-of) (q .depth-of)) (small-value q) in
-      omega (arith, b .0, b .1, q .small)
+      let q = sizes (entry (entered c)) in
+      let b = counted-bound (c .before .before .loop .inv .1 _ _ (q .at) (q .records-of) (q .depth-of)) (small-value q) in
+      omega (arith, b .0, b .1, q .small, c .weight .ensures .1)
 
   returns-2 : lts.Need-returns-2 (claims t) (measure-at t) measure.Post Inv-loop μ-loop
   returns-2 c u v a e f =
-      counted-all (c .before .loop .inv .1 u v a e f) (other-kind (c .before .before) u a)
-      (omega (arith, c .before .loop .inv .0, c .loop-test .left, count-is (c .before .before) u a))
+      let l = c .before .before .loop in
+      counted-all (l .inv .1 u v a e f) (other-kind (entered c) u a) (omega (arith, l .inv .0, c .before .loop-test .left, count-is (entered c) u a))
+      (c .weight .result) (c .weight .ensures .0 ∙ stands-weight a)
 
 pub +measure-spec : {M : Type 1} → statement M
 +measure-spec =
@@ -207,5 +219,6 @@ pub +measure-spec : {M : Type 1} → statement M
     (add-j t)
     (loop-less t)
     (loop-again t)
+    (weight-requires t)
     (add-depth t)
     (returns-2 t)
