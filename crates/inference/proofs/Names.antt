@@ -1,17 +1,23 @@
 -- The types that a formed node names.
 use mathlib.Core.Path.{_≡_, sym, ap, _∙_, subst}
+use mathlib.Core.Bool.{false, _&&_}
 use Prim.Native.Nat.{ℕ, suc, _+_, _*_, _<_}
 use native.Mathlib.Omega.{arith}
+use lib.Dec.{eqb}
 use lib.Seq.{getD-drop}
 use Rattle.calculus.specs.Security.{Property}
 use Rattle.calculus.specs.Types.{sum, function}
+use Rattle.calculus.specs.Typing.{finds-own}
 use Rattle.calculus.specs.Terms.{Side, Term, lam, inj, case, mu}
 use Rattle.rules.specs.Limits.{type-width}
 use Rattle.rules.specs.Answer.{Bytes, byte}
 use Rattle.rules.specs.Types.{former-kind, type-count, type-kind, type-at}
+use Rattle.rules.specs.Script.{number, own-at}
+use Rattle.records.specs.Kinds as kinds
 use Rattle.types.specs.Held.{kind-of}
 use Rattle.inference.specs.Operands.{Formed}
 use Rattle.inference.specs.Memory.{Table, Named, Named-sided}
+use Rattle.inference.specs.Stages.{Case}
 use Rattle.types.proofs.Parts.{kind-is}
 
 pub named : {types : Bytes} {i : ℕ} → Table types → i < type-count types → Named types i
@@ -41,6 +47,10 @@ module _ (t : Bytes) (b i : ℕ) (e : Term) (f : Formed t b e) where
   unfolding Formed
   mu-index p = subst (λ d. Formed t b d) p f .0
 
-  pub case-index : {w : ℕ} {a x y : Term} → e ≡ case w i a x y → i < type-count t
+  pub case-index : {w : ℕ} {a x y : Term} → e ≡ case w i a x y → finds-own i ≡ false → i < type-count t
   unfolding Formed
   case-index p = subst (λ d. Formed t b d) p f .0
+
+-- whether a case finds its own type is told by its number alone
+pub owns : {types s : Bytes} → Case types s → own-at s 0 ≡ finds-own (number s 0)
+owns {s = s} c = ap (λ k. eqb k kinds.case && finds-own (number s 0)) (c .kind-is)

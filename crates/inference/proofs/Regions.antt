@@ -88,11 +88,18 @@ held-lent {t} a w y h l m =
       is = sym (ap (λ z. z ++ drop (type-width * sizeT t) (take a w ++ y)) (sym (held-take h) ∙ sym (take-append-le (type-width * sizeT t) (take a w) y (omega (arith, length-take-le a w m)) ∙ take-take (type-width * sizeT t) a w l)) ∙ take-append-drop (type-width * sizeT t) (take a w ++ y));
     }
 
-pub sized-lent : {t : Ty} {n : ℕ} (a : ℕ) (w y : Bytes) → Sized w n t → answer-length ≤ a → a ≤ length w → Sized (take a w ++ y) n t
-sized-lent a w y s l m = record { held = held-lent a w y (s .held) (omega (arith, s .small)) m; small = s .small; count = s .count }
+pub slot-lent : {t : Ty} (a : ℕ) (w y : Bytes) → Slot w t → answer-length ≤ a → a ≤ length w → Slot (take a w ++ y) t
+slot-lent a w y s l m = record { held = held-lent a w y (s .held) (omega (arith, s .small)) m; small = s .small }
+
+-- a piece written behind the front
+pub slot-before : {t : Ty} (at : ℕ) (x : Bytes) {w w′ : Bytes} → Slot w t → answer-length ≤ at → at ≤ length w → w′ ≡ splice at x w → Slot w′ t
+slot-before at x {w} s l m e = rw e (slot-lent at w (x ++ drop (at + length x) w) s l m)
 
 abbrev pub slot-of : {t : Ty} {n : ℕ} {l : Bytes} → Sized l n t → Slot l t
 slot-of s = record { held = s .held; small = s .small }
+
+pub sized-lent : {t : Ty} {n : ℕ} (a : ℕ) (w y : Bytes) → Sized w n t → answer-length ≤ a → a ≤ length w → Sized (take a w ++ y) n t
+sized-lent a w y s l m = record { held = slot-lent a w y (slot-of s) l m .held; small = s .small; count = s .count }
 
 -- one binder more
 pub push : {t : Ty} {Γ : List Ty} {l hi : Bytes} → Slot l t → length l ≡ answer-length + length hi → drop answer-length l ≡ hi → Holds Γ hi → Holds (t ∷ Γ) l

@@ -1,6 +1,6 @@
 -- What the rule functions ask, and what they leave in the work buffer.
 use mathlib.Core.Path.{_≡_, refl, sym, ap, _∙_, subst}
-use mathlib.Core.Bool.{Bool, true, false}
+use mathlib.Core.Bool.{Bool, true, false, cond}
 use mathlib.Core.List.{List, [], _∷_, _++_}
 use Prim.Native.Nat.{ℕ, _+_, _*_, _≤_, _<_}
 use native.Mathlib.Omega.{arith}
@@ -11,10 +11,12 @@ use lib.Seq.{drop-at}
 use Rattle.calculus.specs.Security.{Property, Security}
 use Rattle.calculus.specs.Types.{Former, sum, product, function, Ty, one, node, sizeT, same, top, raiseT, type-limit}
 use Rattle.calculus.specs.Subtyping.{subtype, below}
+use Rattle.calculus.specs.Common.{common}
+use Rattle.calculus.specs.Typing.{finds-own}
 use Rattle.rules.specs.Limits.{answer-length, type-width}
-use Rattle.rules.specs.Answer.{Bytes, Answer, accepted, refused, _>>_, ask}
+use Rattle.rules.specs.Answer.{Bytes, Answer, accepted, refused, _>>=_, _>>_, ask}
 use Rattle.rules.specs.Types.{former-kind, encode-type}
-use Rattle.rules.specs.Typing.{has-form, left, right, q21, q23, q24}
+use Rattle.rules.specs.Typing.{has-form, left, right, q21, q22, q23, q24, q22-of-branch, found-or, branch-type}
 use Rattle.types.specs.Held.{kind-of}
 use Rattle.memory.specs.Splice.{splice}
 use Rattle.memory.proofs.Laws.{join-before, join-after}
@@ -23,7 +25,7 @@ use Rattle.answer.specs.declared.Checked.{Checked}
 use Rattle.answer.specs.declared.Checked.the-variants as checked
 use Rattle.answer.proofs.Passed.{No}
 use Rattle.inference.specs.Memory.{Sized, Wrote, Meets, finds, refuses, Entered, Enters, refusal}
-use Rattle.inference.specs.Stages.{wanting, may-read, may-recur, function-type, pair-type}
+use Rattle.inference.specs.Stages.{wanting, may-read, may-recur, function-type, pair-type, result-type, case-type}
 use Rattle.inference.specs.declared.Found.{Found}
 use Rattle.inference.specs.declared.Found.the-variants.{Typed, Refused}
 use Rattle.inference.proofs.Found.{the-type}
@@ -37,6 +39,33 @@ wanting-yes S p t u x e = ap (λ q. _>>_ (ask 22 p q) (accepted x)) (sym e)
 
 pub wanting-no : (S : Security) (p : ℕ) (t u x : Ty) → false ≡ subtype S below t u → wanting S p t u x ≡ refused 22 p
 wanting-no S p t u x e = ap (λ q. _>>_ (ask 22 p q) (accepted x)) (sym e)
+
+-- of a case's branches, and its result type
+module _ (S : Security) (p : ℕ) (tab : ℕ → Ty) (i : ℕ) (t u : Ty) where
+  pub branch-own : finds-own i ≡ true → q22-of-branch S p tab i t ≡ accepted tt
+  branch-own e = ap (λ b. cond b (accepted tt) (q22 S p t (tab i))) e
+
+  pub branch-named : finds-own i ≡ false → q22-of-branch S p tab i t ≡ q22 S p t (tab i)
+  branch-named e = ap (λ b. cond b (accepted tt) (q22 S p t (tab i))) e
+
+  result-as : (b : Bool) → finds-own i ≡ b
+      → result-type S tab p i t u ≡ _>>_ (cond b (accepted tt) (q22 S p u (tab i))) (cond b (found-or p (common S below t u)) (accepted (tab i)))
+  result-as b e = ap (λ b. _>>_ (cond b (accepted tt) (q22 S p u (tab i))) (cond b (found-or p (common S below t u)) (accepted (tab i)))) e
+
+  pub result-own : finds-own i ≡ true → result-type S tab p i t u ≡ found-or p (common S below t u)
+  result-own e = result-as true e
+
+  pub result-named : finds-own i ≡ false → result-type S tab p i t u ≡ wanting S p u (tab i) (tab i)
+  result-named e = result-as false e
+
+  pub case-raises : (by : ℕ) → case-type S tab p i t u by ≡ _>>=_ (result-type S tab p i t u) (λ r. accepted (raiseT S r by))
+  case-raises by = go (q22-of-branch S p tab i u)
+    where
+      go : (a : Answer (Unit {0}))
+          → _>>_ a (_>>=_ (branch-type S p tab i t u) (λ r. accepted (raiseT S r by)))
+          ≡ _>>=_ (_>>_ a (branch-type S p tab i t u)) (λ r. accepted (raiseT S r by))
+      go (accepted tt) = refl
+      go (refused q x) = refl
 
 -- questions 20 and 21
 differ : (c d : Former) → (former-kind d ≡ former-kind c → ⊥) → same c d ≡ false
@@ -223,14 +252,6 @@ refused-as e (refuses {q = q} {p = p}) = (q, p, refl, refl)
 
 pub refused-meets : {o : Answer Ty} {q p b : ℕ} {w v : Bytes} {x : Found} → o ≡ refused q p → x ≡ Refused q p → Meets o b w x v
 refused-meets {o} {q} {p} {b} {w} {v} {x} e f = subst (λ y. Meets o b w y v) (sym f) (meets-of e refuses)
-
-pub then-found : (a : Answer (Unit {0})) (u t : Ty) → _>>_ a (accepted u) ≡ accepted t → (a ≡ accepted tt) × (u ≡ t)
-then-found (accepted tt) u t e = (refl, (cc))
-then-found (refused q p) u t e = let z : _≡_ {A = ℕ} 0 1 = cc in absurd (omega arith)
-
-pub then-refused : (a : Answer (Unit {0})) (u : Ty) (k : Answer Ty) (q p : ℕ) → _>>_ a (accepted u) ≡ refused q p → _>>_ a k ≡ refused q p
-then-refused (accepted tt) u k q p e = let z : _≡_ {A = ℕ} 0 1 = cc in absurd (omega arith)
-then-refused (refused a b) u k q p e = let x : a ≡ q = cc in let y : b ≡ p = cc in cc
 
 -- ---- questions
 

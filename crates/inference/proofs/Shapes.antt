@@ -13,6 +13,7 @@ use Rattle.rules.specs.Script.{kind, r, ir, number, arity, encode, depth, make}
 use Rattle.rules.proofs.PrefixLaws.{encode-length, size-positive}
 use Rattle.rules.proofs.TermCode.{term-code, two-bytes}
 use Rattle.inference.specs.Operands.{operand-count}
+use Rattle.records.proofs.Weights.{weights}
 use Rattle.records.specs.Operands.{first-operand, second-operand, third-operand}
 use Rattle.inference.specs.Stages.{before-first, first-context, kept-front}
 
@@ -229,6 +230,6 @@ depth-positive (pair k a b) = omega arith
 depth-positive (inj d k i e) = omega arith
 depth-positive (app w f a) = omega arith
 depth-positive (proj d w e) = omega arith
-depth-positive (case w i e a b) = omega arith
+depth-positive (case w i e a b) = omega (arith, weights (case w i e a b) .0)
 depth-positive (protect m e) = omega arith
 depth-positive (mu w i e) = omega arith

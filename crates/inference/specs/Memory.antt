@@ -94,6 +94,13 @@ pub record Typed-front (l : Bytes) (n : ℕ) : Type 0 where
   pub type : Ty
   pub sized : Sized l n type
 
+-- a type in front, and another behind the room that any type has there
+pub record Both (w : Bytes) : Type 0 where
+  pub first : Ty
+  pub second : Ty
+  pub slot : Slot w first
+  pub other : Held (drop answer-length w) second
+
 -- a named type of the table
 pub record Named (types : Bytes) (i : ℕ) : Type 0 where
   pub type : Ty
@@ -112,7 +119,3 @@ pub record Beside (t : Ty) (b : ℕ) (w : Bytes) : Type 0 where
   pub one : Slot (high (b + 1) w) (left t)
   pub other : Slot (drop (type-width * sizeT (left t)) (high (b + 1) w)) (right t)
   pub fits : type-width * sizeT (left t) + type-width * sizeT (right t) ≤ answer-length
-
-pub record Some-sides (b : ℕ) (w : Bytes) : Type 0 where
-  pub type : Ty
-  pub sides : Beside type b w

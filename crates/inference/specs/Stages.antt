@@ -1,20 +1,23 @@
 -- The rules of `typing`, taken apart at the operands: what is asked before, between and after them.
 use mathlib.Core.Path.{_≡_}
-use mathlib.Core.Bool.{Bool, true, false}
+use mathlib.Core.Bool.{Bool, true, false, cond}
 use mathlib.Core.List.{List, _∷_}
-use Prim.Native.Nat.{ℕ, _+_, _*_, _≤_}
+use Prim.Native.Nat.{ℕ, _+_, _*_, _≤_, _<_}
 use lib.ListN.{length, getD, drop}
 use Rattle.calculus.specs.Security.{Property, Security}
 use Rattle.calculus.specs.Types.{Former, sum, product, function, Ty, one, node, top, raiseT}
+use Rattle.calculus.specs.Typing.{finds-own}
 use Rattle.calculus.specs.Terms.{first, second, Term, var, unit, lam, pair, inj, app, proj, case, protect, mu}
 use Rattle.rules.specs.Answer.{Bytes, Answer, accepted, refused, _>>=_, _>>_}
-use Rattle.rules.specs.Limits.{type-width, answer-length}
-use Rattle.rules.specs.Types.{no-type}
-use Rattle.rules.specs.Script.{encode}
+use Rattle.rules.specs.Limits.{type-width, script-width, answer-length}
+use Rattle.rules.specs.Types.{no-type, type-count}
+use Rattle.rules.specs.Script.{kind, number, own-at, encode}
 use Rattle.rules.specs.Groups.{readers}
-use Rattle.rules.specs.Typing.{left, right, q20, q21, q22, q23, q24}
+use Rattle.rules.specs.Typing.{left, right, q20, q21, q22, q23, q24, q22-of-branch, branch-type}
+use Rattle.types.specs.Held.{Held}
+use Rattle.records.specs.Kinds as kinds
 use Rattle.inference.specs.Operands.{operand-count, Formed}
-use Rattle.inference.specs.Memory.{high, Sized, Holds, Table, Beside}
+use Rattle.inference.specs.Memory.{high, Slot, Sized, Holds, Table, Beside}
 
 -- a term without operands
 unfoldable pub leaf-type : List Ty → Term → Answer Ty
@@ -171,6 +174,23 @@ after-two S p (case w i e a b) s t = accepted t
 after-two S p (protect m e) s t = accepted t
 after-two S p (mu w i e) s t = accepted t
 
+-- bytes of the front that are not lent for a case's second branch: the first one's type, where the case finds its own
+abbrev pub kept-branch : Bytes → ℕ
+kept-branch s = cond (own-at s 0) answer-length 0
+
+-- the type of a case of number i, before it is raised, when its branches have the types t and u
+abbrev pub result-type : Security → (ℕ → Ty) → ℕ → ℕ → Ty → Ty → Answer Ty
+result-type S tab p i t u = do
+  q22-of-branch S p tab i u
+  branch-type S p tab i t u
+
+-- the type of a case, raised by the tested type's indirect readers
+abbrev pub case-type : Security → (ℕ → Ty) → ℕ → ℕ → Ty → Ty → ℕ → Answer Ty
+case-type S tab p i t u by = do
+  q22-of-branch S p tab i u
+  r ← branch-type S p tab i t u
+  accepted (raiseT S r by)
+
 -- a node without operands
 pub record Leaf (s : Bytes) (b : ℕ) (w : Bytes) : Type 0 where
   pub ctx : List Ty
@@ -223,3 +243,31 @@ pub record Two (g s : Bytes) (place : ℕ) (w : Bytes) (n m : ℕ) : Type 0 wher
   pub other : Sized (drop answer-length w) m second
   pub asked : between (readers g) place tree first ≡ accepted tt
   pub room : answer-length * 2 ≤ length w
+
+-- a case, whose type is in the table where it names one
+pub record Case (types s : Bytes) : Type 0 where
+  pub table : Table types
+  pub long : script-width ≤ length s
+  pub kind-is : kind s 0 ≡ kinds.case
+  pub named : finds-own (number s 0) ≡ false → number s 0 < type-count types
+
+-- a case, when its first branch has its type, in front
+pub record Branch (types s : Bytes) (b : ℕ) (w : Bytes) : Type 0 where
+  pub node : Case types s
+  pub tested : Ty
+  pub sides : Beside tested b w
+  pub type : Ty
+  pub slot : Slot w type
+  pub ctx : List Ty
+  pub binders : length ctx ≡ b
+  pub holds : Holds ctx (high b w)
+  pub room : answer-length * (b + 2) ≤ length w
+
+-- a case, when both branches have their types: the first one's is still in front where the case finds its own
+pub record Branches (types s w : Bytes) : Type 0 where
+  pub node : Case types s
+  pub first : Ty
+  pub second : Ty
+  pub front : own-at s 0 ≡ true → Slot w first
+  pub other : Held (drop (kept-branch s) w) second
+  pub room : answer-length ≤ length w

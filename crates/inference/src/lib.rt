@@ -2,6 +2,7 @@
 // operands, after one, between two, after two and after each branch of a case. Questions are answered by `Checked`, types by `Found`.
 
 use answer::Checked;
+use common_types::Common;
 use lattice::Indirect;
 use lattice::Reader;
 use records::APPLICATION;
@@ -22,21 +23,23 @@ ghost use Prim.Native.Nat.{ℕ, _+_, _*_, _≤_};
 ghost use lib.ListN.{length, drop, getD};
 ghost use Rattle.calculus.specs.Types.{Former, sum, Ty, top, raiseT, sizeT};
 ghost use Rattle.calculus.specs.Subtyping.{subtype, below};
+ghost use Rattle.calculus.specs.Common.{common};
 ghost use Rattle.calculus.specs.Terms.{Term};
-ghost use Rattle.rules.specs.Answer.{accepted};
+ghost use Rattle.rules.specs.Answer.{accepted, ask};
 ghost use Rattle.answer.specs.Said.{said};
 ghost use Rattle.rules.specs.Limits.{type-width, script-width, answer-length};
 ghost use Rattle.rules.specs.Groups.{readers};
 ghost use Rattle.rules.specs.Types.{former-kind, no-type, type-at, encode-type};
 ghost use Rattle.rules.specs.Script.{kind, number, encode};
-ghost use Rattle.rules.specs.Typing.{left, right, q22};
+ghost use Rattle.rules.specs.Typing.{left, right, q22-of-branch, found-or};
 ghost use Rattle.memory.specs.Splice.{splice};
 ghost use Rattle.types.specs.Held.{Held, Starts, Sided};
 ghost use Rattle.inference.specs.Memory.{high, Slot, Sized, Holds, Meets, Ready, Enters, Named, Named-sided, Beside, refusal};
-ghost use Rattle.inference.specs.Memory.{Some-sides, In-scope, Typed-front, Entered};
+ghost use Rattle.inference.specs.Memory.{In-scope, Typed-front, Both, Entered};
 ghost use Rattle.inference.specs.Stages.{leaf-type, may-recur, before-first, first-context, kept-front, function-type, pair-type};
 ghost use Rattle.inference.specs.Stages.{injection-type, may-read, after-one, between, second-context, after-two, Leaf, One, Aside};
 ghost use Rattle.inference.specs.Stages.{Some, Two, side-of, wanting, projection-type};
+ghost use Rattle.inference.specs.Stages.{kept-branch, result-type, case-type, Case, Branch, Branches};
 
 // What typing finds: the record count of the type that it has written in front, or the number of the first question answered
 // no, and the place.
@@ -58,8 +61,13 @@ pub fn refused(a: Checked) -> Found
 // A slot holds any type. Question 1 asks for one for each level of a script.
 pub const SLOT: usize = TYPE_LIMIT * TYPE_WIDTH;
 
+// The second of two found types starts behind any first: at this record, and with the part of the work buffer from this byte on.
+const SECOND_RECORD: usize = TYPE_LIMIT;
+
+pub const SECOND_PART: usize = SECOND_RECORD * TYPE_WIDTH;
+
 // The number field of the record that s starts with.
-pub fn index(s: &[u8]) -> usize
+fn index(s: &[u8]) -> usize
     requires { ⌜ script-width ≤ length (now s) ⌝ }
     ensures { λ a. ⌜ a ≡ number (now (s .entry)) 0 ⌝ }
 {
@@ -350,7 +358,7 @@ fn protect(groups: &[u8], ir: Indirect, w: &mut [u8], n: usize) -> Found
     Found::Typed(n)
 }
 
-// Question 22 against the named type, which is then the node's: a recursion.
+// Question 22 against the named type, which is then the node's: a recursion, or a case that names its type.
 fn adopt(groups: &[u8], types: &[u8], i: usize, place: usize, w: &mut [u8]) -> Found
     requires { ⌜ Named (now types) i × (Starts (now w) × (answer-length ≤ length (now w))) ⌝ }
     ensures { λ x. ⌜ ((t u : Ty) (b : ℕ) → Held (now (w .entry)) t → Slot (drop (type-width * i) (now (types .entry))) u
@@ -453,7 +461,7 @@ fn pair(r: Reader, ir: Indirect, place: usize, w: &mut [u8], n: usize, m: usize)
     }
     memory::up(w, 0, TYPE_WIDTH, TYPE_WIDTH * n);
     let at = TYPE_WIDTH + TYPE_WIDTH * n;
-    memory::down(w, SLOT, at, TYPE_WIDTH * m);
+    memory::down(w, SECOND_PART, at, TYPE_WIDTH * m);
     put(w, types::PAIR, r, ir);
     Found::Typed(n + m + 1)
 }
@@ -464,7 +472,7 @@ fn argument_fits(groups: &[u8], w: &[u8]) -> bool
     ensures { λ x. ⌜ ((s t : Ty) → Held (now (w .entry)) s → Held (drop answer-length (now (w .entry))) t
         → x ≡ subtype (readers (now (groups .entry))) below t (left s)) ⌝ }
 {
-    subtyping::is_subtype(groups, &w[SLOT..], side(w, false))
+    subtyping::is_subtype(groups, &w[SECOND_PART..], side(w, false))
 }
 
 // An application: the function's type is in front, the argument's from the next slot's length on. Question 22, and the result.
@@ -502,43 +510,96 @@ pub fn after_two(groups: &[u8], s: &[u8], place: usize, w: &mut [u8], n: usize, 
     apply(groups, place, w)
 }
 
+// Question 22 of a case's first branch, whose type is in front. Where the case finds its own type, any will do.
+fn branch_fits(groups: &[u8], types: &[u8], s: &[u8], w: &[u8]) -> bool
+    requires { ⌜ Case (now types) (now s) × Starts (now w) ⌝ }
+    ensures { λ x. ⌜ ((t : Ty) (place : ℕ) → Held (now (w .entry)) t
+        → ask 22 place x
+        ≡ q22-of-branch (readers (now (groups .entry))) place (type-at (now (types .entry))) (number (now (s .entry)) 0) t) ⌝ }
+{
+    if records::finds_own(s, 0) {
+        return true;
+    }
+    wanted(groups, types, index(s), w)
+}
+
 // After a case's first branch: question 22, and the right side to the slot's start, as the type of the second branch's binder.
+// The first branch's type stays in front.
 pub fn after_first_branch(
     groups: &[u8],
     types: &[u8],
-    i: usize,
+    s: &[u8],
     place: usize,
     b: usize,
     w: &mut [u8],
 ) -> Checked
-    requires { ⌜ Named (now types) i × (Starts (now w) × (Some-sides b (now w) × (answer-length * (b + 2) ≤ length (now w)))) ⌝ }
-    ensures { λ x. ⌜ ((Γ : List Ty) (s t u : Ty) → Beside s b (now (w .entry)) → Held (now (w .entry)) t
-        → Held (drop (type-width * i) (now (types .entry))) u → length Γ ≡ b → Holds Γ (high b (now (w .entry)))
-        → Enters (q22 (readers (now (groups .entry))) place t u) (right s ∷ Γ) b (now (w .entry)) x (now (w .exit))) ⌝ }
+    requires { ⌜ Branch (now types) (now s) b (now w) ⌝ }
+    ensures { λ x. ⌜ ((v : Branch (now (types .entry)) (now (s .entry)) b (now (w .entry)))
+        → Enters (q22-of-branch (readers (now (groups .entry))) place (type-at (now (types .entry))) (number (now (s .entry)) 0) (v .type))
+        (right (v .tested) ∷ v .ctx) b (now (w .entry)) x (now (w .exit)) × Slot (now (w .exit)) (v .type)) ⌝ }
 {
-    let asked = answer::ask(22, place, wanted(groups, types, i, w));
+    let asked = answer::ask(22, place, branch_fits(groups, types, s, w));
     let at = w.len() - SLOT * (b + 1);
     let from = at + TYPE_WIDTH * types::type_records(&w[at..]);
     move_type(w, from, at);
     asked
 }
 
-// After a case's second branch: question 22, and the named type, raised by the tested type's indirect readers.
+// How many bytes of the front are not lent to a case's second branch: the first one's type, where the case finds its own.
+pub fn kept_branch(s: &[u8]) -> usize
+    requires { ⌜ script-width ≤ length (now s) ⌝ }
+    ensures { λ a. ⌜ a ≡ kept-branch (now (s .entry)) ⌝ }
+{
+    if records::finds_own(s, 0) {
+        return SECOND_PART;
+    }
+    0
+}
+
+// The lowest type at or above the two found ones, written over the first. Question 31.
+fn common_type(groups: &[u8], place: usize, w: &mut [u8]) -> Found
+    requires { ⌜ Both (now w) ⌝ }
+    ensures { λ x. ⌜ ((v : Both (now (w .entry))) (b : ℕ) → answer-length * (b + 1) ≤ length (now (w .entry))
+        → Meets (found-or place (common (readers (now (groups .entry))) below (v .first) (v .second))) b
+        (now (w .entry)) x (now (w .exit))) ⌝ }
+{
+    let walked = common_types::least_above(groups, w, 0, SECOND_RECORD);
+    let Common::Found(n) = walked else {
+        return Found::Refused(31, place);
+    };
+    Found::Typed(n)
+}
+
+// A case's type before it is raised: the one that it names, with question 22 of the second branch, or the common one.
+fn result_type(groups: &[u8], types: &[u8], s: &[u8], place: usize, w: &mut [u8]) -> Found
+    requires { ⌜ Branches (now types) (now s) (now w) ⌝ }
+    ensures { λ x. ⌜ ((v : Branches (now (types .entry)) (now (s .entry)) (now (w .entry))) (b : ℕ)
+        → answer-length * (b + 1) ≤ length (now (w .entry))
+        → Meets (result-type (readers (now (groups .entry))) (type-at (now (types .entry))) place (number (now (s .entry)) 0)
+        (v .first) (v .second)) b (now (w .entry)) x (now (w .exit))) ⌝ }
+{
+    if records::finds_own(s, 0) {
+        return common_type(groups, place, w);
+    }
+    adopt(groups, types, index(s), place, w)
+}
+
+// After a case's second branch: the case's type, raised by the tested type's indirect readers.
 pub fn after_second_branch(
     groups: &[u8],
     types: &[u8],
-    i: usize,
+    s: &[u8],
     place: usize,
     by: Indirect,
     w: &mut [u8],
 ) -> Found
-    requires { ⌜ Named (now types) i × (Starts (now w) × (answer-length ≤ length (now w))) ⌝ }
-    ensures { λ x. ⌜ ((t u : Ty) (b : ℕ) → Held (now (w .entry)) t → Slot (drop (type-width * i) (now (types .entry))) u
+    requires { ⌜ Branches (now types) (now s) (now w) ⌝ }
+    ensures { λ x. ⌜ ((v : Branches (now (types .entry)) (now (s .entry)) (now (w .entry))) (b : ℕ)
         → answer-length * (b + 1) ≤ length (now (w .entry))
-        → Meets (wanting (readers (now (groups .entry))) place t u (raiseT (readers (now (groups .entry))) u (by .0))) b
-        (now (w .entry)) x (now (w .exit))) ⌝ }
+        → Meets (case-type (readers (now (groups .entry))) (type-at (now (types .entry))) place (number (now (s .entry)) 0)
+        (v .first) (v .second) (by .0)) b (now (w .entry)) x (now (w .exit))) ⌝ }
 {
-    let x = adopt(groups, types, i, place, w);
+    let x = result_type(groups, types, s, place, w);
     let Found::Typed(n) = x else {
         return x;
     };

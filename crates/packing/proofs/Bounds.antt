@@ -1,11 +1,12 @@
 -- Every call's refusal has a question of the document and a place of at most 8,192, and what it gives has its bound too: all of it
 -- fits the exported number. Assumes nothing.
 use mathlib.Core.Path.{_≡_, refl}
-use mathlib.Core.Bool.{Bool, true, false, not, _&&_}
+use mathlib.Core.Bool.{Bool, true, false, not, _&&_, _||_}
 use mathlib.Core.List.{List, [], _∷_}
 use mathlib.Core.Option.{Option, none, some}
 use Prim.Native.Nat.{ℕ, zero, suc, _+_, _-_, _%_, _≤_}
 use native.Mathlib.Omega.{arith}
+use borrow.Author.Tests.{eqb-true, leb-true}
 use lib.Dec.{eqb, leb, ltb}
 use lib.ListN.{length, getD}
 use Rattle.calculus.specs.Terms.{is-value}
@@ -14,7 +15,7 @@ use Rattle.rules.specs.Limits.{row-width, type-width, script-width, group-limit
 use Rattle.rules.specs.Groups.{rows, readers, ok3, ok4, ok5, ok6, ok7, q2, q3, q4, q5, q6}
 use Rattle.rules.specs.Types.{type-count, type-at, ok9, ok10, ok11, ok12, q8, q9, q10, q11}
 use Rattle.rules.specs.Script.{records, arity, kind, term, size, depths, binders, term-end, exactly, ok14, ok15, ok16, ok18, ok19, q13, q14, q15, q16, q17, q18}
-use Rattle.rules.specs.Typing.{typing}
+use Rattle.rules.specs.Typing.{of-typing, typing}
 use Rattle.rules.specs.Sheet.{sheet}
 use Rattle.rules.specs.Words.{q32, q33, q34, ok33, ok34, words-check}
 use Rattle.rules.specs.Calls.{q1, q25, q26, q27, groups-check, types-check, comparing, script-check, checking, stepping, running, sheeting}
@@ -126,9 +127,25 @@ page-bounded g t s group room =
     then (q27 (sheet g group (term s)) room) _ (front 27 (leb (length (sheet g group (term s))) room) (omega arith) (omega arith)) λ e27. bounded-yes
 
 -- typing refuses at a record of the script, which has at most 8,192
+typing-range : (q : ℕ) → of-typing q ≡ true → (20 ≤ q) × (q ≤ 31)
+typing-range q h = go (leb 20 q) refl
+  where
+    is-31 : eqb q 31 ≡ true → (20 ≤ q) × (q ≤ 31)
+    is-31 e = let n = eqb-true q 31 e in (omega arith, omega arith)
+
+    within : (b : Bool) → leb q 24 ≡ b → 20 ≤ q → b || eqb q 31 ≡ true → (20 ≤ q) × (q ≤ 31)
+    within true e l k = (l, omega (arith, leb-true q 24 e))
+    within false e l k = is-31 k
+
+    go : (b : Bool) → leb 20 q ≡ b → (20 ≤ q) × (q ≤ 31)
+    go true e = within (leb q 24) refl (leb-true 20 q e) (rw e at h)
+    go false e = is-31 (rw e at h)
+
 placed-bounded : {A : Type 0} {end : ℕ} (m : Answer A) → Placed end m → end ≤ script-limit → Bounded m
 placed-bounded m placed-yes l = bounded-yes
-placed-bounded m (placed-no {q} {place} a b c) l = bounded-no {q = q} {p = place} (omega arith) (omega arith) (omega arith)
+placed-bounded m (placed-no {q} {place} x c) l =
+    let r = typing-range q x in
+    bounded-no {q = q} {p = place} (omega (arith, r .0)) (omega (arith, r .1)) (omega arith)
 
 pub script-small : (rooms : List ℕ) (g t s : Bytes) → Octets s → script-check rooms g t s ≡ accepted tt → size (term s) ≤ script-limit
 unfolding script-check

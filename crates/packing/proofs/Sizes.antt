@@ -3,6 +3,7 @@
 use mathlib.Core.Path.{_≡_, refl}
 use mathlib.Core.Bool.{Bool, true, false, cond, _||_}
 use mathlib.Core.List.{List, [], _∷_, _++_}
+use mathlib.Core.Option.{Option, none, some}
 use Prim.Native.Nat.{ℕ, zero, suc, _+_, _*_, _≤_}
 use native.Mathlib.Omega.{arith}
 use borrow.Author.Tests.{leb-true, ltb-false}
@@ -11,13 +12,17 @@ use Rattle.calculus.specs.Security.{Property, Reader, Indirect, Security}
 use Rattle.calculus.specs.Types.{Former, sum, product, function, Ty, one, node, top, raiseT, sizeT, fits, type-limit}
 use Rattle.calculus.specs.Terms.{Side, first, second, choose, Term, var, unit, lam, pair, inj, app, proj, case, protect, mu, is-value}
 use Rattle.calculus.specs.Reduction.{Outcome, value, moved, denied, stuck, step}
+use Rattle.calculus.specs.Subtyping.{below}
+use Rattle.calculus.specs.Common.{common}
+use Rattle.calculus.specs.Typing.{finds-own}
 use Rattle.calculus.proofs.Raising.{raise-size}
+use Rattle.calculus.proofs.Common.{common-size}
 use Rattle.rules.specs.Answer.{Bytes, Answer, accepted, refused, _>>=_, _>>_, ask}
 use Rattle.rules.specs.Limits.{sheet-width, script-limit}
 use Rattle.rules.specs.Groups.{leq}
 use Rattle.rules.specs.Types.{no-type}
 use Rattle.rules.specs.Script.{size}
-use Rattle.rules.specs.Typing.{left, right, q20, q21, q22, q23, q24, typing}
+use Rattle.rules.specs.Typing.{left, right, q20, q21, q22, q23, q24, found-or, typing}
 use Rattle.rules.specs.Step.{End, at-value, moves, may-not, wrong-kind, too-big, exceeds, limited, step-in}
 use Rattle.rules.specs.Run.{Ran, run}
 use Rattle.rules.specs.Sheet.{sheet}
@@ -69,9 +74,9 @@ raised S s m l = omega (arith, raise-size S s m)
 abbrev Smalls : List Ty → Type 0
 Smalls Γ = (i : ℕ) → sizeT (getD Γ i no-type) ≤ type-limit
 
-none : Smalls []
+no-types : Smalls []
 unfolding sizeT
-none i = omega arith
+no-types i = omega arith
 
 more : (s : Ty) (Γ : List Ty) → sizeT s ≤ type-limit → Smalls Γ → Smalls (s ∷ Γ)
 more s Γ l h zero = l
@@ -96,15 +101,27 @@ module _ (S : Security) (p : ℕ) where
       bind m _ x (λ s h. then (q20 p product s) _ (then (q21 S p s w) _
       (small-yes {s = raiseT S (choose d (left s) (right s)) (S .influence (top s) w)} (raised S (choose d (left s) (right s)) (S .influence (top s) w) (side-size d s h)))))
 
-  case-small : (w : Reader) (a : Ty) (m : Answer Ty) (m′ m″ : Ty → Answer Ty) → sizeT a ≤ type-limit → Small m
+  -- a found result type has as many records as the first branch's
+  result-small : (own : Bool) (a u v : Ty) → sizeT a ≤ type-limit → sizeT u ≤ type-limit
+      → Small (cond own (found-or p (common S below u v)) (accepted a))
+  result-small true a u v l h = go (common S below u v) refl
+    where
+      go : (c : Option Ty) → common S below u v ≡ c → Small (found-or p c)
+      go none e = small-no
+      go (some r) e = small-yes {s = r} (omega (arith, common-size S below u v e))
+  result-small false a u v l h = small-yes l
+
+  case-small : (w : Reader) (own : Bool) (a : Ty) (m : Answer Ty) (m′ m″ : Ty → Answer Ty) → sizeT a ≤ type-limit → Small m
       → ((s : Ty) → sizeT s ≤ type-limit → Small (m′ s)) → ((s : Ty) → sizeT s ≤ type-limit → Small (m″ s))
       → Small (_>>=_ m (λ s. _>>_ (q20 p sum s) (_>>_ (q21 S p s w)
-      (_>>=_ (m′ (left s)) (λ u. _>>_ (q22 S p u a) (_>>=_ (m″ (right s)) (λ v. _>>_ (q22 S p v a) (accepted (raiseT S a (S .influence (top s) w))))))))))
-  case-small w a m m′ m″ l x y z =
+      (_>>=_ (m′ (left s)) (λ u. _>>_ (cond own (accepted tt) (q22 S p u a)) (_>>=_ (m″ (right s)) (λ v. _>>_ (cond own (accepted tt) (q22 S p v a))
+      (_>>=_ (cond own (found-or p (common S below u v)) (accepted a)) (λ r. accepted (raiseT S r (S .influence (top s) w)))))))))))
+  case-small w own a m m′ m″ l x y z =
       bind m _ x (λ s h. then (q20 p sum s) _ (then (q21 S p s w) _
-      (bind (m′ (left s)) _ (y (left s) (left-size s h)) (λ u h′. then (q22 S p u a) _
-      (bind (m″ (right s)) _ (z (right s) (right-size s h)) (λ v h″. then (q22 S p v a) _
-      (small-yes {s = raiseT S a (S .influence (top s) w)} (raised S a (S .influence (top s) w) l))))))))
+      (bind (m′ (left s)) _ (y (left s) (left-size s h)) (λ u h′. then (cond own (accepted tt) (q22 S p u a)) _
+      (bind (m″ (right s)) _ (z (right s) (right-size s h)) (λ v h″. then (cond own (accepted tt) (q22 S p v a)) _
+      (bind (cond own (found-or p (common S below u v)) (accepted a)) _ (result-small own a u v l h′)
+      (λ r k. small-yes {s = raiseT S r (S .influence (top s) w)} (raised S r (S .influence (top s) w) k)))))))))
 
   mu-small : (w : Reader) (a : Ty) (m : Answer Ty) → sizeT a ≤ type-limit → Small m
       → Small (_>>_ (q21 S p a w) (_>>_ (q23 S p a) (_>>=_ m (λ s. _>>_ (q22 S p s a) (accepted a)))))
@@ -124,7 +141,7 @@ typing-small S tab T Γ h p (app w f a) =
     app-small S p w (typing S tab Γ (1 + p) f) (typing S tab Γ (1 + p + size f) a) (typing-small S tab T Γ h (1 + p) f) (typing-small S tab T Γ h (1 + p + size f) a)
 typing-small S tab T Γ h p (proj d w e) = proj-small S p d w (typing S tab Γ (1 + p) e) (typing-small S tab T Γ h (1 + p) e)
 typing-small S tab T Γ h p (case w i e a b) =
-    case-small S p w (tab i) (typing S tab Γ (1 + p) e) (λ s. typing S tab (s ∷ Γ) (1 + p + size e) a) (λ s. typing S tab (s ∷ Γ) (1 + p + size e + size a) b) (T i)
+    case-small S p w (finds-own i) (tab i) (typing S tab Γ (1 + p) e) (λ s. typing S tab (s ∷ Γ) (1 + p + size e) a) (λ s. typing S tab (s ∷ Γ) (1 + p + size e + size a) b) (T i)
     (typing-small S tab T Γ h (1 + p) e) (λ s l. typing-small S tab T (s ∷ Γ) (more s Γ l h) (1 + p + size e) a)
     (λ s l. typing-small S tab T (s ∷ Γ) (more s Γ l h) (1 + p + size e + size a) b)
 typing-small S tab T Γ h p (protect m e) =
@@ -133,7 +150,7 @@ typing-small S tab T Γ h p (mu w i e) =
     mu-small S p (S .caller (top (tab i)) w) (tab i) (typing S tab (tab i ∷ Γ) (1 + p) e) (T i) (typing-small S tab T (tab i ∷ Γ) (more (tab i) Γ (T i) h) (1 + p) e)
 
 pub no-binders : Smalls []
-no-binders = none
+no-binders = no-types
 
 -- ---- terms of steps and runs
 

@@ -1,12 +1,17 @@
 -- A script that has passed questions 2 to 19 is ready for typing.
-use mathlib.Core.Path.{_≡_, refl, sym}
+use mathlib.Core.Path.{_≡_, refl, sym, subst}
+use mathlib.Core.Bool.{false, _||_, So}
 use mathlib.Core.List.{[]}
-use Prim.Native.Nat.{ℕ, suc, _≤_}
+use Prim.Native.Nat.{ℕ, suc, _≤_, _<_}
 use native.Mathlib.Omega.{arith}
+use borrow.Author.Tests.{ltb-true}
+use lib.Dec.{ltb}
 use lib.ListN.{length, length-drop}
+use Rattle.calculus.specs.Typing.{finds-own}
 use Rattle.calculus.specs.Terms.{Term, var, unit, lam, pair, inj, app, proj, case, protect, mu}
 use Rattle.rules.specs.Limits.{work-length}
 use Rattle.rules.specs.Answer.{Bytes, Octets, accepted}
+use Rattle.rules.specs.Types.{type-count}
 use Rattle.rules.specs.Script.{term}
 use Rattle.rules.specs.Calls.{types-check, script-check}
 use Rattle.demands.proofs.Formed.{Formed as Formed-over}
@@ -18,6 +23,10 @@ use Rattle.inference.specs.Memory.{high, Holds, Table, Ready}
 pub table-of : (g t : Bytes) → types-check g t ≡ accepted tt → Table t
 table-of g t h = record { entry = λ i l. record { held = type-held g t h i l; small = type-short g t h i l } }
 
+-- question 16 of a case
+named-of : (i n : ℕ) → So (finds-own i || ltb i n) → finds-own i ≡ false → i < n
+named-of i n h e = ltb-true i n (subst (λ b. So (b || ltb i n)) e h)
+
 -- what it names is in the table, and its variables are bound; its groups are not asked for here
 pub formed-of : (g t : Bytes) (e : Term) (b : ℕ) → Formed-over g t b e → Formed t b e
 unfolding Formed Formed-over
@@ -28,7 +37,7 @@ formed-of g t (pair k x y) b F = (formed-of g t x b (F .1), formed-of g t y b (F
 formed-of g t (inj d k i e) b F = ((F .1, F .2), formed-of g t e b (F .3))
 formed-of g t (app w x y) b F = (formed-of g t x b (F .1), formed-of g t y b (F .2))
 formed-of g t (proj d w e) b F = formed-of g t e b (F .1)
-formed-of g t (case w i e x y) b F = (F .1, (formed-of g t e b (F .2), (formed-of g t x (suc b) (F .3), formed-of g t y (suc b) (F .4))))
+formed-of g t (case w i e x y) b F = (named-of i (type-count t) (F .1), (formed-of g t e b (F .2), (formed-of g t x (suc b) (F .3), formed-of g t y (suc b) (F .4))))
 formed-of g t (protect m e) b F = formed-of g t e b (F .1)
 formed-of g t (mu w i e) b F = ((F .1, F .2), formed-of g t e (suc b) (F .3))
 

@@ -8,10 +8,10 @@ use Rattle.calculus.specs.Types.{sum, product, function, Ty, top}
 use Rattle.calculus.specs.Terms.{first, second, Term, var, unit, lam, pair, inj, app, proj, case, protect, mu}
 use Rattle.rules.specs.Answer.{Answer, accepted, refused, _>>=_ as bind, _>>_ as then}
 use Rattle.rules.specs.Script.{size}
-use Rattle.rules.specs.Typing.{left, right, q20, q21, q22, q23, typing}
+use Rattle.rules.specs.Typing.{left, right, q20, q21, q22-of-branch, q23, typing}
 use Rattle.inference.specs.Operands.{operand-count}
 use Rattle.records.specs.Operands.{first-operand, second-operand}
-use Rattle.inference.specs.Stages.{leaf-type, before-first, first-context, wanting, reads, after-one, between, second-context, after-two}
+use Rattle.inference.specs.Stages.{leaf-type, before-first, first-context, wanting, reads, after-one, between, second-context, after-two, case-type}
 
 then-assoc : {A : Type 0} (a b : Answer (Unit {0})) (c : Answer A) → then a (then b c) ≡ then (then a b) c
 then-assoc (accepted tt) b c = refl
@@ -27,8 +27,8 @@ after-second S tab Γ p (inj d k i e) s t = accepted t
 after-second S tab Γ p (app w f a) s t = after-two S p (app w f a) s t
 after-second S tab Γ p (proj d w e) s t = accepted t
 after-second S tab Γ p (case w i e a b) s t =
-    then (q22 S p t (tab i))
-    (bind (typing S tab (right s ∷ Γ) (1 + p + size e + size a) b) (λ u. wanting S p u (tab i) (reads S s w (tab i))))
+    then (q22-of-branch S p tab i t)
+    (bind (typing S tab (right s ∷ Γ) (1 + p + size e + size a) b) (λ u. case-type S tab p i t u (S .influence (top s) w)))
 after-second S tab Γ p (protect m e) s t = accepted t
 after-second S tab Γ p (mu w i e) s t = accepted t
 
@@ -131,6 +131,6 @@ module _ (S : Security) (tab : ℕ → Ty) (Γ : List Ty) (p : ℕ) where
 
   pub branch-typed : {e : Term} {w i : ℕ} {x y z : Term} (s t : Ty) → e ≡ case w i x y z
       → after-second S tab Γ p e s t
-      ≡ then (q22 S p t (tab i)) (bind (typing S tab (right s ∷ Γ) (1 + p + size x + size y) z) (λ u. wanting S p u (tab i) (reads S s w (tab i))))
+      ≡ then (q22-of-branch S p tab i t) (bind (typing S tab (right s ∷ Γ) (1 + p + size x + size y) z) (λ u. case-type S tab p i t u (S .influence (top s) w)))
   unfolding after-second
   branch-typed s t q = ap (λ d. after-second S tab Γ p d s t) q

@@ -1,10 +1,12 @@
 -- A node's operands: where they stand, how large and deep they are, how they are formed, and what room is left for them.
 use mathlib.Core.Path.{_≡_, refl, sym, ap, _∙_}
+use mathlib.Core.Bool.{Bool, true, false, cond}
 use mathlib.Core.List.{List, [], _∷_, _++_, append-nil}
-use Prim.Native.Nat.{ℕ, suc, _+_, _*_, _≤_}
+use Prim.Native.Nat.{ℕ, suc, _+_, _*_, _≤_, max}
 use native.Mathlib.Omega.{arith}
 use lib.ListN.{length, drop}
 use Rattle.calculus.specs.Types.{Ty}
+use Rattle.calculus.specs.Typing.{finds-own}
 use Rattle.calculus.specs.Terms.{first, second, Term, var, unit, lam, pair, inj, app, proj, case, protect, mu}
 use Rattle.inference.proofs.Shapes.{kind-case, Several, is-pair, is-app, is-case, several}
 use Rattle.rules.specs.Limits.{answer-length, script-width}
@@ -16,6 +18,7 @@ use Rattle.rules.proofs.PrefixLaws.{encode-length}
 use Rattle.rules.proofs.TermCode.{term-code, term-operands}
 use Rattle.records.specs.Place.{At}
 use Rattle.records.specs.Binders.{binds}
+use Rattle.records.proofs.Weights.{weights}
 use Rattle.inference.specs.Operands.{operand-count, Formed}
 use Rattle.records.specs.Operands.{first-operand, second-operand, third-operand}
 use Rattle.inference.specs.Stages.{first-context, second-context, kept-front}
@@ -102,7 +105,7 @@ module _ (s : Bytes) (e : Term) (p : s ≡ encode e) where
   pub third-whole : (j : ℕ) → j ≡ 1 + size (first-operand e) + size (second-operand e) → operand-count e ≡ 3 → length s ≡ script-width * (j + size (third-operand e))
   third-whole j z o = omega (arith, long-as, third-ends (three e o))
 
--- one level and one record more than an operand
+-- at least one level and one record more than an operand
 pub record Smaller (e d : Term) (before : ℕ) : Type 0 where
   pub deeper : 1 + depth d ≤ depth e
   pub larger : 1 + before + size d ≤ size e
@@ -116,7 +119,7 @@ first-smaller (pair k a b) o = record { deeper = omega arith; larger = omega ari
 first-smaller (inj d k i e) o = record { deeper = omega arith; larger = omega arith }
 first-smaller (app w f a) o = record { deeper = omega arith; larger = omega arith }
 first-smaller (proj d w e) o = record { deeper = omega arith; larger = omega arith }
-first-smaller (case w i e a b) o = record { deeper = omega arith; larger = omega arith }
+first-smaller (case w i e a b) o = record { deeper = omega (arith, weights (case w i e a b) .0); larger = omega arith }
 first-smaller (protect m e) o = record { deeper = omega arith; larger = omega arith }
 first-smaller (mu w i e) o = record { deeper = omega arith; larger = omega arith }
 
@@ -124,11 +127,11 @@ pub second-smaller : {e : Term} → Several e → Smaller e (second-operand e) (
 unfolding size depth
 second-smaller is-pair = record { deeper = omega arith; larger = omega arith }
 second-smaller is-app = record { deeper = omega arith; larger = omega arith }
-second-smaller is-case = record { deeper = omega arith; larger = omega arith }
+second-smaller (is-case {w = w} {i = i} {e = e} {a = a} {b = b}) = record { deeper = omega (arith, weights (case w i e a b) .0); larger = omega arith }
 
-pub third-smaller : {e : Term} → Three e → Smaller e (third-operand e) (size (first-operand e) + size (second-operand e))
-unfolding size depth
-third-smaller is-three = record { deeper = omega arith; larger = omega arith }
+pub third-larger : {e : Term} → Three e → 1 + (size (first-operand e) + size (second-operand e)) + size (third-operand e) ≤ size e
+unfolding size
+third-larger is-three = omega arith
 
 -- what questions 16 and 19 say of the operands
 pub first-formed : (t : Bytes) (tab : ℕ → Ty) (Γ : List Ty) (e : Term) → 1 ≤ operand-count e → Formed t (length Γ) e
@@ -174,6 +177,16 @@ unfolding operand-count second-context
 second-room Γ u is-pair = omega arith
 second-room Γ u is-app = omega arith
 second-room Γ u is-case = omega arith
+
+-- A case that finds its own type weighs two: one level is spent on the binder's slot, the other on the first branch's type.
+pub third-room : {e : Term} {w i : ℕ} {x y z : Term} → e ≡ case w i x y z
+    → cond (finds-own i) answer-length 0 + answer-length * (1 + depth (third-operand e)) ≤ answer-length * depth e
+unfolding depth
+third-room {i = i} {x = x} {y = y} {z = z} q = rw q (go (finds-own i))
+  where
+    go : (o : Bool) → cond o answer-length 0 + answer-length * (1 + depth z) ≤ answer-length * (cond o 2 1 + max (depth x) (max (depth y) (depth z)))
+    go true = omega arith
+    go false = omega arith
 
 pub several-front : {e : Term} → Several e → kept-front e ≡ 0
 unfolding kept-front

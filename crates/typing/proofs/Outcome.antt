@@ -14,11 +14,11 @@ use Rattle.rules.specs.Limits.{work-length, answer-length}
 use Rattle.rules.specs.Groups.{readers}
 use Rattle.rules.specs.Types.{type-at}
 use Rattle.rules.specs.Script.{term}
-use Rattle.rules.specs.Typing.{typing}
+use Rattle.rules.specs.Typing.{of-typing, typing}
 use Rattle.rules.specs.Calls.{zeros, script-check, checking, type-records, answer-after, work-after}
 use Rattle.rules.specs.Reach.{verdict}
 use Rattle.demands.proofs.Answers.{accepted-inj, accepted≢refused}
-use Rattle.demands.proofs.FirstDemand.{first-demand, script-below}
+use Rattle.demands.proofs.FirstDemand.{first-demand, script-early}
 use Rattle.demands.proofs.SecondDemand.{longer-same, second-demand}
 use Rattle.answer.specs.Said.{said as said-checked}
 use Rattle.answer.specs.declared.Checked.{Checked}
@@ -33,12 +33,12 @@ use Rattle.typing.specs.Judged.{Judged}
 abbrev pub Outcome : Answer Ty → Found → Bytes → Bytes → Bytes → Bytes → Type 0
 Outcome o x work work′ answer answer′ = (said x ≡ type-records o) × (work′ ≡ work-after o work) × (answer′ ≡ answer-after o answer)
 
--- a question below 20 leaves both buffers as they were
-early : (o : Answer Ty) (x : Found) (q p : ℕ) (work answer : Bytes) → o ≡ refused q p → x ≡ Refused q p → q < 20 → Outcome o x work work answer answer
+-- a question that comes before typing leaves both buffers as they were
+early : (o : Answer Ty) (x : Found) (q p : ℕ) (work answer : Bytes) → o ≡ refused q p → x ≡ Refused q p → of-typing q ≡ false → Outcome o x work work answer answer
 unfolding type-records
 early o x q p work answer e f l = (
   ap said f ∙ sym (ap type-records e),
-  sym (ap (λ y. work-after y work) e ∙ ap (λ b. cond b (zeros (length work)) work) (lt-leb 20 q l)),
+  sym (ap (λ y. work-after y work) e ∙ ap (λ b. cond b (zeros (length work)) work) l),
   sym (ap (λ y. answer-after y answer) e),
 )
 
@@ -48,10 +48,10 @@ unfolding type-records
 counted (finds m) = ap accepted (m .sized .count)
 counted refuses = refl
 
--- typing's questions are 20 and on
-cleared : (o : Answer Ty) (work : Bytes) → ((q p : ℕ) → o ≡ refused q p → 20 ≤ q) → zeros (length work) ≡ work-after o work
+-- a question of typing clears the work buffer
+cleared : (o : Answer Ty) (work : Bytes) → ((q p : ℕ) → o ≡ refused q p → of-typing q ≡ true) → zeros (length work) ≡ work-after o work
 cleared (accepted t) work h = refl
-cleared (refused q p) work h = sym (ap (λ b. cond b (zeros (length work)) work) (le-leb 20 q (h q p refl)))
+cleared (refused q p) work h = sym (ap (λ b. cond b (zeros (length work)) work) (h q p refl))
 
 module _ (g t s work answer : Bytes) where
   abbrev pub asked : Answer Ty
@@ -68,13 +68,13 @@ module _ (g t s work answer : Bytes) where
   small b e = ap (λ y. then (ask 1 0 y) from-2) e
 
   pub work-short : length work < work-length → Outcome asked (Refused 1 0) work work answer answer
-  work-short l = early asked (Refused 1 0) 1 0 work answer (small false (ap (λ b. b && leb answer-length (length answer)) (lt-leb work-length (length work) l))) refl (omega arith)
+  work-short l = early asked (Refused 1 0) 1 0 work answer (small false (ap (λ b. b && leb answer-length (length answer)) (lt-leb work-length (length work) l))) refl refl
 
   module _ (r : work-length ≤ length work) where
     pub answer-short : length answer < answer-length → Outcome asked (Refused 1 0) work work answer answer
     answer-short l =
         early asked (Refused 1 0) 1 0 work answer
-        (small false (ap (λ b. b && leb answer-length (length answer)) (le-leb work-length (length work) r) ∙ lt-leb answer-length (length answer) l)) refl (omega arith)
+        (small false (ap (λ b. b && leb answer-length (length answer)) (le-leb work-length (length work) r) ∙ lt-leb answer-length (length answer) l)) refl refl
 
     module _ (ra : answer-length ≤ length answer) where
       roomy : asked ≡ from-2
@@ -83,7 +83,7 @@ module _ (g t s work answer : Bytes) where
       pub script-refused : (a : Checked) (x : Found) → No a → said-checked a ≡ script-check [] g t s → x ≡ refusal a → Outcome asked x work work answer answer
       script-refused checked.Passed x k e f = absurd (omega arith)
       script-refused (checked.Refused q p) x k e f =
-          early asked x q p work answer (roomy ∙ ap (λ y. then y typed) (sym e)) f (script-below [] g t s q p (sym e))
+          early asked x q p work answer (roomy ∙ ap (λ y. then y typed) (sym e)) f (script-early [] g t s q p (sym e))
 
       pub finished : script-check [] g t s ≡ accepted tt → {x : Found} {w₁ work′ answer′ : Bytes} → Meets typed 0 work x w₁ → work′ ≡ zeros (length work)
           → answer′ ≡ answer-after typed answer → Outcome asked x work work′ answer answer′

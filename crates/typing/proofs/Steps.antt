@@ -1,24 +1,26 @@
 -- One call of the checker, stage by stage, over plain lists.
 use mathlib.Core.Path.{_≡_, refl, sym, ap, _∙_, subst}
-use mathlib.Core.List.{List, _∷_, _++_}
-use Prim.Native.Nat.{ℕ, suc, _+_, _-_, _*_, _≤_, _<_}
+use mathlib.Core.Bool.{true, cond}
+use mathlib.Core.List.{_∷_, _++_}
+use Prim.Native.Nat.{ℕ, suc, _+_, _-_, _*_, _≤_}
 use native.Mathlib.Omega.{arith}
 use borrow.Rule.Slice.PartMut.{putMid}
 use denote.Enum.Declared.{tagOf}
 use lib.ListN.{length, take, drop, length-drop}
-use Rattle.calculus.specs.Types.{Ty, top, raiseT}
-use Rattle.calculus.specs.Terms.{Term, case}
+use Rattle.calculus.specs.Types.{Ty, top}
+use Rattle.calculus.specs.Typing.{finds-own}
+use Rattle.calculus.specs.Terms.{case}
 use Rattle.rules.specs.Limits.{answer-length, script-limit}
-use Rattle.rules.specs.Answer.{Bytes, Answer, accepted, refused, _>>=_ as bind, _>>_ as then}
+use Rattle.rules.specs.Answer.{Bytes, Answer, accepted, _>>=_ as bind, _>>_ as then}
 use Rattle.rules.specs.Groups.{readers}
-use Rattle.rules.specs.Types.{type-at, type-count}
-use Rattle.rules.specs.Script.{encode, size, depth, kind, r, ir, number}
-use Rattle.rules.specs.Typing.{left, right, q22, typing}
-use Rattle.types.specs.Held.{Held, Starts}
+use Rattle.rules.specs.Types.{type-at}
+use Rattle.rules.specs.Script.{encode, size, depth, kind, r, number, own-at}
+use Rattle.rules.specs.Typing.{right, q22-of-branch, typing}
+use Rattle.types.specs.Held.{Held}
 use Rattle.inference.specs.Operands.{operand-count, Formed}
 use Rattle.records.specs.Operands.{first-operand, second-operand, third-operand}
-use Rattle.inference.specs.Memory.{high, Sized, Holds, Meets, finds, refuses, Ready, Enters, Named, Beside, Some-sides, refusal}
-use Rattle.inference.specs.Stages.{before-first, first-context, kept-front, after-one, between, second-context, after-two, wanting, One, Some, Aside, Two}
+use Rattle.inference.specs.Memory.{high, Slot, Sized, Holds, Meets, finds, refuses, Ready, Enters, Beside, refusal}
+use Rattle.inference.specs.Stages.{before-first, first-context, kept-front, after-one, between, second-context, after-two, kept-branch, case-type, One, Some, Aside, Two, Case, Branch, Branches}
 use Rattle.records.specs.Binders.{binds}
 use Rattle.answer.specs.declared.Checked.{Checked}
 use Rattle.answer.proofs.Passed.{Yes, No, accepts}
@@ -26,12 +28,12 @@ use Rattle.typing.specs.Parts.{kept-between}
 use Rattle.inference.specs.declared.Found.{Found}
 use Rattle.inference.specs.declared.Found.the-variants.{Typed}
 use Rattle.inference.proofs.Found.{the-type}
-use Rattle.inference.proofs.Regions.{high-drop, lent-rest, drop-lent, length-lent, high-lent, high-within, sized-lent, rebase}
-use Rattle.inference.proofs.Shapes.{of-fields, depth-positive, kind-case, several}
+use Rattle.inference.proofs.Regions.{high-drop, lent-rest, drop-lent, length-lent, high-lent, high-within, slot-of, slot-lent, sized-lent, rebase}
+use Rattle.inference.proofs.Shapes.{long, of-kind, depth-positive, kind-case, several}
 use Rattle.inference.proofs.Rules.{meets-of, Typed-as, typed-as, refused-as, refused-meets, refused-says}
-use Rattle.inference.proofs.Names.{named, case-index}
+use Rattle.inference.proofs.Names.{owns, case-index}
 use Rattle.typing.proofs.Apart.{after-second, stops-before, stops-first, one-typed, first-typed, second-typed, branch-typed}
-use Rattle.typing.proofs.Below.{first-smaller, second-smaller, third-smaller, first-formed, second-formed, third-formed, first-room, second-room, first-binders, second-binders, several-front, branch-binders, three, three-kind}
+use Rattle.typing.proofs.Below.{first-smaller, second-smaller, third-larger, first-formed, second-formed, third-formed, first-room, second-room, third-room, first-binders, second-binders, several-front, branch-binders, three, three-kind}
 
 -- ---- answers taken apart
 
@@ -364,57 +366,77 @@ module _ (g : Bytes) {types s : Bytes} {place b : ℕ} {w : Bytes} (v : Ready ty
 
 -- ---- a case's branches
 
-pub record Done5 (g : Bytes) {types s : Bytes} {place b : ℕ} {w : Bytes} (v : Ready types s place b w) (i : ℕ) (t : Ty) (c : ℕ) (w₅ : Bytes) : Type 0 where
+pub record Done5 (g : Bytes) {types s : Bytes} {place b : ℕ} {w : Bytes} (v : Ready types s place b w) (t first : Ty) (c : ℕ) (w₅ : Bytes) : Type 0 where
   pub is : typing (readers g) (type-at types) (v .ctx) place (v .tree)
       ≡ bind (typing (readers g) (type-at types) (right t ∷ v .ctx) (1 + place + size (first-operand (v .tree)) + size (second-operand (v .tree))) (third-operand (v .tree)))
-      (λ u. wanting (readers g) place u (type-at types i) (raiseT (readers g) (type-at types i) (top t .ir)))
+      (λ u. case-type (readers g) (type-at types) place (number s 0) first u (top t .ir))
   pub binders : length (right t ∷ v .ctx) ≡ c
   pub holds : Holds (right t ∷ v .ctx) (high c w₅)
   pub kept : high b w₅ ≡ high b w
+  pub front : Slot w₅ first
   pub same : length w₅ ≡ length w
 
-pub record Done6 (g : Bytes) {types s : Bytes} {place b : ℕ} {w : Bytes} (v : Ready types s place b w) (i : ℕ) (t : Ty) (w₆ : Bytes) : Type 0 where
+pub record Done6 (g : Bytes) {types s : Bytes} {place b : ℕ} {w : Bytes} (v : Ready types s place b w) (t first : Ty) (w₆ : Bytes) : Type 0 where
   pub type : Ty
-  pub is : typing (readers g) (type-at types) (v .ctx) place (v .tree) ≡ wanting (readers g) place type (type-at types i) (raiseT (readers g) (type-at types i) (top t .ir))
-  pub held : Held w₆ type
+  pub is : typing (readers g) (type-at types) (v .ctx) place (v .tree) ≡ case-type (readers g) (type-at types) place (number s 0) first type (top t .ir)
+  pub front : own-at s 0 ≡ true → Slot w₆ first
+  pub other : Held (drop (kept-branch s) w₆) type
   pub kept : high b w₆ ≡ high b w
   pub same : length w₆ ≡ length w
 
-module _ (g : Bytes) {types s : Bytes} {place b : ℕ} {w : Bytes} (v : Ready types s place b w) (o : operand-count (v .tree) ≡ 3) {i : ℕ} (ei : i ≡ number s 0) where
-  pub case-is : v .tree ≡ case (r s 0) i (first-operand (v .tree)) (second-operand (v .tree)) (third-operand (v .tree))
-  case-is = of-fields s (v .tree) kind-case {a = r s 0} {b = ir s 0} (v .is) (ap (λ x. kind x 0) (v .is) ∙ three-kind (three (v .tree) o)) refl refl ei
+module _ (g : Bytes) {types s : Bytes} {place b : ℕ} {w : Bytes} (v : Ready types s place b w) (o : operand-count (v .tree) ≡ 3) where
+  pub case-kind : kind s 0 ≡ kind-case
+  case-kind = ap (λ x. kind x 0) (v .is) ∙ three-kind (three (v .tree) o)
 
-  pub case-named : i < type-count types
-  case-named = case-index types b i (v .tree) (v .formed) case-is
+  pub case-is : v .tree ≡ case (r s 0) (number s 0) (first-operand (v .tree)) (second-operand (v .tree)) (third-operand (v .tree))
+  case-is = of-kind s (v .tree) kind-case (v .is) case-kind
+
+  abbrev pub case-node : Case types s
+  case-node =
+      record {
+        table = v .table;
+        long = long (v .tree) (v .is);
+        kind-is = case-kind;
+        named = case-index types b (number s 0) (v .tree) (v .formed) case-is;
+      }
 
   module _ {t : Ty} {n m : ℕ} {w₄ : Bytes} (d : Done3 g v t n m w₄) where
     pub case-room : answer-length * (b + 2) ≤ length w₄
     case-room = omega (arith, v .room, d .same, depth-positive (first-operand (v .tree)), first-smaller (v .tree) (omega arith) .deeper)
 
-    pub branch-held : Held w₄ (d .other)
-    branch-held = subst (λ y. Sized (drop (kept-between y) w₄) m (d .other)) o (d .sized) .held
+    pub branch-sized : Sized w₄ m (d .other)
+    branch-sized = subst (λ y. Sized (drop (kept-between y) w₄) m (d .other)) o (d .sized)
 
-    pub turn-asks : Named types i × (Starts w₄ × (Some-sides b w₄ × (answer-length * (b + 2) ≤ length w₄)))
-    turn-asks = (named (v .table) case-named, (record { type = d .other; held = branch-held }, (record { type = t; sides = d .slot o }, case-room)))
-
-    pub holds4 : Holds (v .ctx) (high b w₄)
-    holds4 = rw (d .kept) (v .holds)
+    abbrev pub branch-of : Branch types s b w₄
+    branch-of =
+        record {
+          node = case-node;
+          tested = t;
+          sides = d .slot o;
+          type = d .other;
+          slot = slot-of branch-sized;
+          ctx = v .ctx;
+          binders = v .binders;
+          holds = rw (d .kept) (v .holds);
+          room = case-room;
+        }
 
     -- what is left when the first branch has its type
     abbrev after-branch : Answer Ty
     after-branch =
         bind (typing (readers g) (type-at types) (right t ∷ v .ctx) (1 + place + size (first-operand (v .tree)) + size (second-operand (v .tree))) (third-operand (v .tree)))
-        (λ u. wanting (readers g) place u (type-at types i) (raiseT (readers g) (type-at types i) (top t .ir)))
+        (λ u. case-type (readers g) (type-at types) place (number s 0) (d .other) u (top t .ir))
 
-    under-branch : typing (readers g) (type-at types) (v .ctx) place (v .tree) ≡ then (q22 (readers g) place (d .other) (type-at types i)) after-branch
+    under-branch : typing (readers g) (type-at types) (v .ctx) place (v .tree)
+        ≡ then (q22-of-branch (readers g) place (type-at types) (number s 0) (d .other)) after-branch
     under-branch = d .is ∙ branch-typed (readers g) (type-at types) (v .ctx) place t (d .other) case-is
 
-    module _ {x : Checked} {w₅ : Bytes} (h : Enters (q22 (readers g) place (d .other) (type-at types i)) (right t ∷ v .ctx) b w₄ x w₅) where
+    module _ {x : Checked} {w₅ : Bytes} (h : Enters (q22-of-branch (readers g) place (type-at types) (number s 0) (d .other)) (right t ∷ v .ctx) b w₄ x w₅) where
       pub branch-refuses : {y : Found} {w₆ : Bytes} → No x → y ≡ refusal x → Meets (typing (readers g) (type-at types) (v .ctx) place (v .tree)) b w y w₆
       branch-refuses n f = let z = refused-says x _ n (h .says) f in refused-meets (under-branch ∙ ap (λ a. then a after-branch) (z .2)) (z .3)
 
-      pub done5 : {c : ℕ} → Yes x → length w₅ ≡ length w₄ → c ≡ b + 1 → Done5 g v i t c w₅
-      done5 {c} y l ec =
+      pub done5 : {c : ℕ} → Yes x → length w₅ ≡ length w₄ → c ≡ b + 1 → Slot w₅ (d .other) → Done5 g v t (d .other) c w₅
+      done5 {c} y l ec f =
           let a = accepts x _ y (h .says) in
           let e = h .entered a in
           let q : length (right t ∷ v .ctx) ≡ c = omega (arith, v .binders) in
@@ -423,69 +445,93 @@ module _ (g : Bytes) {types s : Bytes} {place b : ℕ} {w : Bytes} (v : Ready ty
             binders = q;
             holds = subst (λ j. Holds (right t ∷ v .ctx) (high j w₅)) q (e .holds);
             kept = e .kept ∙ d .kept;
+            front = f;
             same = l ∙ d .same;
           }
 
-  module _ {t : Ty} {c : ℕ} {w₅ : Bytes} (d : Done5 g v i t c w₅) {j : ℕ} (ej : j ≡ 1 + size (first-operand (v .tree)) + size (second-operand (v .tree))) where
-    pub third-room-left : answer-length * (c + depth (third-operand (v .tree))) ≤ length w₅
-    third-room-left = omega (arith, d .binders, v .binders, v .room, d .same, third-smaller (three (v .tree) o) .deeper)
+  module _ {t first : Ty} {c : ℕ} {w₅ : Bytes} (d : Done5 g v t first c w₅) {past : ℕ} (ep : past ≡ kept-branch s) {j : ℕ} (ej : j ≡ 1 + size (first-operand (v .tree)) + size (second-operand (v .tree))) where
+    past-is : past ≡ cond (finds-own (number s 0)) answer-length 0
+    past-is = ep ∙ ap (λ y. cond y answer-length 0) (owns case-node)
+
+    pub past-fits : past + answer-length * (c + depth (third-operand (v .tree))) ≤ length w₅
+    past-fits = omega (arith, past-is, third-room case-is, d .binders, v .binders, v .room, d .same)
+
+    pub past-within : past ≤ length w₅
+    past-within = omega (arith, past-fits)
 
     pub third-formed-at : Formed types c (third-operand (v .tree))
     third-formed-at =
         let q : suc b ≡ c = omega (arith, d .binders, v .binders) in
         subst (λ k. Formed types k (third-operand (v .tree))) q (third-formed types b (three (v .tree) o) (v .formed))
 
-    pub third-placed : place + j + size (third-operand (v .tree)) ≤ script-limit
-    third-placed = omega (arith, v .placed, third-smaller (three (v .tree) o) .larger)
+    pub third-holds : {u : Bytes} → u ≡ drop past w₅ → Holds (right t ∷ v .ctx) (high c u)
+    third-holds eu = rw (eu, high-drop past c w₅ (omega (arith, past-fits))) (d .holds)
 
-    abbrev pub ready3 : {s₃ : Bytes} → s₃ ≡ encode (third-operand (v .tree)) → Ready types s₃ (place + j) c w₅
-    ready3 es =
+    pub third-room-left : {u : Bytes} → u ≡ drop past w₅ → answer-length * (c + depth (third-operand (v .tree))) ≤ length u
+    third-room-left eu = rw eu (simp length-drop (omega (arith, past-fits)))
+
+    pub third-placed : place + j + size (third-operand (v .tree)) ≤ script-limit
+    third-placed = omega (arith, v .placed, third-larger (three (v .tree) o))
+
+    abbrev pub ready3 : {s₃ u : Bytes} → s₃ ≡ encode (third-operand (v .tree)) → u ≡ drop past w₅ → Ready types s₃ (place + j) c u
+    ready3 es eu =
         record {
           table = v .table;
           ctx = right t ∷ v .ctx;
           binders = d .binders;
-          holds = d .holds;
+          holds = third-holds eu;
           tree = third-operand (v .tree);
           is = es;
           formed = third-formed-at;
-          room = third-room-left;
+          room = third-room-left eu;
           placed = third-placed;
         }
 
-    module _ {w₆ : Bytes} {x : Found} (m : Meets (typing (readers g) (type-at types) (right t ∷ v .ctx) (place + j) (third-operand (v .tree))) c w₅ x w₆) where
+    module _ {u z : Bytes} {x : Found} (m : Meets (typing (readers g) (type-at types) (right t ∷ v .ctx) (place + j) (third-operand (v .tree))) c u x z) where
       placed3 : typing (readers g) (type-at types) (right t ∷ v .ctx) (1 + place + size (first-operand (v .tree)) + size (second-operand (v .tree))) (third-operand (v .tree))
           ≡ typing (readers g) (type-at types) (right t ∷ v .ctx) (place + j) (third-operand (v .tree))
       placed3 =
           let q : 1 + place + size (first-operand (v .tree)) + size (second-operand (v .tree)) ≡ place + j = omega arith in
           ap (λ p. typing (readers g) (type-at types) (right t ∷ v .ctx) p (third-operand (v .tree))) q
 
-      pub third-refuses : tagOf the-type x ≡ 1 → Meets (typing (readers g) (type-at types) (v .ctx) place (v .tree)) b w x w₆
-      third-refuses f =
-          let y = refused-as f m in
-          refused-meets
-          (d .is ∙ ap (λ a. bind a (λ u. wanting (readers g) place u (type-at types i) (raiseT (readers g) (type-at types i) (top t .ir)))) (placed3 ∙ y .2)) (y .3)
+      after-third : {a : Answer Ty} → typing (readers g) (type-at types) (right t ∷ v .ctx) (place + j) (third-operand (v .tree)) ≡ a
+          → typing (readers g) (type-at types) (v .ctx) place (v .tree) ≡ bind a (λ u. case-type (readers g) (type-at types) place (number s 0) first u (top t .ir))
+      after-third e = d .is ∙ ap (λ a. bind a (λ u. case-type (readers g) (type-at types) place (number s 0) first u (top t .ir))) (placed3 ∙ e)
 
-      pub done6 : tagOf the-type x ≡ 0 → length w₆ ≡ length w₅ → Done6 g v i t w₆
-      done6 f l =
+      pub third-refuses : {w₆ : Bytes} → tagOf the-type x ≡ 1 → Meets (typing (readers g) (type-at types) (v .ctx) place (v .tree)) b w x w₆
+      third-refuses f = let y = refused-as f m in refused-meets (after-third (y .2)) (y .3)
+
+      pub done6 : {w₆ : Bytes} → u ≡ drop past w₅ → length z ≡ length u → tagOf the-type x ≡ 0 → w₆ ≡ putMid past (length w₅ - past) w₅ z → Done6 g v t first w₆
+      done6 {w₆} eu lz f e₆ =
           let a = found-some f m .1 in
+          let q = back b c past w₅ u z w₆ (omega (arith, d .binders, v .binders)) (omega (arith, past-fits)) eu lz (a .wrote .kept) e₆ in
           record {
             type = a .type;
-            is = d .is ∙ ap (λ y. bind y (λ u. wanting (readers g) place u (type-at types i) (raiseT (readers g) (type-at types i) (top t .ir)))) (placed3 ∙ a .is);
-            held = a .wrote .sized .held;
-            kept = high-within b c w₅ w₆ (omega (arith, d .binders, v .binders)) (omega (arith, third-room-left)) l (a .wrote .kept) ∙ d .kept;
-            same = l ∙ d .same;
+            is = after-third (a .is);
+            front = λ own. rw (q .is) (slot-lent past w₅ z (d .front) (omega (arith, ep ∙ ap (λ y. cond y answer-length 0) own)) past-within);
+            other = subst (λ y. Held (drop y w₆) (a .type)) ep (rw (q .behind) (a .wrote .sized .held));
+            kept = q .kept ∙ d .kept;
+            same = q .same ∙ d .same;
           }
 
-  module _ {t : Ty} {w₆ : Bytes} (d : Done6 g v i t w₆) where
+  module _ {t first : Ty} {w₆ : Bytes} (d : Done6 g v t first w₆) where
     pub done-room : answer-length * (b + 1) ≤ length w₆
     done-room = omega (arith, level g v, d .same)
 
-    pub done-asks : Named types i × (Starts w₆ × (answer-length ≤ length w₆))
-    done-asks = (named (v .table) case-named, (record { type = d .type; held = d .held }, omega (arith, done-room)))
+    abbrev pub branches-of : Branches types s w₆
+    branches-of =
+        record {
+          node = case-node;
+          first = first;
+          second = d .type;
+          front = d .front;
+          other = d .other;
+          room = omega (arith, done-room);
+        }
 
     pub done-meets : {by : ℕ} {x : Found} {w₇ : Bytes} → by ≡ top t .ir
-        → Meets (wanting (readers g) place (d .type) (type-at types i) (raiseT (readers g) (type-at types i) by)) b w₆ x w₇
+        → Meets (case-type (readers g) (type-at types) place (number s 0) first (d .type) by) b w₆ x w₇
         → Meets (typing (readers g) (type-at types) (v .ctx) place (v .tree)) b w x w₇
     done-meets e h =
         rebase (d .kept)
-        (meets-of (d .is ∙ ap (λ y. wanting (readers g) place (d .type) (type-at types i) (raiseT (readers g) (type-at types i) y)) (sym e)) h)
+        (meets-of (d .is ∙ ap (λ y. case-type (readers g) (type-at types) place (number s 0) first (d .type) y) (sym e)) h)

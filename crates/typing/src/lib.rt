@@ -2,6 +2,7 @@
 
 use answer::Checked;
 use inference::Found;
+use inference::SECOND_PART;
 use inference::SLOT;
 use records::SCRIPT_WIDTH;
 use scope::DEPTH_LIMIT;
@@ -55,7 +56,7 @@ fn kept_between(o: usize) -> usize
     ensures { λ a. ⌜ a ≡ kept-between o ⌝ }
 {
     if o == 2 {
-        return SLOT;
+        return SECOND_PART;
     }
     0
 }
@@ -105,21 +106,21 @@ fn type_node(groups: &[u8], types: &[u8], s: &[u8], place: usize, b: usize, w: &
     if o == 2 {
         return inference::after_two(groups, s, place, w, n, m);
     }
-    let i = inference::index(s);
-    let fits = inference::after_first_branch(groups, types, i, place, b, w);
+    let fits = inference::after_first_branch(groups, types, s, place, b, w);
     let Checked::Passed = fits else {
         return inference::refused(fits);
     };
     let end = operand_end(s, o, 3, i3);
+    let past = inference::kept_branch(s);
     let third = operand(s, i3, end);
-    let x3 = type_node(groups, types, third, place + i3, c2, w);
+    let x3 = type_node(groups, types, third, place + i3, c2, &mut w[past..]);
     let Found::Typed(_) = x3 else {
         return x3;
     };
-    inference::after_second_branch(groups, types, i, place, by, w)
+    inference::after_second_branch(groups, types, s, place, by, w)
 }
 
-// Questions 20 to 24 of a script that has passed 2 to 19: the type is left in front of the work buffer.
+// Questions 20 to 24 and 31 of a script that has passed 2 to 19: the type is left in front of the work buffer.
 pub fn type_script(groups: &[u8], types: &[u8], script: &[u8], work: &mut [u8]) -> Found
     requires { ⌜ (script-check [] (now groups) (now types) (now script) ≡ accepted tt) × (work-length ≤ length (now work)) ⌝ }
     ensures { λ x. ⌜ Meets
@@ -141,7 +142,7 @@ fn hand_over(x: Found, work: &[u8], answer: &mut [u8])
     memory::copy(work, TYPE_WIDTH * n, answer, 0);
 }
 
-// Checking: questions 1 to 24. The type is written to the answer buffer's front, and the work buffer is left all zeros once
+// Checking: questions 1 to 24 and 31. The type is written to the answer buffer's front, and the work buffer is left all zeros once
 // typing has begun. The last clause is demand 2.
 pub fn checking(
     groups: &[u8],

@@ -5,13 +5,14 @@ use native.Mathlib.Omega.{arith}
 use lib.ListN.{length, take, drop}
 use lib.Seq.{drop-drop}
 use Rattle.calculus.specs.Types.{Ty, sizeT}
-use Rattle.rules.specs.Answer.{Bytes, ask}
+use Rattle.rules.specs.Answer.{Bytes}
 use Rattle.rules.specs.Limits.{type-width, answer-length}
+use Rattle.rules.specs.Types.{encode-type}
 use Rattle.rules.specs.Typing.{left, right}
 use Rattle.types.specs.Held.{Held}
-use Rattle.inference.specs.Memory.{high, Slot, Beside, Some-sides}
+use Rattle.inference.specs.Memory.{high, Slot, Beside}
 use Rattle.types.proofs.Parts.{to-end}
-use Rattle.inference.proofs.Regions.{slot-written}
+use Rattle.inference.proofs.Regions.{slot-written, slot-before}
 use Rattle.inference.proofs.Rules.{enters-as}
 use borrow.Author.Needs.{needs}
 use Rattle.inference.proofs.after_first_branch.Statement.{statement}
@@ -20,10 +21,7 @@ use Rattle.inference.proofs.after_first_branch.Tie as tie
 abbrev W : tie.Start → Bytes
 W s = s .args .w .now
 
--- the tested type, of which the slot holds the sides, and where that slot starts
-abbrev tested : (s : tie.Start) → Some-sides (s .args .b) (W s)
-tested s = s .pre .1 .1 .0
-
+-- where the slot starts that holds the tested type's sides
 abbrev slot : tie.Start → ℕ
 slot s = length (W s) - answer-length * (s .args .b + 1)
 
@@ -31,12 +29,12 @@ left-held : (s : tie.Start) (t : Ty) → Beside t (s .args .b) (W s) → Held (t
 left-held s t q = rw to-end (q .one .held)
 
 -- question 22 is asked
-abbrev begin : tie.After-wanted → tie.Start
-begin c = c .before .before .before .before .before
+abbrev begin : tie.After-ask → tie.Start
+begin c = c .before .before .before .before .before .before .before
 
 -- the left side's records are counted
 abbrev start : tie.After-type-records → tie.Start
-start c = begin (c .before .before .before .before)
+start c = begin (c .before .before .before)
 
 abbrev L : tie.After-type-records → ℕ
 L c = c .type-records .result
@@ -56,12 +54,11 @@ right-at c t q =
 fits : (c : tie.After-type-records)
     → let s = start c in (type-width * L c ≤ answer-length) × (answer-length * (s .args .b + 2) ≤ length (W s))
 fits c =
-    let s = start c in
-    let q = tested s in
-    (omega (arith, counts c (q .type) (q .sides), q .sides .fits), s .pre .1 .1 .1)
+    let p = start c .pre in
+    (omega (arith, counts c (p .tested) (p .sides), p .sides .fits), p .room)
 
-wanted-requires : tie.Need-wanted-requires
-wanted-requires c κs = search needs
+branch-fits-requires : tie.Need-branch-fits-requires
+branch-fits-requires c κs = let p = c .before .before .before .before .before .pre in (p .node, record { type = p .type; held = p .slot .held })
 
 ask-requires : tie.Need-ask-requires
 ask-requires c κs = search needs
@@ -86,9 +83,9 @@ part-type-records-end c = search needs
 
 type-records-requires : tie.Need-type-records-requires
 type-records-requires c κs =
-    let s = begin (c .before .before .before) in
-    let q = tested s in
-    record { type = left (q .type); held = left-held s (q .type) (q .sides) }
+    let s = begin (c .before .before) in
+    let p = s .pre in
+    record { type = left (p .tested); held = left-held s (p .tested) (p .sides) }
 
 mul-from : tie.Need-mul-from
 mul-from c = omega (arith, fits c)
@@ -99,28 +96,31 @@ add-from c = omega (arith, fits c, start c .good)
 move-type-requires : tie.Need-move-type-requires
 move-type-requires c κs =
     let d = c .before in
-    let q = tested (start d) in
-    (record { type = right (q .type); held = right-at d (q .type) (q .sides) .held }, omega arith)
+    let p = start d .pre in
+    (record { type = right (p .tested); held = right-at d (p .tested) (p .sides) .held }, omega arith)
 
 same-length : tie.Need-same-length
 same-length c = search needs
 
 returns : tie.Need-returns
 returns c =
-    λ Γ v t u q h k m o.
+    λ v.
     let x = c .before .before in
     let d = x .before .before in
     let a = d .before .before .before in
     let s = start d in
-    let z = right-at d v q in
-    enters-as (a .ask .ensures ∙ ap (ask 22 (s .args .place)) (a .before .wanted .ensures t u h k)) refl
-    (slot-written (z .small) refl (omega (arith, s .pre .1 .1 .1)) (x .move-type .ensures (right v) (z .held) .1) m o)
+    let z = right-at d (v .tested) (v .sides) in
+    let w = x .move-type .ensures (right (v .tested)) (z .held) .1 in (
+      enters-as (a .ask .ensures ∙ a .before .branch-fits .ensures (v .type) (s .args .place) (v .slot .held)) refl
+          (slot-written (z .small) refl (omega (arith, v .room)) w (v .binders) (v .holds)),
+      slot-before (slot s) (encode-type (right (v .tested))) (v .slot) (omega (arith, v .room)) (omega arith) w,
+    )
 
 pub after-first-branch-spec : {M : Type 1} → statement M
 after-first-branch-spec =
     tie.close
     (tie.spec
-    wanted-requires
+    branch-fits-requires
     ask-requires
     add-at
     mul-at

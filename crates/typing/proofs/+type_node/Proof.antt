@@ -15,14 +15,14 @@ use Rattle.rules.specs.Answer.{Bytes, Answer}
 use Rattle.rules.specs.Groups.{readers}
 use Rattle.rules.specs.Types.{type-at}
 use Rattle.rules.specs.Script.{kind, number, arity, encode, size}
-use Rattle.rules.specs.Typing.{right, q22, typing}
+use Rattle.rules.specs.Typing.{right, q22-of-branch, typing}
 use Rattle.records.specs.Place.{At}
 use Rattle.records.specs.Binders.{binds}
 use Rattle.records.specs.Operands.{first-operand, second-operand, third-operand}
 use Rattle.types.proofs.Parts.{to-end}
 use Rattle.inference.specs.Operands.{operand-count}
-use Rattle.inference.specs.Memory.{Sized, Meets, Ready, Enters}
-use Rattle.inference.specs.Stages.{first-context, kept-front, second-context, Leaf, Some}
+use Rattle.inference.specs.Memory.{Slot, Sized, Meets, Ready, Enters}
+use Rattle.inference.specs.Stages.{first-context, kept-front, second-context, kept-branch, Leaf, Some, Branch, Branches}
 use Rattle.inference.proofs.Shapes.{long, counted-of, several as several-operands}
 use Rattle.inference.proofs.Rules.{meets-of}
 use Rattle.typing.specs.Parts.{kept-between}
@@ -50,7 +50,7 @@ use Rattle.inference.proofs.after_second_branch.Reads as after-second-branch-re
 use Rattle.inference.proofs.after_two.Reads as after-two-reads
 use Rattle.inference.proofs.before_operands.Reads as before-operands-reads
 use Rattle.inference.proofs.refused.Reads as refused-reads
-use Rattle.inference.proofs.index.Reads as index-reads
+use Rattle.inference.proofs.kept_branch.Reads as kept-branch-reads
 use Rattle.inference.proofs.kept_front.Reads as kept-front-reads
 use Rattle.inference.proofs.after_one.Reads as after-one-reads
 use Rattle.inference.proofs.leaf.Reads as leaf-reads
@@ -104,10 +104,10 @@ claims t = (
   kept-between-reads.Learnt,
   after-two-reads.Asked,
   after-two-reads.Learnt,
-  index-reads.Asked,
-  index-reads.Learnt,
   after-first-branch-reads.Asked,
   after-first-branch-reads.Learnt,
+  kept-branch-reads.Asked,
+  kept-branch-reads.Learnt,
   after-second-branch-reads.Asked,
   after-second-branch-reads.Learnt,
 )
@@ -129,7 +129,7 @@ leaf-of {types} v o =
 
 -- A place of the code is a type, as `Entered`; the path back to it from the next place has its name, as `entered`, and a longer
 -- one is `to-entered`; `to-first` and `to-second` go to where that operand has its type. w₁ to w₆ are the work buffer after each
--- call that writes to it; c₁, i₂, low, n, c₂, i₃, mid, m and i are the code's locals.
+-- call that writes to it; c₁, i₂, low, n, c₂, i₃, mid, m and past are the code's locals.
 -- In a proof x is the place after the call that answered, z a branch's, p a part's, e that of an operand's context, and d that of
 -- an operand that is done; o says how many operands there are, and k what is known by then.
 module _ (t : ℕ) where
@@ -764,71 +764,52 @@ module _ (t : ℕ) where
 
   -- ---- a case, between its two branches
 
-  -- after inference::index(s), where o is 3
-  abbrev Index : Type 0
-  Index = lts.After-index (claims t) (node-at t) node.Post
+  -- o is 3
+  abbrev Three : Type 0
+  Three = lts.Else3 (claims t) (node-at t) node.Post
 
   -- after inference::after_first_branch(..)
   abbrev Turn : Type 0
   Turn = lts.After-after-first-branch (claims t) (node-at t) node.Post
 
-  -- question 22 is answered yes
+  -- it is answered yes
   abbrev Turned : Type 0
   Turned = lts.After-enum-told7 (claims t) (node-at t) node.Post
 
-  abbrev two : Index → Second-typed
-  two c = c .before .before
-
-  abbrev index : Turn → Index
-  index c = c .before .before
+  abbrev three-operands : Turn → Three
+  three-operands c = c .before .before
 
   abbrev turn : Turned → Turn
   turn c = c .before .before .before .before
 
-  abbrev i : Index → ℕ
-  i c = c .index .result
-
   abbrev w₅ : Turn → Bytes
   w₅ c = c .after-first-branch .last .1 .1 .1 .1 .1 .0
 
-  has-three : (c : Index) (v : Given (start₄ (two c))) → operand-count (v .tree) ≡ 3
+  has-three : (c : Three) (v : Given (start₄ (c .before))) → operand-count (v .tree) ≡ 3
   has-three c v =
-      let e = to-between (two c) in
+      let e = to-between (c .before) in
       let h = has-two (to-several e) v in
-      let o : operand-count (v .tree) ≡ 2 → ⊥ = λ z. c .before .if3 .left (o-is (to-entered (to-first e)) v ∙ z) in
+      let o : operand-count (v .tree) ≡ 2 → ⊥ = λ z. c .if3 .left (o-is (to-entered (to-first e)) v ∙ z) in
       omega (arith, at-most-three (v .tree))
 
-  i-is : (c : Index) → i c ≡ number (S (start₄ (two c))) 0
-  i-is c = c .index .ensures
+  abbrev branch : (c : Three) (v : Given (start₄ (c .before)))
+      → let s = start₄ (c .before) in Branch (T s) (S s) (s .args .b) (w₄ (second (c .before)))
+  branch c v = steps.branch-of (G (start₄ (c .before))) v (has-three c v) (done₃ (c .before) v)
 
-  w₅-length : (c : Turn) → length (w₅ c) ≡ length (w₄ (second (two (index c))))
+  w₅-length : (c : Turn) → length (w₅ c) ≡ length (w₄ (second (three-operands c .before)))
   w₅-length c = c .after-first-branch .kept .1 .1 .1 .1 .1 .0
 
   -- what turning from the first branch to the second answers
-  turns : (c : Turn) (v : Given (start₄ (two (index c))))
-      → let d = two (index c) in
+  turns : (c : Turn) (v : Given (start₄ (three-operands c .before)))
+      → let d = three-operands c .before in
       let s = start₄ d in
-      Enters (q22 (readers (G s)) (place s) (done₃ d v .other) (type-at (T s) (i (index c))))
+      Enters (q22-of-branch (readers (G s)) (place s) (type-at (T s)) (number (S s) 0) (done₃ d v .other))
       (right (first-type (to-between d) v) ∷ v .ctx) (s .args .b) (w₄ (second d)) (c .after-first-branch .result) (w₅ c)
-  turns c v =
-      let y = index c in
-      let s = start₄ (two y) in
-      let o = has-three y v in
-      let j = i-is y in
-      let k = done₃ (two y) v in
-      c .after-first-branch .ensures (v .ctx) (first-type (to-between (two y)) v) (k .other) (type-at (T s) (i y)) (k .slot o)
-      (steps.branch-held (G s) v o j k) (v .table .entry (i y) (steps.case-named (G s) v o j) .held) (v .binders)
-      (steps.holds4 (G s) v o j k)
-
-  index-requires : lts.Need-index-requires (claims t) (node-at t) node.Post
-  index-requires c κs = let v = given (start₄ (c .before)) in long (v .tree) (v .is)
+      × Slot (w₅ c) (done₃ d v .other)
+  turns c v = c .after-first-branch .ensures (branch (three-operands c) v)
 
   after-first-branch-requires : lts.Need-after-first-branch-requires (claims t) (node-at t) node.Post
-  after-first-branch-requires c κs =
-      let y = c .before in
-      let d = two y in
-      let v = given (start₄ d) in
-      steps.turn-asks (G (start₄ d)) v (has-three y v) (i-is y) (done₃ d v)
+  after-first-branch-requires c κs = let y = c .before in branch y (given (start₄ (y .before)))
 
   enum-told-7 : lts.Need-enum-told-7 (claims t) (node-at t) node.Post
   enum-told-7 c = c .match5 .keys1
@@ -842,42 +823,53 @@ module _ (t : ℕ) where
   same-length-8 : lts.Need-same-length-8 (claims t) (node-at t) node.Post
   same-length-8 c =
       let x = c .before .before .before .before .before in
-      let d = two (index x) in
+      let d = three-operands x .before in
       w₅-length x ∙ done₃ d (given (start₄ d)) .same
 
   returns-8 : lts.Need-returns-8 (claims t) (node-at t) node.Post
   returns-8 c v =
       let x = c .before .before .before .before .before in
-      let y = index x in
-      let d = two y in
-      steps.branch-refuses (G (start₄ d)) v (has-three y v) (i-is y) (done₃ d v) (turns x v) (c .before .before .match5 .keys2) (c .refused3 .ensures)
+      let y = three-operands x in
+      let d = y .before in
+      steps.branch-refuses (G (start₄ d)) v (has-three y v) (done₃ d v) (turns x v .0) (c .before .before .match5 .keys2) (c .refused3 .ensures)
 
   -- the second branch's context is there
-  abbrev to-index : Turned → Index
-  to-index c = index (turn c)
+  abbrev to-three : Turned → Three
+  to-three c = three-operands (turn c)
 
   abbrev to-second : Turned → Second-typed
-  to-second c = two (to-index c)
+  to-second c = to-three c .before
 
   abbrev start₅ : Turned → Start
   start₅ c = start₄ (to-second c)
 
+  -- the tested type, and the first branch's
+  abbrev tested : (c : Turned) → Given (start₅ c) → Ty
+  tested c v = first-type (to-between (to-second c)) v
+
+  abbrev first-branch : (c : Turned) → Given (start₅ c) → Ty
+  first-branch c v = done₃ (to-second c) v .other
+
   done₅ : (c : Turned) (v : Given (start₅ c))
-      → let e = to-between (to-second c) in
-      steps.Done5 (G (start₅ c)) v (i (to-index c)) (first-type e v) (c₂ e) (w₅ (turn c))
+      → steps.Done5 (G (start₅ c)) v (tested c v) (first-branch c v) (c₂ (to-between (to-second c))) (w₅ (turn c))
   done₅ c v =
       let x = turn c in
-      let y = index x in
-      let e = to-between (two y) in
+      let y = three-operands x in
+      let e = to-between (y .before) in
       let o = has-three y v in
-      steps.done5 (G (start₅ c)) v o (i-is y) (done₃ (two y) v) (turns x v) (c .before .match5 .keys1) (w₅-length x)
-      (omega (arith, branch-binders (v .ctx) (first-type e v) (three (v .tree) o), done₂ e v .binders, v .binders))
+      let h = turns x v in
+      steps.done5 (G (start₅ c)) v o (done₃ (y .before) v) (h .0) (c .before .match5 .keys1) (w₅-length x)
+      (omega (arith, branch-binders (v .ctx) (first-type e v) (three (v .tree) o), done₂ e v .binders, v .binders)) (h .1)
 
   -- ---- a case's third operand
 
   -- after operand_end(s, o, 3, i3)
   abbrev Third-end : Type 0
   Third-end = lts.After-operand-end3 (claims t) (node-at t) node.Post
+
+  -- after inference::kept_branch(s)
+  abbrev Past : Type 0
+  Past = lts.After-kept-branch (claims t) (node-at t) node.Post
 
   -- after operand(s, i3, end)
   abbrev Third-part : Type 0
@@ -891,8 +883,11 @@ module _ (t : ℕ) where
   abbrev Third-typed : Type 0
   Third-typed = lts.After-enum-told9 (claims t) (node-at t) node.Post
 
-  abbrev turned : Third → Turned
-  turned c = c .before .before .before .before
+  abbrev turned : Past → Turned
+  turned c = c .before .before
+
+  abbrev to-past : Third → Past
+  to-past c = c .before .before .before
 
   abbrev third : Third-typed → Third
   third c = c .before .before .before .before
@@ -901,41 +896,68 @@ module _ (t : ℕ) where
   abbrev from₃ : Turned → ℕ
   from₃ c = i₃ (gap (second (to-second c)))
 
+  abbrev past : Past → ℕ
+  past c = c .kept-branch .result
+
+  -- the part of the work buffer that is lent, and that part after the call
+  abbrev u₃ : Past → Bytes
+  u₃ c = let w = w₅ (turn (turned c)) in take (length w - past c) (drop (past c) w)
+
+  abbrev z₃ : Third → Bytes
+  z₃ c = c .type-node3 .last .1 .1 .1 .1 .1 .0
+
   abbrev w₆ : Third → Bytes
-  w₆ c = c .type-node3 .last .1 .1 .1 .1 .1 .0
+  w₆ c = let w = w₅ (turn (turned (to-past c))) in putMid (past (to-past c)) (length w - past (to-past c)) w (z₃ c)
 
   module _ (c : Turned) (v : Given (start₅ c)) where
     from₃-is : from₃ c ≡ 1 + size (first-operand (v .tree)) + size (second-operand (v .tree))
     from₃-is = omega (arith, i₃-is (gap (second (to-second c))) v, from₂-is (to-between (to-second c)) v)
 
     third-stands : At (S (start₅ c)) (from₃ c) (third-operand (v .tree))
-    third-stands = third-at (S (start₅ c)) (three (v .tree) (has-three (to-index c) v)) (v .is) from₃-is
+    third-stands = third-at (S (start₅ c)) (three (v .tree) (has-three (to-three c) v)) (v .is) from₃-is
 
   end-is : (c : Third-end) (v : Given (start₅ (c .before)))
       → c .operand-end3 .result ≡ from₃ (c .before) + size (third-operand (v .tree))
   end-is c v = c .operand-end3 .ensures (third-operand (v .tree)) (third-stands (c .before) v)
 
-  module _ (c : Third-part) (v : Given (start₅ (c .before .before))) where
+  past-is : (c : Past) → past c ≡ kept-branch (S (start₅ (turned c)))
+  past-is c = c .kept-branch .ensures
+
+  past-within : (c : Past) → past c ≤ length (w₅ (turn (turned c)))
+  past-within c =
+      let d = turned c in
+      let v = given (start₅ d) in
+      steps.past-within (G (start₅ d)) v (has-three (to-three d) v) (done₅ d v) (past-is c) (from₃-is d v)
+
+  module _ (c : Third-part) (v : Given (start₅ (turned (c .before)))) where
     third-part : c .operand3 .result .now ≡ encode (third-operand (v .tree))
-    third-part = c .operand3 .ensures .0 (third-operand (v .tree)) (third-stands (c .before .before) v) (end-is (c .before) v)
+    third-part =
+        let d = turned (c .before) in
+        c .operand3 .ensures .0 (third-operand (v .tree)) (third-stands d v) (end-is (c .before .before) v)
 
-    abbrev ready₃ : let d = c .before .before in
-        Ready (T (start₅ d)) (c .operand3 .result .now) (place (start₅ d) + from₃ d) (c₂ (to-between (to-second d))) (w₅ (turn d))
+    abbrev ready₃ : let d = turned (c .before) in
+        Ready (T (start₅ d)) (c .operand3 .result .now) (place (start₅ d) + from₃ d) (c₂ (to-between (to-second d))) (u₃ (c .before))
     ready₃ =
-        let d = c .before .before in
-        let y = to-index d in
-        steps.ready3 (G (start₅ d)) v (has-three y v) (i-is y) (done₅ d v) (from₃-is d v) third-part
+        let p = c .before in
+        let d = turned p in
+        steps.ready3 (G (start₅ d)) v (has-three (to-three d) v) (done₅ d v) (past-is p) (from₃-is d v) third-part
+        (to-end (past p) (w₅ (turn d)))
 
-  w₆-length : (c : Third) → length (w₆ c) ≡ length (w₅ (turn (turned c)))
-  w₆-length c = c .type-node3 .kept .1 .1 .1 .1 .1 .0
+  z₃-length : (c : Third) → length (z₃ c) ≡ length (u₃ (to-past c))
+  z₃-length c = c .type-node3 .kept .1 .1 .1 .1 .1 .0
+
+  w₆-length : (c : Third) → length (w₆ c) ≡ length (w₅ (turn (turned (to-past c))))
+  w₆-length c =
+      let p = to-past c in
+      let w = w₅ (turn (turned p)) in
+      same-len-mid (past p) (length w - past p) w (z₃ c) (z₃-length c)
 
   -- what the call on the third operand answers
-  met₃ : (c : Third) (v : Given (start₅ (turned c)))
-      → let d = turned c in
-      let e = to-between (to-second d) in
+  met₃ : (c : Third) (v : Given (start₅ (turned (to-past c))))
+      → let d = turned (to-past c) in
       let s = start₅ d in
-      Meets (says s (right (first-type e v) ∷ v .ctx) (place s + from₃ d) (third-operand (v .tree)))
-      (c₂ e) (w₅ (turn d)) (c .type-node3 .result) (w₆ c)
+      Meets (says s (right (tested d v) ∷ v .ctx) (place s + from₃ d) (third-operand (v .tree)))
+      (c₂ (to-between (to-second d))) (u₃ (to-past c)) (c .type-node3 .result) (z₃ c)
   met₃ c v = c .type-node3 .ensures (ready₃ (c .before .before) v)
 
   operand-end-requires-3 : lts.Need-operand-end-requires-3 (claims t) (node-at t) node.Post
@@ -949,22 +971,33 @@ module _ (t : ℕ) where
         whole = λ z. third-whole (S s) (v .tree) (v .is) (from₃ c) (from₃-is c v) (sym o ∙ sym z);
       }
 
+  kept-branch-requires : lts.Need-kept-branch-requires (claims t) (node-at t) node.Post
+  kept-branch-requires c κs = let v = given (start₅ (c .before)) in long (v .tree) (v .is)
+
   operand-requires-3 : lts.Need-operand-requires-3 (claims t) (node-at t) node.Post
   operand-requires-3 c κs =
-      let v = given (start₅ (c .before)) in
-      record { tree = third-operand (v .tree); at = third-stands (c .before) v; ends = end-is c v }
+      let v = given (start₅ (turned c)) in
+      record { tree = third-operand (v .tree); at = third-stands (turned c) v; ends = end-is (c .before) v }
 
   add-type-node-3 : lts.Need-add-type-node-3 (claims t) (node-at t) node.Post
   add-type-node-3 c =
-      let d = c .before .before in
-      let y = to-index d in
+      let d = turned (c .before) in
       let v = given (start₅ d) in
-      omega (arith, steps.third-placed (G (start₅ d)) v (has-three y v) (i-is y) (done₅ d v) (from₃-is d v))
+      omega (arith, steps.third-placed (G (start₅ d)) v (has-three (to-three d) v) (done₅ d v) (past-is (c .before)) (from₃-is d v))
+
+  sub-type-node-3 : lts.Need-sub-type-node-3 (claims t) (node-at t) node.Post
+  sub-type-node-3 c = past-within (c .before)
+
+  part-type-node-start-3 : lts.Need-part-type-node-start-3 (claims t) (node-at t) node.Post
+  part-type-node-start-3 c = past-within (c .before)
+
+  part-type-node-end-3 : lts.Need-part-type-node-end-3 (claims t) (node-at t) node.Post
+  part-type-node-end-3 c = omega arith
 
   type-node-requires-3 : lts.Need-type-node-requires-3 (claims t) (node-at t) node.Post
   type-node-requires-3 c κs =
       let p = c .before in
-      let d = p .before .before in
+      let d = turned (p .before) in
       let v = given (start₅ d) in
       (omega (arith, p .operand3 .ensures .1 (omega (arith, from₃-is d v)), start₅ d .pre .0), ready₃ p v)
 
@@ -977,42 +1010,40 @@ module _ (t : ℕ) where
   same-length-9 : lts.Need-same-length-9 (claims t) (node-at t) node.Post
   same-length-9 c =
       let x = c .before .before .before .before in
-      let d = turned x in
+      let d = turned (to-past x) in
       w₆-length x ∙ done₅ d (given (start₅ d)) .same
 
   returns-9 : lts.Need-returns-9 (claims t) (node-at t) node.Post
   returns-9 c v =
       let x = c .before .before .before .before in
-      let d = turned x in
-      let y = to-index d in
-      steps.third-refuses (G (start₅ d)) v (has-three y v) (i-is y) (done₅ d v) (from₃-is d v) (met₃ x v)
+      let p = to-past x in
+      let d = turned p in
+      steps.third-refuses (G (start₅ d)) v (has-three (to-three d) v) (done₅ d v) (past-is p) (from₃-is d v) (met₃ x v)
       (c .before .match6 .keys2)
 
   -- the third operand has a type
   abbrev to-turned : Third-typed → Turned
-  to-turned c = turned (third c)
+  to-turned c = turned (to-past (third c))
 
   abbrev start₆ : Third-typed → Start
   start₆ c = start₅ (to-turned c)
 
   done₆ : (c : Third-typed) (v : Given (start₆ c))
-      → let d = to-turned c in
-      steps.Done6 (G (start₆ c)) v (i (to-index d)) (first-type (to-between (to-second d)) v) (w₆ (third c))
+      → let d = to-turned c in steps.Done6 (G (start₆ c)) v (tested d v) (first-branch d v) (w₆ (third c))
   done₆ c v =
       let x = third c in
-      let d = turned x in
-      let y = to-index d in
-      steps.done6 (G (start₅ d)) v (has-three y v) (i-is y) (done₅ d v) (from₃-is d v) (met₃ x v)
-      (c .before .match6 .keys1) (w₆-length x)
+      let p = to-past x in
+      let d = turned p in
+      steps.done6 (G (start₅ d)) v (has-three (to-three d) v) (done₅ d v) (past-is p) (from₃-is d v) (met₃ x v)
+      (to-end (past p) (w₅ (turn d))) (z₃-length x) (c .before .match6 .keys1) refl
 
   -- ---- after three operands
 
+  abbrev branches : (c : Third-typed) (v : Given (start₆ c)) → Branches (T (start₆ c)) (S (start₆ c)) (w₆ (third c))
+  branches c v = steps.branches-of (G (start₆ c)) v (has-three (to-three (to-turned c)) v) (done₆ c v)
+
   after-second-branch-requires : lts.Need-after-second-branch-requires (claims t) (node-at t) node.Post
-  after-second-branch-requires c κs =
-      let d = c .before in
-      let y = to-index (to-turned d) in
-      let v = given (start₆ d) in
-      steps.done-asks (G (start₆ d)) v (has-three y v) (i-is y) (done₆ d v)
+  after-second-branch-requires c κs = let d = c .before in branches d (given (start₆ d))
 
   same-length-10 : lts.Need-same-length-10 (claims t) (node-at t) node.Post
   same-length-10 c =
@@ -1024,14 +1055,12 @@ module _ (t : ℕ) where
   returns-10 c v =
       let x = c .before .before in
       let d = x .before .before in
-      let y = to-index (to-turned d) in
+      let y = to-three (to-turned d) in
       let s = start₆ d in
       let o = has-three y v in
-      let j = i-is y in
       let k = done₆ d v in
-      steps.done-meets (G s) v o j k (by-is (middle (to-between (two y))) v)
-      (x .after-second-branch .ensures (k .type) (type-at (T s) (i y)) (s .args .b) (k .held)
-      (v .table .entry (i y) (steps.case-named (G s) v o j)) (steps.done-room (G s) v o j k))
+      steps.done-meets (G s) v o k (by-is (middle (to-between (y .before))) v)
+      (x .after-second-branch .ensures (branches d v) (s .args .b) (steps.done-room (G s) v o k))
 
 pub +type-node-spec : {M : Type 1} → statement M
 +type-node-spec =
@@ -1089,7 +1118,6 @@ pub +type-node-spec : {M : Type 1} → statement M
     (after-two-requires t)
     (same-length-7 t)
     (returns-7 t)
-    (index-requires t)
     (after-first-branch-requires t)
     (enum-told-7 t)
     (enum-told-8 t)
@@ -1097,8 +1125,12 @@ pub +type-node-spec : {M : Type 1} → statement M
     (same-length-8 t)
     (returns-8 t)
     (operand-end-requires-3 t)
+    (kept-branch-requires t)
     (operand-requires-3 t)
     (add-type-node-3 t)
+    (sub-type-node-3 t)
+    (part-type-node-start-3 t)
+    (part-type-node-end-3 t)
     (type-node-requires-3 t)
     (enum-told-9 t)
     (enum-told-10 t)
