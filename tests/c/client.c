@@ -20,7 +20,7 @@ static uint8_t work[WIGNELD_WORK_BYTES], found[WIGNELD_ANSWER_BYTES];
 static uint8_t first[WIGNELD_RUN_BYTES], scratch[WIGNELD_RUN_BYTES], steps[WIGNELD_STEPS_BYTES], sheet[WIGNELD_SHEET_BYTES];
 
 struct bytes {
-    uint8_t at[WIGNELD_MOST_DEPTH * WIGNELD_SCRIPT_RECORD_BYTES];
+    uint8_t at[2 * WIGNELD_MOST_DEPTH * WIGNELD_SCRIPT_RECORD_BYTES];
     size_t length;
 };
 
@@ -227,6 +227,95 @@ static void recursive(void)
     }
 }
 
+/* A public yes tested by anyone, with these records as the branches: `number` is the case's. */
+static struct bytes chosen(unsigned number, unsigned first_kind, unsigned second_kind, unsigned who)
+{
+    struct bytes script;
+
+    memset(&script, 0, sizeof script);
+    put_record(&script, WIGNELD_KIND_CASE, 0, 0, number);
+    put_record(&script, WIGNELD_KIND_FIRST_INJECTION, 0, 0, PUBLIC);
+    put_record(&script, WIGNELD_KIND_UNIT, 0, 0, 0);
+    put_record(&script, first_kind, 0, 0, first_kind == WIGNELD_KIND_UNIT ? 0 : PUBLIC);
+    if (first_kind != WIGNELD_KIND_UNIT)
+        put_record(&script, WIGNELD_KIND_UNIT, 0, 0, 0);
+    put_record(&script, second_kind, who, who, second_kind == WIGNELD_KIND_UNIT ? 0 : PUBLIC);
+    if (second_kind != WIGNELD_KIND_UNIT)
+        put_record(&script, WIGNELD_KIND_UNIT, 0, 0, 0);
+    return script;
+}
+
+/* A case that finds its type: the lowest above both branches, where the lender's is above all of them; and none where they have
+   different forms. */
+static void own_type(void)
+{
+    const unsigned yes = WIGNELD_KIND_FIRST_INJECTION, no = WIGNELD_KIND_SECOND_INJECTION, unit = WIGNELD_KIND_UNIT;
+    struct bytes types = tables(), script = chosen(LENDERS, yes, no, 0);
+    uint64_t answer = check(&types, &script);
+    unsigned who;
+
+    HOLD(wigneld_count(answer) == 3 && is_record(found, WIGNELD_TYPE_SUM, 1, 1));
+    for (who = 0; who < 2; who++) {
+        script = chosen(WIGNELD_OWN_TYPE, yes, no, who);
+        answer = check(&types, &script);
+        HOLD(wigneld_count(answer) == 3 && is_record(found, WIGNELD_TYPE_SUM, who, who) && all(work, sizeof work, 0));
+    }
+    script = chosen(WIGNELD_OWN_TYPE, yes, unit, 0);
+    answer = check(&types, &script);
+    HOLD(wigneld_question(answer) == 31 && wigneld_place(answer) == 0 && wigneld_count(answer) == 0);
+    HOLD(all(work, sizeof work, 0) && all(found, sizeof found, OLD));
+    answer = run(&types, &script, 1000);
+    HOLD(wigneld_run_end(answer) == WIGNELD_END_VALUE && wigneld_run_steps(answer, steps) == 2);
+
+    /* A step inside it keeps its number. */
+    memset(&script, 0, sizeof script);
+    put_record(&script, WIGNELD_KIND_CASE, 0, 0, WIGNELD_OWN_TYPE);
+    put_record(&script, WIGNELD_KIND_PROTECT, 0, 0, 0);
+    put_record(&script, WIGNELD_KIND_FIRST_INJECTION, 0, 0, PUBLIC);
+    for (who = 0; who < 3; who++)
+        put_record(&script, WIGNELD_KIND_UNIT, 0, 0, 0);
+    answer = run(&types, &script, 1);
+    HOLD(wigneld_run_end(answer) == WIGNELD_END_SPENT && wigneld_run_count(answer) == 5);
+    HOLD(first[WIGNELD_AT_KIND] == WIGNELD_KIND_CASE && first[WIGNELD_AT_NUMBER] == 0xff && first[WIGNELD_AT_NUMBER + 1] == 0xff);
+
+    /* No other kind has such a number, and no case the one before it. */
+    script.at[WIGNELD_AT_NUMBER]--;
+    HOLD(wigneld_question(check(&types, &script)) == 16);
+    script.at[WIGNELD_AT_KIND] = WIGNELD_KIND_FUNCTION;
+    script.at[WIGNELD_AT_NUMBER]++;
+    HOLD(wigneld_question(check(&types, &script)) == 16);
+}
+
+/* Protects above a case that finds its type: its operands are two levels below it, the unit in the tested one a level more. */
+static struct bytes deep(unsigned protects)
+{
+    struct bytes script;
+    unsigned i;
+
+    memset(&script, 0, sizeof script);
+    for (i = 0; i < protects; i++)
+        put_record(&script, WIGNELD_KIND_PROTECT, 0, 0, 0);
+    put_record(&script, WIGNELD_KIND_CASE, 0, 0, WIGNELD_OWN_TYPE);
+    put_record(&script, WIGNELD_KIND_FIRST_INJECTION, 0, 0, PUBLIC);
+    for (i = 0; i < 3; i++)
+        put_record(&script, WIGNELD_KIND_UNIT, 0, 0, 0);
+    return script;
+}
+
+static void own_depth(void)
+{
+    struct bytes types = tables(), script = deep(WIGNELD_MOST_DEPTH - 4);
+    unsigned more;
+
+    HOLD(wigneld_count(check(&types, &script)) == 1);
+    for (more = 1; more < 4; more++) {
+        script = deep(WIGNELD_MOST_DEPTH - 4 + more);
+        /* Too deep is first the unit, then the injection above it. */
+        HOLD(wigneld_question(check(&types, &script)) == 18);
+        HOLD(wigneld_place(check(&types, &script)) == WIGNELD_MOST_DEPTH - 4 + more + (more == 1 ? 2 : 1));
+    }
+}
+
 /* A refused run is no value, has no records and no steps, and writes nothing. */
 static void refused_run(void)
 {
@@ -293,7 +382,7 @@ static void every_refusal(void)
 static void places(void)
 {
     /* - nothing, g a row, t a type record, s a script record; by number from 0. */
-    static const char counted[] = "---gggg--tttt-sssssssssss---";
+    static const char counted[] = "---gggg--tttt-sssssssssss------s";
     unsigned question;
 
     HOLD(sizeof counted - 1 == WIGNELD_LAST_QUESTION + 1);
@@ -301,7 +390,7 @@ static void places(void)
         unsigned kind = wigneld_place_kind(question);
 
         HOLD(kind <= WIGNELD_PLACE_SCRIPT_RECORD && counted[question] == "-gts"[kind]);
-        HOLD(strcmp(wigneld_asked(question), "no such question") != 0);
+        HOLD((strcmp(wigneld_asked(question), "no such question") == 0) == (question >= 28 && question <= 30));
     }
     HOLD(strcmp(wigneld_asked(WIGNELD_LAST_QUESTION + 1), "no such question") == 0);
     HOLD(wigneld_place_kind(WIGNELD_LAST_QUESTION + 1) == WIGNELD_PLACE_NOTHING);
@@ -312,6 +401,8 @@ int main(void)
     accepted();
     refused_and_stopped();
     recursive();
+    own_type();
+    own_depth();
     refused_run();
     refused_sheet();
     every_refusal();

@@ -94,15 +94,21 @@ static void identity(struct script *s)
     record(s, WIGNELD_KIND_VARIABLE, 0);
 }
 
-/* The ways down: a record of each kind, with the next level in each of its operands. */
+/* The ways down: a record of each kind, with the next level in each of its operands; of a case also where it finds its type. */
 enum way {
     FUNCTION, PAIR_FIRST, PAIR_SECOND, FIRST_INJECTION, SECOND_INJECTION, APPLICATION_FIRST, APPLICATION_SECOND, FIRST_PROJECTION,
-    SECOND_PROJECTION, CASE_TESTED, CASE_FIRST, CASE_SECOND, PROTECT, RECURSION, WAYS
+    SECOND_PROJECTION, CASE_TESTED, CASE_FIRST, CASE_SECOND, OWN_TESTED, OWN_FIRST, OWN_SECOND, PROTECT, RECURSION, WAYS
 };
+
+/* How much deeper the next level is. */
+static unsigned weight(enum way way)
+{
+    return way == OWN_TESTED || way == OWN_FIRST || way == OWN_SECOND ? 2 : 1;
+}
 
 static void level(struct script *s, enum way way)
 {
-    s->depth++;
+    s->depth += weight(way);
     switch (way) {
     case FUNCTION: record(s, WIGNELD_KIND_FUNCTION, 1); s->binders++; break;
     case PAIR_FIRST: record(s, WIGNELD_KIND_PAIR, 0); owe(s); break;
@@ -121,10 +127,27 @@ static void level(struct script *s, enum way way)
         injected_unit(s);
         s->binders++;
         break;
+    case OWN_TESTED: record(s, WIGNELD_KIND_CASE, WIGNELD_OWN_TYPE); owe(s); owe(s); break;
+    case OWN_FIRST: record(s, WIGNELD_KIND_CASE, WIGNELD_OWN_TYPE); injected_unit(s); s->binders++; owe(s); break;
+    case OWN_SECOND:
+        record(s, WIGNELD_KIND_CASE, WIGNELD_OWN_TYPE);
+        injected_unit(s);
+        injected_unit(s);
+        s->binders++;
+        break;
     case PROTECT: record(s, WIGNELD_KIND_PROTECT, 0); break;
     case RECURSION: record(s, WIGNELD_KIND_RECURSION, comb(WIGNELD_TYPE_FUNCTION, 1)); s->binders++; break;
     case WAYS: break;
     }
+}
+
+/* Levels of one way down to this depth; a protect where one more would be too deep. */
+static void descend(struct script *s, enum way way, unsigned depth)
+{
+    while (s->depth + weight(way) <= depth)
+        level(s, way);
+    while (s->depth < depth)
+        level(s, PROTECT);
 }
 
 /* A variable of the outermost binder. */
@@ -140,18 +163,22 @@ static void pay(struct script *s)
         record(s, WIGNELD_KIND_UNIT, 0);
 }
 
-/* What is compared at the lowest level but one: a deep type with itself. */
-enum comparison { BODY, ARGUMENT, INJECTED, BRANCH, COMPARISONS };
+/* What is done at the lowest level but one with a deep type and itself: compared, or their common type found. */
+enum comparison { BODY, ARGUMENT, INJECTED, BRANCH, COMMON, COMPARISONS };
 
 static void check_script(struct script *s, enum way way, enum comparison comparison, unsigned kind, int right)
 {
     unsigned type = comb(comparison == BRANCH ? WIGNELD_TYPE_SUM : kind, right);
 
     memset(s, 0, sizeof *s);
+    if (comparison == COMMON) {
+        record(s, WIGNELD_KIND_FUNCTION, comb(WIGNELD_TYPE_SUM, 1));
+        s->depth = s->binders = 1;
+    }
     record(s, WIGNELD_KIND_FUNCTION, comparison == INJECTED ? comb(WIGNELD_TYPE_SUM, 0) + 1 : type);
-    s->depth = s->binders = 1;
-    while (s->depth < WIGNELD_MOST_DEPTH - 2 - (comparison == ARGUMENT))
-        level(s, way);
+    s->depth++;
+    s->binders++;
+    descend(s, way, WIGNELD_MOST_DEPTH - 2 - (comparison == ARGUMENT || comparison == COMMON));
     switch (comparison) {
     case BODY:
         record(s, WIGNELD_KIND_RECURSION, comb(WIGNELD_TYPE_FUNCTION, right));
@@ -173,6 +200,12 @@ static void check_script(struct script *s, enum way way, enum comparison compari
         s->binders++;
         outermost(s);
         outermost(s);
+        break;
+    case COMMON:
+        record(s, WIGNELD_KIND_CASE, WIGNELD_OWN_TYPE);
+        outermost(s);
+        record(s, WIGNELD_KIND_VARIABLE, s->binders - 1); /* the second binder, under the case's own */
+        record(s, WIGNELD_KIND_VARIABLE, s->binders - 1);
         break;
     case COMPARISONS: break;
     }
@@ -208,8 +241,7 @@ static void run_script(struct script *s, enum way way, enum run run)
     case FAR:
     case RUNS: break;
     }
-    while (s->depth < WIGNELD_MOST_DEPTH - 2)
-        level(s, way);
+    descend(s, way, WIGNELD_MOST_DEPTH - 2);
     record(s, WIGNELD_KIND_PROTECT, 0);
     if (run == FAR)
         record(s, WIGNELD_KIND_UNIT, 0);
@@ -221,8 +253,7 @@ static void run_script(struct script *s, enum way way, enum run run)
 static void sheet_script(struct script *s, enum way way)
 {
     memset(s, 0, sizeof *s);
-    while (s->depth < WIGNELD_MOST_DEPTH - 1)
-        level(s, way);
+    descend(s, way, WIGNELD_MOST_DEPTH - 1);
     record(s, WIGNELD_KIND_UNIT, 0);
     pay(s);
 }

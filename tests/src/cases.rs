@@ -1,7 +1,7 @@
 //! The inputs of cases A to L.
 
 use crate::generate::words;
-use crate::limits::SCRIPT_BYTES;
+use crate::limits::{OWN_TYPE, SCRIPT_BYTES};
 use crate::script::Record;
 
 /// The three files a call is given.
@@ -69,6 +69,25 @@ pub fn a() -> Inputs {
 /// Also E, with budget 1.
 pub fn b() -> Inputs {
     with_script(case_term(1, 1, 1))
+}
+
+/// Document 02, item 3: B with a case that finds its own type, which is type 0 again.
+pub fn b_with_own_type() -> Inputs {
+    let mut inputs = b();
+    inputs.script[4..SCRIPT_BYTES].copy_from_slice(&OWN_TYPE.to_le_bytes());
+    inputs
+}
+
+/// The same with a unit as its second branch: a sum and a unit have no common type.
+pub fn no_common_type() -> Inputs {
+    let mut inputs = b_with_own_type();
+    inputs.script.drain(5 * SCRIPT_BYTES..6 * SCRIPT_BYTES);
+    inputs
+}
+
+/// A function whose parameter has a case's number.
+pub fn own_type_of_a_function() -> Inputs {
+    with_script([record(2, 0, 0, OWN_TYPE), record(1, 0, 0, 0)].concat())
 }
 
 pub fn c() -> Inputs {

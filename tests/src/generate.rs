@@ -6,8 +6,8 @@ use std::rc::Rc;
 
 use crate::groups::{Group, Groups};
 use crate::limits::{
-    MOST_DEPTH, MOST_GROUPS, MOST_TABLE_RECORDS, MOST_TYPE_RECORDS, SCRIPT_BYTES, WORDS_BYTES,
-    WORD_BYTES,
+    MOST_DEPTH, MOST_GROUPS, MOST_TABLE_RECORDS, MOST_TYPE_RECORDS, OWN_TYPE, SCRIPT_BYTES,
+    TYPE_BYTES, WORDS_BYTES, WORD_BYTES,
 };
 use crate::script::{names_ir, names_number, names_r, operand_count, Record, Side, Term, OPERANDS};
 use crate::types::{at_or_below, read_tables, Form, Marks, Tables, Type};
@@ -178,21 +178,45 @@ pub fn closure_system(rng: &mut Rng) -> Order {
     order_by(sets.len(), |a, b| sets[a] & !sets[b] == 0)
 }
 
+/// Those of `left` that no other of them is below.
+fn minimal(order: &Order, left: &[usize]) -> Vec<usize> {
+    let lowest = |&a: &usize| left.iter().all(|&b| a == b || !order[b][a]);
+    left.iter().copied().filter(lowest).collect()
+}
+
 /// The groups table of an order, numbered at random among the numberings in which g ⊑ h implies
 /// g ≤ h.
 pub fn groups_table(rng: &mut Rng, order: &Order) -> Vec<u8> {
     let mut left: Vec<usize> = (0..order.len()).collect();
     let mut numbered = Vec::new();
     while !left.is_empty() {
-        let minimal: Vec<usize> = left
-            .iter()
-            .copied()
-            .filter(|&a| left.iter().all(|&b| a == b || !order[b][a]))
-            .collect();
-        let next = *rng.pick(&minimal);
+        let next = *rng.pick(&minimal(order, &left));
         numbered.push(next);
         left.retain(|&a| a != next);
     }
+    table_of(order, &numbered)
+}
+
+/// Every groups table of an order, one for each such numbering; equal tables stand once.
+pub fn groups_tables(order: &Order) -> Vec<Vec<u8>> {
+    fn numbered(order: &Order, done: &[usize], tables: &mut Vec<Vec<u8>>) {
+        let left: Vec<usize> = (0..order.len()).filter(|a| !done.contains(a)).collect();
+        if left.is_empty() {
+            tables.push(table_of(order, done));
+        }
+        for next in minimal(order, &left) {
+            numbered(order, &[done, &[next]].concat(), tables);
+        }
+    }
+    let mut tables = Vec::new();
+    numbered(order, &[], &mut tables);
+    tables.sort();
+    tables.dedup();
+    tables
+}
+
+/// The table of an order whose elements are numbered in this order.
+fn table_of(order: &Order, numbered: &[usize]) -> Vec<u8> {
     let word = |&g: &usize| {
         let bits = numbered.iter().enumerate().filter(|(_, &h)| order[g][h]);
         bits.fold(0u32, |word, (position, _)| word | 1 << position)
@@ -229,6 +253,23 @@ pub fn random_order(rng: &mut Rng) -> Order {
 pub fn random_groups(rng: &mut Rng) -> Vec<u8> {
     let order = random_order(rng);
     groups_table(rng, &order)
+}
+
+/// Small lattices in every numbering: chains, case J's, M3, N5, and products. In most of them some
+/// join isn't the larger and some meet isn't the smaller of two numbers.
+pub fn small_lattices() -> Vec<Vec<u8>> {
+    let two = chain(2);
+    let forms = [
+        chain(1),
+        chain(2),
+        chain(3),
+        product(&two, &two),
+        diamond(3),
+        pentagon(),
+        product(&two, &chain(3)),
+        stacked(&product(&two, &two), &two),
+    ];
+    forms.iter().flat_map(groups_tables).collect()
 }
 
 /// The words of a groups table as its bytes.
@@ -553,21 +594,21 @@ impl Maker<'_> {
 
             // Case of a sum of the table.
             8 | 9 => {
-                let result = self.index_where(|groups, s| at_or_below(groups, s, wanted))?;
+                let (result, branch) = self.result(wanted, rest)?;
                 let index = self.index_where(|_, s| matches!(s.form, Form::Sum(..)))?;
                 let mut sum = self.all[index as usize].clone();
                 sum.marks = self.opened(wanted);
-                let tested = self.make(&sum, part);
-                Some(self.case(tested, &sum, result, rest))
+                let tested = self.make(&sum, part.saturating_sub(1));
+                Some(self.case(tested, &sum, result, [&branch, &branch], rest))
             }
 
             // Case of a variable.
             10 => {
-                let result = self.index_where(|groups, s| at_or_below(groups, s, wanted))?;
+                let (result, branch) = self.result(wanted, fuel)?;
                 let (variable, sum) = self.variable_where(|groups, s| {
                     matches!(s.form, Form::Sum(..)) && groups.below(s.marks.ir, wanted.marks.ir)
                 })?;
-                Some(self.case(Rc::new(variable), &sum, result, fuel))
+                Some(self.case(Rc::new(variable), &sum, result, [&branch, &branch], fuel))
             }
 
             11 => {
@@ -600,15 +641,52 @@ impl Maker<'_> {
         }
     }
 
-    fn case(&mut self, tested: Rc<Term>, sum: &Type, result: u16, fuel: usize) -> Term {
+    /// The number of a case that is wanted, and what its branches have to be at or below: a type of the
+    /// table, or whatever is wanted where the case finds its own.
+    fn result(&mut self, wanted: &Type, fuel: usize) -> Option<(u16, Type)> {
+        if fuel > 0 && self.rng.one_in(2) {
+            return Some((OWN_TYPE, wanted.clone()));
+        }
+        let index = self.index_where(|groups, s| at_or_below(groups, s, wanted))?;
+        Some((index, self.all[index as usize].clone()))
+    }
+
+    /// A case of `tested`, which has the type `sum`. One that finds its type is deeper, so less is left
+    /// for its branches.
+    fn case(
+        &mut self,
+        tested: Rc<Term>,
+        sum: &Type,
+        result: u16,
+        branches: [&Type; 2],
+        fuel: usize,
+    ) -> Term {
         let (a, b) = sum.sides().expect("a sum has sides");
         let r = self.above(sum.marks.r);
-        let wanted = self.all[result as usize].clone();
+        let fuel = if result == OWN_TYPE { fuel.saturating_sub(1) } else { fuel };
         let half = self.rng.below(fuel + 1);
-        let first = self.under((**a).clone(), &wanted, half);
-        let second = self.under((**b).clone(), &wanted, fuel - half);
+        let first = self.under((**a).clone(), branches[0], half);
+        let second = self.under((**b).clone(), branches[1], fuel - half);
         Term::Case(r, result, tested, first, second)
     }
+
+    /// A case that finds its type, its branches of two types of this shape, so that what is found may stand
+    /// nowhere in the table.
+    fn choice(&mut self, shape: &Type, fuel: usize) -> Option<Term> {
+        let alike = |_: &Groups, s: &Type| same_shape(s, shape);
+        let (one, other) = (self.index_where(alike)?, self.index_where(alike)?);
+        let index = self.index_where(|_, s| matches!(s.form, Form::Sum(..)))?;
+        let sum = self.all[index as usize].clone();
+        let branches = [one, other].map(|index| self.all[index as usize].clone());
+        let tested = self.make(&sum, fuel / 4);
+        Some(self.case(tested, &sum, OWN_TYPE, [&branches[0], &branches[1]], fuel / 2))
+    }
+}
+
+/// The same kinds in the same order.
+pub fn same_shape(s: &Type, t: &Type) -> bool {
+    let kinds = |s: &Type| -> Vec<u8> { s.write().into_iter().step_by(TYPE_BYTES).collect() };
+    kinds(s) == kinds(t)
 }
 
 fn maker<'a>(rng: &'a mut Rng, tables: &'a Tables) -> Maker<'a> {
@@ -646,6 +724,35 @@ pub fn typed_recursion(rng: &mut Rng, tables: &Tables, fuel: usize) -> Option<Rc
     let argument = maker.make(parameter, fuel / 4);
     let recursion = Term::Recursion(maker.caller(own.marks.r), index, body);
     Some(Rc::new(Term::Application(r, Rc::new(recursion), argument)))
+}
+
+/// A case that finds its type, taken apart by the highest group where that is of use: a sum by a case
+/// that finds its type again, a pair by a projection, a function by giving it a unit.
+pub fn typed_choice(rng: &mut Rng, tables: &Tables, fuel: usize) -> Option<Rc<Term>> {
+    let mut maker = maker(rng, tables);
+    let index = maker.rng.below(maker.all.len());
+    let shape = maker.all[index].clone();
+    let choice = Rc::new(maker.choice(&shape, fuel)?);
+    let top = (maker.groups.count() - 1) as Group;
+    let x = || Rc::new(Term::Variable(0));
+    let opened = match &shape.form {
+        Form::Sum(a, b) if same_shape(a, b) => Term::Case(top, OWN_TYPE, choice, x(), x()),
+        Form::Sum(..) => Term::Case(top, OWN_TYPE, choice, unit(), unit()),
+        Form::Pair(..) => Term::Projection(Side::Second, top, choice),
+        Form::Function(a, _) if a.kind() == 0 => Term::Application(top, choice, unit()),
+        Form::Unit | Form::Function(..) => return Some(choice),
+    };
+    Some(Rc::new(opened))
+}
+
+/// A well-typed script of any of these forms.
+pub fn some_typed(rng: &mut Rng, tables: &Tables, fuel: usize) -> Rc<Term> {
+    let special = match rng.below(6) {
+        0 | 1 => typed_recursion(rng, tables, fuel),
+        2 => typed_choice(rng, tables, fuel),
+        _ => None,
+    };
+    special.unwrap_or_else(|| typed_script(rng, tables, fuel))
 }
 
 /// A well-typed script of up to `most` records: many smaller ones, each but the first dropped from a
@@ -725,6 +832,7 @@ fn untyped(rng: &mut Rng, tables: &Tables, binders: usize, fuel: usize) -> Rc<Te
     // The top group reads everything, so that runs get further.
     let node = if rng.one_in(4) { group } else { (tables.groups.count() - 1) as Group };
     let any_type = rng.below(tables.types.count()) as u16;
+    let own_type = rng.one_in(2);
     let (sums, functions) = (indexes_of_kind(tables, 1), indexes_of_kind(tables, 3));
     let side = if rng.one_in(2) { Side::First } else { Side::Second };
     let form = rng.below(14);
@@ -747,7 +855,10 @@ fn untyped(rng: &mut Rng, tables: &Tables, binders: usize, fuel: usize) -> Rc<Te
                 Some(&sum) => Rc::new(Term::Injection(side, marks, sum, sub(0, part / 2))),
                 None => sub(0, part / 2),
             };
-            Term::Case(node, any_type, tested, sub(1, part / 2), sub(1, rest))
+            // Deeper where it finds its type, so less is left for the last branch.
+            let (result, rest) =
+                if own_type { (OWN_TYPE, rest.saturating_sub(1)) } else { (any_type, rest) };
+            Term::Case(node, result, tested, sub(1, part / 2), sub(1, rest))
         }
         11 => Term::Protect(group, sub(0, fuel)),
         12 if !functions.is_empty() => {
@@ -758,6 +869,43 @@ fn untyped(rng: &mut Rng, tables: &Tables, binders: usize, fuel: usize) -> Rc<Te
         _ => leaf(rng),
     };
     Rc::new(term)
+}
+
+/// A closed term of this depth or some levels less, many of them cases that find their type, with a
+/// function far below that is applied to a deep value. Nothing but its depth may be wrong before typing.
+pub fn deep_script(rng: &mut Rng, tables: &Tables, depth: usize) -> Rc<Term> {
+    let x = Rc::new(Term::Variable(0));
+    let result = if rng.one_in(2) { OWN_TYPE } else { 0 };
+    let body = Term::Case(0, result, x.clone(), unit(), unit());
+    let value = Rc::new(Term::Function(LOW, 0, Rc::new(body)));
+    let body = (0..rng.below(20)).fold(x, |inner, _| Rc::new(Term::Protect(0, inner)));
+    let function = Rc::new(Term::Function(LOW, 0, body));
+    let mut term = Rc::new(Term::Application(0, function, value));
+    let mut reached = term.depth();
+    while reached < depth {
+        term = Rc::new(level_around(rng, tables, term));
+        // What stands beside the operand is shallower.
+        reached += term.record().weight();
+    }
+    term
+}
+
+/// A term with this one as an operand, mostly where it is stepped.
+fn level_around(rng: &mut Rng, tables: &Tables, term: Rc<Term>) -> Term {
+    let result = if rng.one_in(3) { 0 } else { OWN_TYPE };
+    match rng.below(9) {
+        0 => Term::Pair(LOW, term, unit()),
+        1 => Term::Pair(LOW, unit(), term),
+        2 => Term::Projection(Side::First, 0, term),
+        3 => match indexes_of_kind(tables, 1).first() {
+            Some(&sum) => Term::Injection(Side::Second, LOW, sum, term),
+            None => Term::Application(0, term, unit()),
+        },
+        4..=6 => Term::Case(0, result, term, unit(), unit()),
+        7 if rng.one_in(20) => Term::Case(0, result, unit(), term, unit()),
+        7 if rng.one_in(20) => Term::Case(0, result, unit(), unit(), term),
+        _ => Term::Protect(0, term),
+    }
 }
 
 /// A value that passes questions 13 to 19, functions' bodies included.
@@ -786,14 +934,19 @@ pub fn untyped_value(rng: &mut Rng, tables: &Tables, fuel: usize) -> Rc<Term> {
     Rc::new(term)
 }
 
-/// Where a record starts: any one, or one of the recursions', which are rare.
+/// Where a record starts: any one, or one of the recursions' or of the cases' that find their type,
+/// which are rare.
 fn some_record(rng: &mut Rng, script: &[u8]) -> usize {
+    let rare = |at: &usize| {
+        let record = Record::read(&script[*at..at + SCRIPT_BYTES]);
+        record.kind == 11 || record.finds_own_type()
+    };
     let starts = (0..script.len()).step_by(SCRIPT_BYTES);
-    let recursions: Vec<usize> = starts.filter(|&at| script[at] == 11).collect();
-    if recursions.is_empty() || !rng.one_in(4) {
+    let rare: Vec<usize> = starts.filter(rare).collect();
+    if rare.is_empty() || !rng.one_in(4) {
         rng.below(script.len() / SCRIPT_BYTES) * SCRIPT_BYTES
     } else {
-        *rng.pick(&recursions)
+        *rng.pick(&rare)
     }
 }
 
@@ -838,6 +991,7 @@ pub fn near_miss(rng: &mut Rng, tables: &Tables, script: &[u8]) -> Vec<u8> {
                 }
             }
         }
+        4 if rng.one_in(3) => record.number = OWN_TYPE,
         4 => record.number = rng.below(tables.types.count() + 1) as u16,
         _ => record.number = record.number.wrapping_add(if rng.one_in(2) { 1 } else { 0xFFFF }),
     }

@@ -42,6 +42,14 @@ impl Groups {
         let common = self.rows[g as usize] & self.rows[h as usize];
         lowest_bit(common).expect("question 6: any two groups have a join") as Group
     }
+
+    /// The meet g ⊓ h: of the groups at or below both, the highest. Groups are numbered upward and two
+    /// of them have a join, so it has the highest number.
+    pub fn meet(&self, g: Group, h: Group) -> Group {
+        let mut common =
+            (0..self.count() as Group).filter(|&k| self.below(k, g) && self.below(k, h));
+        common.next_back().expect("question 7: 0 is at or below both")
+    }
 }
 
 /// Questions 2 to 7, then the table.

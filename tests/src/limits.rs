@@ -18,6 +18,8 @@ pub const SCRIPT_BYTES: usize = 6;
 pub const MOST_SCRIPT_RECORDS: usize = 8192;
 /// Question 18 and "too big": depth 256, the outermost record has depth 1.
 pub const MOST_DEPTH: usize = 256;
+/// Document 02, item 3: the number of a case that finds its own type. No types table has so many.
+pub const OWN_TYPE: u16 = 65_535;
 
 /// Sheet: "4-byte records".
 pub const SHEET_BYTES: usize = 4;
@@ -38,5 +40,5 @@ pub const REPORT_SHEET_BYTES: usize = MOST_SCRIPT_RECORDS * SHEET_BYTES;
 /// Report program and cases: "budget 1,000".
 pub const REPORT_BUDGET: u64 = 1000;
 
-/// "Questions, in order": 1 to 27.
-pub const LAST_QUESTION: usize = 27;
+/// The highest question of a call: 1 to 27, and 31 of document 02, item 3.
+pub const LAST_QUESTION: usize = 31;

@@ -7,6 +7,13 @@ pub struct Refusal {
     pub place: u32,
 }
 
+impl Refusal {
+    /// Was typing under way? 31 is asked between 22 and 24, whatever its number.
+    pub fn is_of_typing(&self) -> bool {
+        matches!(self.question, 20..=24 | 31)
+    }
+}
+
 /// What a call hands back: its answer, or the first no.
 pub type Answer<T> = Result<T, Refusal>;
 

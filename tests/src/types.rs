@@ -102,6 +102,51 @@ pub fn compare(groups: &Groups, s: &Type, t: &Type) -> Comparison {
     }
 }
 
+/// Which of two types' common types is meant.
+#[derive(Debug, Clone, Copy, PartialEq, Eq)]
+pub enum Bound {
+    /// "the lowest type at or above both"
+    LowestAbove,
+    /// "highest common types too, for parameters"
+    HighestBelow,
+}
+
+impl Bound {
+    fn turned(self) -> Bound {
+        match self {
+            Bound::LowestAbove => Bound::HighestBelow,
+            Bound::HighestBelow => Bound::LowestAbove,
+        }
+    }
+
+    fn group(self, groups: &Groups, g: Group, h: Group) -> Group {
+        match self {
+            Bound::LowestAbove => groups.join(g, h),
+            Bound::HighestBelow => groups.meet(g, h),
+        }
+    }
+}
+
+/// The common type of two types, if they have one: by table 2 only types of equal kinds throughout are
+/// ever at or below one another, and a function's parameter counts the other way round.
+pub fn common(bound: Bound, groups: &Groups, s: &Type, t: &Type) -> Option<Type> {
+    let marks = Marks {
+        r: bound.group(groups, s.marks.r, t.marks.r),
+        ir: bound.group(groups, s.marks.ir, t.marks.ir),
+    };
+    let side = |bound, a: &Type, b: &Type| common(bound, groups, a, b).map(Rc::new);
+    let form = match (&s.form, &t.form) {
+        (Form::Unit, Form::Unit) => Form::Unit,
+        (Form::Sum(a, b), Form::Sum(c, d)) => Form::Sum(side(bound, a, c)?, side(bound, b, d)?),
+        (Form::Pair(a, b), Form::Pair(c, d)) => Form::Pair(side(bound, a, c)?, side(bound, b, d)?),
+        (Form::Function(a, b), Form::Function(c, d)) => {
+            Form::Function(side(bound.turned(), a, c)?, side(bound, b, d)?)
+        }
+        _ => return None,
+    };
+    Some(Type { marks, form })
+}
+
 /// κ • g: g joined into both r and ir.
 pub fn raise_marks(groups: &Groups, marks: Marks, g: Group) -> Marks {
     Marks { r: groups.join(marks.r, g), ir: groups.join(marks.ir, g) }

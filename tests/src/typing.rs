@@ -1,4 +1,4 @@
-//! Typing: table 3 with the document's departures, questions 20 to 24.
+//! Typing: table 3 with the documents' departures, questions 20 to 24 and 31.
 //!
 //! "Typing goes operands first, left to right; 20, 21 and 22 come as soon as the operand concerned
 //! has its type, 23 before the body, 24 last. The place is the node." A recursion has its type
@@ -7,10 +7,10 @@
 use std::rc::Rc;
 
 use crate::groups::{Group, Groups};
-use crate::limits::MOST_TYPE_RECORDS;
+use crate::limits::{MOST_TYPE_RECORDS, OWN_TYPE};
 use crate::refusal::{ask, refuse, Answer};
 use crate::script::{Side, Term};
-use crate::types::{at_or_below, raise, Form, Marks, Tables, Type};
+use crate::types::{at_or_below, common, raise, Bound, Form, Marks, Tables, Type};
 
 /// The lowest type of a script, or the first no.
 pub fn type_of(tables: &Tables, term: &Term) -> Answer<Type> {
@@ -79,21 +79,23 @@ fn find(tables: &Tables, context: &mut Vec<Type>, term: &Term, place: usize) -> 
             Ok(raise(groups, part, found.marks.ir))
         }
 
-        // [Case], the result given: "both branches are at or below the result type s, and the
-        // case has s • ir of the tested operand".
+        // [Case], the result given or found; "the case has s • ir of the tested operand".
         Term::Case(r, result, tested, first, second) => {
             let found = find(tables, context, tested, place + 1)?;
             let Form::Sum(left, right) = &found.form else {
                 return refuse(20, place);
             };
             readable(groups, found.marks, *r, place)?;
-            let result = tables.types.at((*result).into());
             let at = place + 1 + tested.size();
-            let one = find_under(tables, context, (**left).clone(), first, at)?;
-            wanted_type(groups, &one, &result, place)?;
-            let at = at + first.size();
-            let other = find_under(tables, context, (**right).clone(), second, at)?;
-            wanted_type(groups, &other, &result, place)?;
+            let first = Branch { binder: left, term: first, at };
+            let second = Branch { binder: right, term: second, at: at + first.term.size() };
+            let result = match *result {
+                OWN_TYPE => own_result(tables, context, [first, second], place)?,
+                index => {
+                    let wanted = tables.types.at(index.into());
+                    given_result(tables, context, wanted, [first, second], place)?
+                }
+            };
             Ok(raise(groups, &result, found.marks.ir))
         }
 
@@ -131,6 +133,49 @@ fn find_under(
     let found = find(tables, context, term, place);
     context.pop();
     found
+}
+
+/// A branch of a case: its variable's type, its term, and where that starts.
+struct Branch<'a> {
+    binder: &'a Type,
+    term: &'a Term,
+    at: usize,
+}
+
+impl Branch<'_> {
+    fn find(&self, tables: &Tables, context: &mut Vec<Type>) -> Answer<Type> {
+        find_under(tables, context, self.binder.clone(), self.term, self.at)
+    }
+}
+
+/// "both branches are at or below the result type s": each is asked as soon as it has its type.
+fn given_result(
+    tables: &Tables,
+    context: &mut Vec<Type>,
+    result: Type,
+    [first, second]: [Branch; 2],
+    place: usize,
+) -> Answer<Type> {
+    let one = first.find(tables, context)?;
+    wanted_type(&tables.groups, &one, &result, place)?;
+    let other = second.find(tables, context)?;
+    wanted_type(&tables.groups, &other, &result, place)?;
+    Ok(result)
+}
+
+/// Document 02, item 3: "takes the lowest type at or above both branches", "22 is skipped for its
+/// branches, and 31 at the case's record follows the second branch when no common type exists".
+fn own_result(
+    tables: &Tables,
+    context: &mut Vec<Type>,
+    [first, second]: [Branch; 2],
+    place: usize,
+) -> Answer<Type> {
+    let (one, other) = (first.find(tables, context)?, second.find(tables, context)?);
+    match common(Bound::LowestAbove, &tables.groups, &one, &other) {
+        Some(lowest) => Ok(lowest),
+        None => refuse(31, place),
+    }
 }
 
 /// Question 21. Its r ⊑ the node's r?

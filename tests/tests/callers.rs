@@ -10,6 +10,7 @@ use wigneld_tests::cases::{self, record, Inputs};
 use wigneld_tests::generate::*;
 use wigneld_tests::limits::*;
 use wigneld_tests::refusal::Answer;
+use wigneld_tests::script::Record;
 use wigneld_tests::types::{read_tables, Tables};
 
 const RECURSION: u8 = 11;
@@ -204,7 +205,7 @@ fn some_inputs(rng: &mut Rng) -> Inputs {
         1 => None,
         _ => typed_recursion(rng, &world.tables, fuel),
     };
-    let term = term.unwrap_or_else(|| typed_script(rng, &world.tables, fuel));
+    let term = term.unwrap_or_else(|| some_typed(rng, &world.tables, fuel));
     let (mut types, mut script) = (world.types.clone(), term.write());
     match rng.below(8) {
         0 | 1 => script = near_miss(rng, &world.tables, &script),
@@ -218,7 +219,8 @@ fn some_inputs(rng: &mut Rng) -> Inputs {
 
 #[test]
 fn rewritten_scripts_are_checked_and_run_as_they_were() {
-    let (mut accepted, mut refused, mut ends) = (0, [0; 28], [0; 5]);
+    let (mut accepted, mut refused, mut ends) = (0, [0; LAST_QUESTION + 1], [0; 5]);
+    let mut own_type = 0;
     let enough = examples(6000, |rng| {
         let inputs = some_inputs(rng);
         let before = Inputs { script: without_callers(&inputs.script), ..inputs };
@@ -242,6 +244,8 @@ fn rewritten_scripts_are_checked_and_run_as_they_were() {
 
         // Counted where the rewriting changed something.
         if after.script != before.script {
+            let mut records = after.script.chunks_exact(SCRIPT_BYTES).map(Record::read);
+            own_type += records.any(|record| record.finds_own_type()) as u32;
             match checked.0 {
                 Ok(_) => accepted += 1,
                 Err(refusal) => refused[refusal.question as usize] += 1,
@@ -252,6 +256,7 @@ fn rewritten_scripts_are_checked_and_run_as_they_were() {
         }
     });
     assert!(!enough || accepted > 0 && ends.iter().all(|&count| count > 0), "drawn: {ends:?}");
+    assert!(!enough || own_type > 0, "scripts with cases that find their type were drawn");
     for question in [13, 14, 15, 16, 17, 19, 20, 21, 22, 23] {
         assert!(!enough || refused[question] > 0, "question {question} was drawn: {refused:?}");
     }

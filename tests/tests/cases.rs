@@ -46,6 +46,18 @@ fn case_b() {
 }
 
 #[test]
+fn case_b_with_its_own_type() {
+    let inputs = cases::b_with_own_type();
+    check_finds(&inputs, &[1, 1, 1, 0, 0, 0, 0, 0, 0, 0, 0, 0]);
+    let value = [record(4, 1, 1, 0), record(1, 0, 0, 0)].concat();
+    run_reports(&inputs, 1000, 0, 2, 2, Some(&value));
+    assert_eq!(report_of(&inputs), report_of(&cases::b()));
+    check_refuses(&cases::no_common_type(), 31, 0);
+    assert_eq!(report_of(&cases::no_common_type()), "refused 31 at 0\n");
+    assert_eq!(report_of(&cases::own_type_of_a_function()), "refused 16 at 0\n");
+}
+
+#[test]
 fn case_b_sheets() {
     let value = [record(4, 1, 1, 0), record(1, 0, 0, 0)].concat();
     let inputs = Inputs { script: value, ..cases::b() };

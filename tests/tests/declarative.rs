@@ -11,7 +11,7 @@ use common::*;
 use wigneld_tests::cases::Inputs;
 use wigneld_tests::generate::*;
 use wigneld_tests::groups::{Group, Groups};
-use wigneld_tests::limits::{ANSWER_BYTES, TYPE_BYTES, WORK_BYTES};
+use wigneld_tests::limits::{ANSWER_BYTES, OWN_TYPE, TYPE_BYTES, WORK_BYTES};
 use wigneld_tests::script::{Side, Term};
 use wigneld_tests::types::{self, raise, read_type, Form, Marks, Tables, Type};
 
@@ -114,14 +114,18 @@ impl Rules<'_> {
                 }
             }
             Term::Case(r, result, tested, first, second) => {
-                let result = at(*result);
                 for one in self.types(context, tested) {
                     if let Form::Sum(left, right) = &one.form {
-                        if groups.below(one.marks.r, *r)
-                            && self.under(context, left, first).contains(&result)
-                            && self.under(context, right, second).contains(&result)
-                        {
-                            found.push(raise(groups, &result, one.marks.ir));
+                        if groups.below(one.marks.r, *r) {
+                            let (first, second) = (
+                                self.under(context, left, first),
+                                self.under(context, right, second),
+                            );
+                            // A case that finds its type may have any that both branches have.
+                            let results = first.into_iter().filter(|s| second.contains(s));
+                            let fits = |s: &Type| *result == OWN_TYPE || *s == at(*result);
+                            let results = results.filter(fits);
+                            found.extend(results.map(|s| raise(groups, &s, one.marks.ir)));
                         }
                     }
                 }
@@ -187,8 +191,8 @@ fn small_shape(tables: &Tables, context: &[Type], term: &Term) -> Option<Type> {
         Term::Case(_, result, tested, first, second) => {
             let sum = shape(tested)?;
             let (left, right) = sum.sides()?;
-            under(left, first)?;
-            under(right, second).map(|_| at(*result))
+            let own = under(left, first)?;
+            under(right, second).map(|_| if *result == OWN_TYPE { own } else { at(*result) })
         }
         Term::Protect(_, operand) => shape(operand),
         Term::Recursion(_, function, body) => under(&at(*function), body).map(|_| at(*function)),
@@ -196,17 +200,17 @@ fn small_shape(tables: &Tables, context: &[Type], term: &Term) -> Option<Type> {
     found.filter(|found| found.size() <= 3)
 }
 
+/// Is there a case in it that finds its own type?
+fn finds_own_type(term: &Term) -> bool {
+    term.record().finds_own_type() || term.operands().iter().any(|(part, _)| finds_own_type(part))
+}
+
 fn compare(groups: Vec<u8>, count: u64, most: usize) {
-    let (mut typed, mut untyped) = (0, 0);
+    let (mut typed, mut untyped, mut own_type) = (0, 0, 0);
     let enough = examples(count, |rng| {
         let world = small_world(rng, groups.clone());
         let fuel = rng.below(most);
-        let mut script = match rng.below(3) {
-            0 => typed_recursion(rng, &world.tables, fuel),
-            _ => None,
-        }
-        .unwrap_or_else(|| typed_script(rng, &world.tables, fuel))
-        .write();
+        let mut script = some_typed(rng, &world.tables, fuel).write();
         for _ in 0..rng.below(3) {
             script = near_miss(rng, &world.tables, &script);
         }
@@ -229,12 +233,14 @@ fn compare(groups: Vec<u8>, count: u64, most: usize) {
                 let found = read_type(&answer[..records as usize * TYPE_BYTES]);
                 if !given.is_empty() || small_shape(&world.tables, &[], &term).is_some() {
                     typed += 1;
+                    own_type += finds_own_type(&term) as u32;
                     assert_eq!(given, rules.above(&[found]), "the lowest of all its types");
                 }
             }
         }
     });
     assert!(!enough || typed > count / 50 && untyped > count / 100, "drawn: {typed}, {untyped}");
+    assert!(!enough || own_type > 0, "cases that find their type were drawn");
 }
 
 #[test]

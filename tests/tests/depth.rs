@@ -1,5 +1,6 @@
 //! Typing at depth 256 with types of 63 records at every level: binders, first operands, arguments, tested operands and
-//! branches, each once accepted and once with a no at its innermost record. Question 1 asks for no byte more than these use.
+//! branches, each once accepted and once with a no at its innermost record. Question 1 asks for no byte more than these use. Of
+//! cases that find their own type 127 nested ones are as deep.
 
 mod common;
 
@@ -8,7 +9,6 @@ use common::*;
 use wigneld_tests::cases::{record, Inputs};
 use wigneld_tests::generate::{wide_type, words};
 use wigneld_tests::limits::*;
-use wigneld_tests::script::operand_count;
 
 /// Types, all groups 0: a sum of unit and a pair of 61 records, a function from 31 to 31 records, a pair of 63.
 const SUM: u16 = 0;
@@ -47,19 +47,7 @@ fn nested(
 
 /// The depth of the deepest record.
 fn depth(records: &[Record]) -> usize {
-    let mut open = Vec::new();
-    let mut deepest = 0;
-    for record in records {
-        deepest = deepest.max(open.len() + 1);
-        open.push(operand_count(record[0]));
-        while open.last() == Some(&0) {
-            open.pop();
-            if let Some(left) = open.last_mut() {
-                *left -= 1;
-            }
-        }
-    }
-    deepest
+    depths(records).into_iter().max().expect("a term has records")
 }
 
 fn inputs(records: &[Record]) -> Inputs {
@@ -143,4 +131,61 @@ fn branches() {
     accepted(&in_second(variable(0)));
     accepted(&in_second(variable(253)));
     refused(&in_second(UNIT), 22, 5 * 254);
+}
+
+/// As many cases that find their type as can stand in one another: their operands are two levels deeper,
+/// which leaves depths 255 and 256 for the innermost.
+const MOST_OWN_CASES: usize = 127;
+
+/// One level more is too deep, by the first record that is.
+fn one_too_many(records: &[Record], place: usize) {
+    let inputs = inputs(records);
+    check_refuses(&inputs, 18, place as u32);
+    run_refuses(&inputs, 18, place as u32);
+}
+
+#[test]
+fn tested_operands_of_cases_that_find_their_type() {
+    let after = [first(SUM), variable(0), second(SUM), variable(0)];
+    let all =
+        |innermost: &[Record], levels| nested([&[], &[OWN_CASE], innermost, &after, &[]], levels);
+    accepted(&all(&[first(SUM), UNIT], MOST_OWN_CASES));
+    refused(&all(&[PROTECT, UNIT], MOST_OWN_CASES), 20, MOST_OWN_CASES - 1);
+    one_too_many(&all(&[first(SUM), UNIT], MOST_OWN_CASES + 1), MOST_OWN_CASES + 1);
+}
+
+#[test]
+fn branches_of_cases_that_find_their_type() {
+    let left = [OWN_CASE, first(SUM), UNIT];
+    let right = [second(SUM), variable(0)];
+    let in_first =
+        |innermost: &[Record], levels| nested([&[], &left, innermost, &right, &[]], levels);
+    let most = MOST_OWN_CASES;
+    accepted(&in_first(&[first(SUM), variable(0)], most));
+    accepted(&in_first(&[first(SUM), variable(126)], most));
+    refused(&in_first(&[PROTECT, UNIT], most), 31, 3 * (most - 1));
+    refused(&in_first(&[first(SUM), record(1, 1, 0, 0)], most), 22, 3 * most);
+    one_too_many(&in_first(&[first(SUM), variable(0)], most + 1), 3 * most + 1);
+    // The first branch's type is kept on every level while the second is typed.
+    let before = [OWN_CASE, first(SUM), UNIT, first(SUM), UNIT];
+    let in_second =
+        |innermost: &[Record], levels| nested([&[], &before, innermost, &[], &[]], levels);
+    accepted(&in_second(&[second(SUM), variable(0)], most));
+    accepted(&in_second(&[second(SUM), variable(126)], most));
+    refused(&in_second(&[PROTECT, UNIT], most), 31, 5 * (most - 1));
+    refused(&in_second(&[second(SUM), UNIT], most), 22, 5 * most);
+    one_too_many(&in_second(&[second(SUM), variable(0)], most + 1), 5 * most + 1);
+}
+
+#[test]
+fn cases_that_find_their_type_among_binders() {
+    // A recursion and such a case in turn, 84 of each: three levels for the two, and three protects more.
+    let level = [recursion(FUNCTION), OWN_CASE, first(SUM), UNIT, variable(1)];
+    let all = |innermost: Record| {
+        nested([&[], &level, &[PROTECT, PROTECT, PROTECT, innermost], &[], &[]], 84)
+    };
+    // The nearest recursion's own type, and the outermost's.
+    accepted(&all(variable(1)));
+    accepted(&all(variable(167)));
+    refused(&all(variable(0)), 31, 5 * 83 + 1);
 }

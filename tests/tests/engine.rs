@@ -132,11 +132,7 @@ fn once(body: &mut dyn FnMut(&mut Rng)) {
 
 fn typed(rng: &mut Rng, world: &World) -> Rc<Term> {
     let fuel = if rng.one_in(4) { rng.below(200) } else { rng.below(60) };
-    match rng.below(3) {
-        0 => typed_recursion(rng, &world.tables, fuel),
-        _ => None,
-    }
-    .unwrap_or_else(|| typed_script(rng, &world.tables, fuel))
+    some_typed(rng, &world.tables, fuel)
 }
 
 #[test]
@@ -183,6 +179,16 @@ fn near_misses() {
             }
         }
         compare_all(rng, &inputs)
+    });
+}
+
+#[test]
+fn deep_scripts() {
+    comparisons(some(1500), |rng| {
+        let world = World::random(rng);
+        let depth = rng.between(MOST_DEPTH - 12, MOST_DEPTH + 4);
+        let term = deep_script(rng, &world.tables, depth);
+        compare_all(rng, &inputs_of(&world, &term))
     });
 }
 
@@ -236,7 +242,11 @@ fn small_raw_bytes() {
         };
         let (types, script) = (raw(3, 4, 4), raw(4, 6, 12));
         let types = if rng.one_in(2) { cases::case_types() } else { types };
-        let script = script[..6 * rng.between(1, 4)].to_vec();
+        let mut script = script[..6 * rng.between(1, 4)].to_vec();
+        // Some numbers as a case has that finds its type, of any kind.
+        for record in script.chunks_mut(SCRIPT_BYTES).filter(|_| rng.one_in(6)) {
+            record[4..].copy_from_slice(&OWN_TYPE.to_le_bytes());
+        }
         let groups = if rng.one_in(4) { random_groups(rng) } else { cases::two_groups() };
         compare_all(rng, &Inputs { groups, types, script })
     });

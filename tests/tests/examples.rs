@@ -33,6 +33,25 @@ fn bench_record() {
 }
 
 #[test]
+fn page_lines() {
+    let name = "page-lines";
+    prints_expected(name);
+    // The two cases, records 6 and 13, find their types. Each with the type of the other line is refused.
+    let script = read(name, "script");
+    let with = |case: usize, result: u8| {
+        let mut script = script.clone();
+        assert_eq!(script[case * 6..case * 6 + 6], [9, 0, 0, 0, 255, 255]);
+        script[case * 6 + 4..case * 6 + 6].copy_from_slice(&[result, 0]);
+        printed(name, &script)
+    };
+    let (state, remark) = (0, 3);
+    assert_eq!(with(6, remark), "refused 22 at 3\n");
+    assert_eq!(with(13, state), "refused 22 at 13\n");
+    // With its own it prints the same.
+    assert_eq!((with(6, state), with(13, remark)), (expected(name), expected(name)));
+}
+
+#[test]
 fn loan_sheet() {
     prints_expected("loan-sheet");
 }

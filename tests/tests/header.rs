@@ -88,7 +88,7 @@ fn engine(all: &[(String, String, String)], path: &str) -> usize {
 }
 
 /// Header, second implementation, engine.
-const LIMITS: [(&str, usize, &str); 18] = [
+const LIMITS: [(&str, usize, &str); 19] = [
     ("ROW_BYTES", ROW_BYTES, "lattice::ROW_WIDTH"),
     ("TYPE_RECORD_BYTES", TYPE_BYTES, "types::TYPE_WIDTH"),
     ("SCRIPT_RECORD_BYTES", SCRIPT_BYTES, "records::SCRIPT_WIDTH"),
@@ -107,6 +107,7 @@ const LIMITS: [(&str, usize, &str); 18] = [
     ("GROUPS_LONGEST_BYTES", MOST_GROUPS * ROW_BYTES, ""),
     ("TYPES_LONGEST_BYTES", MOST_TABLE_RECORDS * TYPE_BYTES, ""),
     ("LAST_QUESTION", LAST_QUESTION, ""),
+    ("OWN_TYPE", OWN_TYPE as usize, "records::OWN_TYPE"),
 ];
 
 /// Kinds in order from 0: header, engine.

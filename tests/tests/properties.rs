@@ -11,7 +11,7 @@ use wigneld_tests::generate::*;
 use wigneld_tests::groups::{read_groups, Group, Groups};
 use wigneld_tests::limits::*;
 use wigneld_tests::refusal::Refusal;
-use wigneld_tests::script::{read_script, Term};
+use wigneld_tests::script::{read_script, Record, Term};
 use wigneld_tests::sheet::CLOSED;
 use wigneld_tests::steps::{is_value, End};
 use wigneld_tests::strip::ONE_GROUP;
@@ -35,12 +35,7 @@ fn typed(rng: &mut Rng, world: &World) -> Rc<Term> {
         1 => rng.below(200),
         _ => rng.below(60),
     };
-    if rng.one_in(3) {
-        if let Some(term) = typed_recursion(rng, &world.tables, fuel) {
-            return term;
-        }
-    }
-    typed_script(rng, &world.tables, fuel)
+    some_typed(rng, &world.tables, fuel)
 }
 
 /// Is a recursive call of the script made as another group than r of the recursion's type?
@@ -48,6 +43,17 @@ fn calls_as_another(inputs: &Inputs) -> bool {
     let mut own = inputs.script.clone();
     write_callers(&inputs.types, &mut own);
     own != inputs.script
+}
+
+/// Has the script a case that finds its own type?
+fn finds_own_type(script: &[u8]) -> bool {
+    script.chunks_exact(SCRIPT_BYTES).any(|record| Record::read(record).finds_own_type())
+}
+
+/// Does the type stand in the table?
+fn stands_in(world: &World, found: &Type) -> bool {
+    let types = &world.tables.types;
+    (0..types.count()).any(|index| types.at(index) == *found)
 }
 
 fn groups_of(world: &World) -> &Groups {
@@ -331,6 +337,7 @@ fn a_subterm_is_one_whole_part() {
 #[test]
 fn scripts_made_to_be_typed_are_accepted() {
     let mut seen = [0; 12];
+    let (mut own_type, mut new_type) = (0, 0);
     let enough = examples(1500, |rng| {
         let world = World::random(rng);
         let inputs = inputs_of(&world, &typed(rng, &world));
@@ -339,7 +346,12 @@ fn scripts_made_to_be_typed_are_accepted() {
         for record in inputs.script.chunks(SCRIPT_BYTES) {
             seen[record[0] as usize] += 1;
         }
+        let record = Record::read(&inputs.script);
+        own_type += finds_own_type(&inputs.script) as u32;
+        new_type += (record.finds_own_type() && !stands_in(&world, &found)) as u32;
     });
+    assert!(!enough || own_type > 100, "cases that find their type were drawn: {own_type}");
+    assert!(!enough || new_type > 0, "and a found type that stands nowhere: {new_type}");
     assert!(
         !enough || seen.iter().all(|&count| count > 0),
         "all twelve kinds were drawn: {seen:?}"
@@ -349,7 +361,7 @@ fn scripts_made_to_be_typed_are_accepted() {
 #[test]
 fn demand_3_holds_of_whole_runs() {
     let mut ends = [0; 5];
-    let (mut longest, mut by_another) = (0, 0);
+    let (mut longest, mut by_another, mut own_type) = (0, 0, 0);
     let enough = examples(900, |rng| {
         let world = World::random(rng);
         let inputs = inputs_of(&world, &typed(rng, &world));
@@ -367,6 +379,7 @@ fn demand_3_holds_of_whole_runs() {
         ends[report.end as usize] += 1;
         longest = longest.max(report.steps);
         by_another += (report.steps > 0 && calls_as_another(&inputs)) as u32;
+        own_type += (report.steps > 0 && finds_own_type(&inputs.script)) as u32;
 
         // Every reached term is accepted at or below the reported type.
         let mut reached = inputs.clone();
@@ -402,6 +415,7 @@ fn demand_3_holds_of_whole_runs() {
     assert!(!enough || ends[0] > 0 && ends[1] > 0 && ends[4] > 0, "all three drawn: {ends:?}");
     assert!(!enough || longest > 50, "some run is long: {longest}");
     assert!(!enough || by_another > 0, "calls were made as a group above r of their type");
+    assert!(!enough || own_type > 0, "cases that find their type were run");
 }
 
 #[test]
@@ -434,7 +448,7 @@ fn demand_3_holds_of_large_scripts() {
 #[test]
 fn near_misses_that_pass_obey_demand_3_too() {
     let (mut passed, mut by_another) = (0, 0);
-    let (mut refused, mut refused_recursion) = ([0; 28], 0);
+    let (mut refused, mut refused_recursion) = ([0; LAST_QUESTION + 1], 0);
     let enough = examples(4000, |rng| {
         let world = World::random(rng);
         let script = typed(rng, &world).write();
@@ -453,7 +467,7 @@ fn near_misses_that_pass_obey_demand_3_too() {
                     inputs.script.get(refusal.place as usize * SCRIPT_BYTES) == Some(&11);
                 refused_recursion += (refusal.question == 21 && at_recursion) as u32;
                 // What stands before typing is asked by a run too.
-                if refusal.question < 20 {
+                if !refusal.is_of_typing() {
                     run_refuses(&inputs, refusal.question, refusal.place);
                 }
             }
@@ -471,7 +485,7 @@ fn near_misses_that_pass_obey_demand_3_too() {
     });
     assert!(!enough || passed > 0 && by_another > 0);
     assert!(!enough || refused_recursion > 0, "21 was answered no at a recursion");
-    for question in [14, 15, 16, 17, 19, 20, 21, 22, 23] {
+    for question in [14, 15, 16, 17, 19, 20, 21, 22, 23, 31] {
         assert!(!enough || refused[question] > 0, "question {question} was drawn: {refused:?}");
     }
 }
@@ -769,7 +783,7 @@ fn only_values_have_sheets() {
 
 #[test]
 fn refusals_leave_lent_memory_as_the_document_says() {
-    let mut refused = [0; 28];
+    let mut refused = [0; LAST_QUESTION + 1];
     let enough = examples(6000, |rng| {
         let world = World::random(rng);
         let term = match rng.below(3) {
@@ -789,10 +803,10 @@ fn refusals_leave_lent_memory_as_the_document_says() {
             _ => (WORK_BYTES, ANSWER_BYTES + 9),
         };
         let (checked, work_after, answer_after) = check_in(&inputs, work, answer);
-        if let Err(Refusal { question, .. }) = checked {
-            refused[question as usize] += 1;
+        if let Err(refusal) = checked {
+            refused[refusal.question as usize] += 1;
             assert_eq!(answer_after, filled(answer));
-            let expected = if question >= 20 { vec![0; work] } else { filled(work) };
+            let expected = if refusal.is_of_typing() { vec![0; work] } else { filled(work) };
             assert_eq!(work_after, expected);
         }
         let room = inputs.script.len() + rng.below(60);

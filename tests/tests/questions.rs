@@ -1,4 +1,5 @@
-//! Each question 1 to 27: its place, the order between them, and every lent byte after a no.
+//! Each question 1 to 27: its place, the order between them, and every lent byte after a no. `own_type.rs` has 31; here is its
+//! place among the others.
 
 mod common;
 
@@ -421,8 +422,11 @@ fn question_16_named_types() {
         assert_eq!(result, no(17, 3), "the type is fine and the term is cut short");
     }
     for kind in [2, 4, 5, 9, 11] {
-        for number in [TYPE_COUNT, TYPE_COUNT + 1, 256, 4096, 65_535] {
-            refused_by_all(&of(&[[3, 0, 0, 0, 0, 0], UNIT, record(kind, 0, 0, number)]), 16, 2);
+        for number in [TYPE_COUNT, TYPE_COUNT + 1, 256, 4096, OWN_TYPE - 1, OWN_TYPE] {
+            // A case's largest number names no type and passes: only the term is cut short.
+            let (question, place) = if (kind, number) == (9, OWN_TYPE) { (17, 3) } else { (16, 2) };
+            let inputs = of(&[[3, 0, 0, 0, 0, 0], UNIT, record(kind, 0, 0, number)]);
+            refused_by_all(&inputs, question, place);
         }
     }
     // Every index there is, by the kind of type it names.
@@ -943,7 +947,7 @@ fn slot(rng: &mut Rng) -> Slot {
         at,
         records: records.to_vec(),
     };
-    match rng.below(28) {
+    match rng.below(34) {
         0 => make(14, 0, &[[12, 0, 0, 0, 0, 0]]),
         1 => make(14, 1, &[function(0), [0, 0, 1, 0, 0, 0]]),
         2 => make(15, 0, &[record(1, 4, 0, 0)]),
@@ -961,13 +965,24 @@ fn slot(rng: &mut Rng) -> Slot {
         14 => make(23, 0, &[record(11, 3, 0, 10), function(11), UNIT]),
         15 => make(15, 0, &[record(11, 4, 0, 3), function(4), UNIT]),
         16 => make(21, 0, &[record(11, 1, 0, 10), function(11), UNIT]),
+        17 => make(31, 0, &[OWN_CASE, first(0), UNIT, UNIT, PAIR, UNIT, UNIT]),
+        18 => make(
+            31,
+            3,
+            &[OWN_CASE, first(0), UNIT, OWN_CASE, first(0), UNIT, UNIT, first(0), UNIT, UNIT],
+        ),
+        19 => make(16, 0, &[function(OWN_TYPE), UNIT]),
+        20 => make(20, 0, &[OWN_CASE, UNIT, UNIT, PROJECT, UNIT]),
+        21 => {
+            Slot { fails: None, at: 0, records: vec![OWN_CASE, first(0), UNIT, UNIT, high_unit()] }
+        }
         _ => Slot { fails: None, at: 0, records: vec![UNIT] },
     }
 }
 
 #[test]
 fn the_first_no_is_given() {
-    let mut seen = [0; 28];
+    let mut seen = [0; LAST_QUESTION + 1];
     with_large_stack(move || {
         let enough = examples(3000, |rng| {
             // A right comb of pairs with a part in each place.
@@ -1050,7 +1065,7 @@ fn the_first_no_is_given() {
                 }
             }
         });
-        for question in (2..24).chain([0]) {
+        for question in (2..24).chain([0, 31]) {
             assert!(!enough || seen[question] > 0, "question {question} was drawn: {seen:?}");
         }
     });

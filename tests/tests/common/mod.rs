@@ -139,7 +139,7 @@ pub fn check_in(inputs: &Inputs, work: usize, answer: usize) -> (Answer<u32>, Ve
 pub fn check_refuses(inputs: &Inputs, question: u32, place: u32) {
     let (result, work, answer) = check_in(inputs, WORK_BYTES + 3, ANSWER_BYTES + 5);
     assert_eq!(result, no(question, place));
-    if question >= 20 {
+    if (Refusal { question, place }).is_of_typing() {
         assert!(work.iter().all(|&byte| byte == 0), "typing leaves the work buffer all zeros");
     } else {
         assert_eq!(work, filled(WORK_BYTES + 3), "unchanged before typing");

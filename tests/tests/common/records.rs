@@ -2,6 +2,7 @@
 #![allow(dead_code)]
 
 use wigneld_tests::cases::record;
+use wigneld_tests::script::operand_count;
 
 pub type Record = [u8; 6];
 
@@ -11,6 +12,8 @@ pub const APPLY: Record = [6, 0, 0, 0, 0, 0];
 pub const PROJECT: Record = [7, 0, 0, 0, 0, 0];
 pub const PROJECT_SECOND: Record = [8, 0, 0, 0, 0, 0];
 pub const PROTECT: Record = [10, 0, 0, 0, 0, 0];
+/// A case that finds its own type.
+pub const OWN_CASE: Record = [9, 0, 0, 0, 255, 255];
 
 pub fn variable(number: u16) -> Record {
     record(0, 0, 0, number)
@@ -34,4 +37,25 @@ pub fn case(result: u16) -> Record {
 
 pub fn recursion(function: u16) -> Record {
     record(11, 0, 0, function)
+}
+
+/// The depth of each record of a term, by what stands around it: the operands of a case that finds its type
+/// are two levels deeper than it, all others one.
+pub fn depths(records: &[Record]) -> Vec<usize> {
+    let mut depths = Vec::new();
+    // Each with the operands that are still to come, and the depth that they have.
+    let mut around: Vec<(usize, usize)> = Vec::new();
+    for record in records {
+        let depth = around.last().map_or(1, |&(_, depth)| depth);
+        depths.push(depth);
+        let own_type = record[0] == 9 && record[4..] == [255, 255];
+        around.push((operand_count(record[0]), depth + if own_type { 2 } else { 1 }));
+        while around.last().is_some_and(|&(left, _)| left == 0) {
+            around.pop();
+            if let Some((left, _)) = around.last_mut() {
+                *left -= 1;
+            }
+        }
+    }
+    depths
 }
