@@ -96,6 +96,7 @@ static void apply(unsigned reader) { record(6, reader, 0, 0); }
 static void first_of(unsigned reader) { record(7, reader, 0, 0); }
 static void second_of(unsigned reader) { record(8, reader, 0, 0); }
 static void when(unsigned reader, unsigned result) { record(9, reader, 0, result); }
+static void when_found(unsigned reader) { when(reader, 65535); } /* its result type is found: the lowest for both branches */
 static void recursion(unsigned caller, unsigned function) { record(11, caller, 0, function); }
 
 /* The first or the second of a choice. */
@@ -140,6 +141,36 @@ static void bench_script(void)
                     variable(0);
         pair(ANYONE); /* the entry: sound, with an adhesive of our own */
             choice(0, ANYONE, STATE);
+            choice(1, BENCH, REMARK);
+}
+
+/* ---- two lines of a page, whose types are found */
+
+static void state(void)
+{
+    first_of(ANYONE);
+        variable(0);
+}
+
+static void lines_script(void)
+{
+    apply(ANYONE);
+        function(ANYONE, BENCH_ENTRY);
+            pair(ANYONE);
+                apply(ANYONE);
+                    function(ANYONE, STATE); /* the public line: it takes what anyone may read */
+                        variable(0);
+                    when_found(ANYONE); /* where is the object? */
+                        state();
+                        choice(0, ANYONE, STATE); /* sound: on display */
+                        choice(1, ANYONE, STATE); /* loose: in the store */
+                when_found(ANYONE); /* which adhesive is to be used? */
+                    state();
+                    choice(0, ANYONE, STATE); /* sound: the usual one, as anyone may know */
+                    second_of(ANYONE); /* loose: the bench's own choice */
+                        variable(1);
+        pair(ANYONE); /* the entry: loose, with an adhesive of our own */
+            choice(1, ANYONE, STATE);
             choice(1, BENCH, REMARK);
 }
 
@@ -316,6 +347,7 @@ int main(int count, char **words)
         return 2;
     }
     example(words[1], "bench-record", bench_types, bench_script);
+    example(words[1], "page-lines", bench_types, lines_script);
     example(words[1], "loan-sheet", loan_types, loan_script);
     example(words[1], "loan-leak", loan_types, leak_script);
     example(words[1], "drying-panel", panel_types, panel_script);

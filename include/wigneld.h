@@ -22,7 +22,7 @@ extern "C" {
 #endif
 
 /* Raised whenever a constant, a prototype or an answer changes. */
-#define WIGNELD_VERSION 3
+#define WIGNELD_VERSION 4
 
 /* The form of rows and records. Raised whenever a width below changes, or what a byte of a record means: files of another form
    are to be rewritten before they are lent. No file says its form, so keep it beside them. In form 1 byte 1 of a recursion was 0;
@@ -73,13 +73,16 @@ extern "C" {
  *     injections          the injected                        r, ir, number: sum type
  *     application         function, argument                  r
  *     projections         the pair                            r
- *     case                tested, two branches, each under    r, number: result type
+ *     case                tested, two branches, each under    r, number: result type, or WIGNELD_OWN_TYPE
  *                         a binder
  *     protect             the protected                       ir
  *     recursion           body, under a binder                r, number: function type
  *
  * r of an application, a projection or a case is the group that reads. r of a recursion is the group that it calls itself as,
  * whoever calls it; it is at or above r of the function type.
+ *
+ * A case with WIGNELD_OWN_TYPE finds its result type: the lowest at or above the types of both branches, which has to exist
+ * (question 31) and need not stand in the types table. Its operands, all three, are two levels below it and not one.
  */
 #define WIGNELD_SCRIPT_RECORD_BYTES 6
 #define WIGNELD_AT_NUMBER 4
@@ -97,6 +100,8 @@ extern "C" {
 #define WIGNELD_KIND_PROTECT 10
 #define WIGNELD_KIND_RECURSION 11
 
+#define WIGNELD_OWN_TYPE 65535 /* the number of a case that finds its result type; no types table has so many records */
+
 /* A sheet: a record for each object of a value that is shown, in the script's order. A closed one has groups 0 and stands for its
    object and every part of it. */
 #define WIGNELD_SHEET_RECORD_BYTES 4
@@ -108,7 +113,8 @@ extern "C" {
 #define WIGNELD_SHEET_FUNCTION 4 /* its body isn't shown */
 #define WIGNELD_SHEET_CLOSED 5
 
-/* Limits: groups, records of a types table, of one type and of a script, depth of a script (its outermost record has depth 1). */
+/* Limits: groups, records of a types table, of one type and of a script, depth of a script. Its outermost record has depth 1, and an
+   operand that of its node and one more; of a case that finds its type, two more. */
 #define WIGNELD_MOST_GROUPS 32
 #define WIGNELD_MOST_TABLE_RECORDS 4096
 #define WIGNELD_MOST_TYPE_RECORDS 63
@@ -132,7 +138,7 @@ extern "C" {
 /*
  * The free stack that each function needs, whatever it is lent: the bytes between the caller's stack pointer, before the
  * arguments are put down, and the end of the stack. The deepest scripts, of depth 256 with types of 63 records, were seen to take
- * 126,880, 49,600 and 45,280 bytes; the numbers are these and at least a sixteenth more, in whole pages.
+ * 118,720, 49,376 and 45,280 bytes; the numbers are these and at least a sixteenth more, in whole pages.
  *
  * A thread's stack holds more than that: its own frames, and what the C library keeps there. With glibc
  * pthread_attr_setstacksize(&attributes, PTHREAD_STACK_MIN + WIGNELD_CHECK_STACK_BYTES) is enough for a thread that calls
@@ -143,9 +149,10 @@ extern "C" {
 #define WIGNELD_SHEET_STACK_BYTES 49152
 
 /*
- * Checks a script: questions 1 to 24. Accepted: the record count of its type, which then stands in front of `answer`; later
- * bytes of `answer` are kept. `work` has at least WIGNELD_WORK_BYTES bytes and ends as zeros once typing has begun; `answer` has at
- * least WIGNELD_ANSWER_BYTES.
+ * Checks a script: questions 1 to 24, and 31 right after the second branch of a case that finds its type. Accepted: the record
+ * count of its type, which then stands in front of `answer`; later bytes of `answer` are kept. `work` has at least
+ * WIGNELD_WORK_BYTES bytes and ends as zeros once typing has begun, which is with questions 20 to 24 and 31; `answer` has at least
+ * WIGNELD_ANSWER_BYTES.
  */
 uint64_t wigneld_check(const uint8_t *groups, size_t groups_length, const uint8_t *types, size_t types_length,
                        const uint8_t *script, size_t script_length, uint8_t *work, size_t work_length, uint8_t *answer,
@@ -240,19 +247,20 @@ static inline unsigned wigneld_place_kind(unsigned question)
         return WIGNELD_PLACE_ROW;
     case 9: case 10: case 11: case 12:
         return WIGNELD_PLACE_TYPE_RECORD;
-    case 14: case 15: case 16: case 17: case 18: case 19: case 20: case 21: case 22: case 23: case 24:
+    case 14: case 15: case 16: case 17: case 18: case 19: case 20: case 21: case 22: case 23: case 24: case 31:
         return WIGNELD_PLACE_SCRIPT_RECORD;
     default:
         return WIGNELD_PLACE_NOTHING;
     }
 }
 
-/* The last question there is. */
-#define WIGNELD_LAST_QUESTION 27
+/* The last question there is. 28 to 30 are none yet. */
+#define WIGNELD_LAST_QUESTION 31
 
 /* A question in a few words: what is not so, when it is the one that an answer names. */
 static inline const char *wigneld_asked(unsigned question)
 {
+    static const char none[] = "no such question";
     static const char *const words[WIGNELD_LAST_QUESTION + 1] = {
         "nothing",
         "the work and the answer buffer are long enough",                  /* 1 */
@@ -270,9 +278,9 @@ static inline const char *wigneld_asked(unsigned question)
         "the script has whole records, 1 to 8,192, and fits the buffers",  /* 13 */
         "a record's kind is known and its unused fields are 0",            /* 14 */
         "a record's groups are in the table, indirect at or below readers", /* 15 */
-        "the type that a record names is there and of the right form",     /* 16 */
+        "the type that a record names is there and of the right form",     /* 16, not of a case that finds its type */
         "the script is exactly one whole term",                            /* 17 */
-        "the script is at most 256 records deep",                          /* 18 */
+        "the script is at most 256 levels deep",                           /* 18 */
         "a variable is bound",                                             /* 19 */
         "what is applied, projected or tested has the form for it",        /* 20 */
         "who reads an object is one of its readers",                       /* 21, also of a recursion and who it calls itself as */
@@ -282,9 +290,13 @@ static inline const char *wigneld_asked(unsigned question)
         "the index or the group is in its table",                          /* 25, place: 1 for the second of two */
         "the script is a value",                                           /* 26 */
         "the answer fits its buffer",                                      /* 27 */
+        none,                                                              /* 28 */
+        none,                                                              /* 29 */
+        none,                                                              /* 30 */
+        "the branches of a case that finds its type have a common one",    /* 31 */
     };
 
-    return question <= WIGNELD_LAST_QUESTION ? words[question] : "no such question";
+    return question <= WIGNELD_LAST_QUESTION ? words[question] : none;
 }
 
 #ifdef __cplusplus

@@ -14,7 +14,7 @@ pub struct Panel {
     pub lines: Vec<Line>,
 }
 
-const COLOURS: [&str; 5] = ["#1b6ca8", "#c8553d", "#4f8a3b", "#7b4fa3", "#8a6d1b"];
+const COLOURS: [&str; 6] = ["#1b6ca8", "#c8553d", "#4f8a3b", "#7b4fa3", "#8a6d1b", "#2a8c8c"];
 
 /// Of a panel, its legend beside it included.
 const WIDTH: f64 = 660.0;

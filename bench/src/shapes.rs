@@ -4,7 +4,9 @@ use std::rc::Rc;
 
 use wigneld_tests::cases::Inputs;
 use wigneld_tests::generate::{chain_groups, unit, wide, wide_type, LOW};
-use wigneld_tests::limits::{MOST_DEPTH, MOST_SCRIPT_RECORDS, MOST_TABLE_RECORDS, TYPE_BYTES};
+use wigneld_tests::limits::{
+    MOST_DEPTH, MOST_SCRIPT_RECORDS, MOST_TABLE_RECORDS, OWN_TYPE, TYPE_BYTES,
+};
 use wigneld_tests::script::{Side, Term};
 use wigneld_tests::types::{Form, Type};
 
@@ -17,11 +19,12 @@ pub struct Shape {
     pub inputs: fn(usize) -> Inputs,
 }
 
-pub static SHAPES: [Shape; 11] = [
+pub static SHAPES: [Shape; 12] = [
     Shape { call: Call::Check, name: "typical", inputs: typical },
     Shape { call: Call::Check, name: "worst: chain", inputs: chain },
     Shape { call: Call::Check, name: "worst: first operands", inputs: first_operands },
     Shape { call: Call::Check, name: "worst: branches", inputs: branches },
+    Shape { call: Call::Check, name: "worst: found types", inputs: found_types },
     Shape { call: Call::Check, name: "worst: tables", inputs: large_tables },
     Shape { call: Call::Run, name: "typical", inputs: typical },
     Shape { call: Call::Run, name: "worst: far redexes", inputs: far },
@@ -142,22 +145,31 @@ fn first_operands(size: usize) -> Inputs {
     inputs((0..levels).fold(inner, around), size)
 }
 
-/// Cases in the branches of cases, each branch a variable of a type of 63 records.
-fn nested(leaves: usize, binders: usize) -> Rc<Term> {
+/// Cases with this number in the branches of cases, each branch a variable of a type of 63 records.
+fn nested(result: u16, leaves: usize, binders: usize) -> Rc<Term> {
     if leaves == 1 {
         return variable(binders - 1);
     }
     let half = leaves / 2;
-    let (first, second) = (nested(half, binders + 1), nested(leaves - half, binders + 1));
-    case(FUNCTION_63, inject(Side::First), first, second)
+    let branch = |leaves| nested(result, leaves, binders + 1);
+    case(result, inject(Side::First), branch(half), branch(leaves - half))
 }
 
-fn branches(size: usize) -> Inputs {
+fn branches_with(result: u16, size: usize) -> Inputs {
     // The recursion's own record, 4 for each leaf but one, and the rest in protects.
     let leaves = (size - 2) / 4 + 1;
     let rest = size - 1 - (4 * leaves - 3);
-    let body = protect(rest, nested(leaves, 1));
+    let body = protect(rest, nested(result, leaves, 1));
     inputs(Rc::new(Term::Recursion(LOW.r, FUNCTION_63, body)), size)
+}
+
+fn branches(size: usize) -> Inputs {
+    branches_with(FUNCTION_63, size)
+}
+
+/// The same where every case finds its type: at each the common type of two of 63 records.
+fn found_types(size: usize) -> Inputs {
+    branches_with(OWN_TYPE, size)
 }
 
 /// A value: pairs halved down to injections, units and functions.
