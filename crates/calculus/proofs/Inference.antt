@@ -5,7 +5,7 @@ use mathlib.Core.List.{List, _∷_}
 use mathlib.Core.Option.{some}
 use Prim.Native.Nat.{ℕ}
 use Rattle.calculus.specs.Security.{Security}
-use Rattle.calculus.specs.Types.{sum, product, function, Ty, node, top, fits, parts}
+use Rattle.calculus.specs.Types.{sum, product, function, Ty, node, fits, parts}
 use Rattle.calculus.specs.Subtyping.{below, subtype}
 use Rattle.calculus.specs.Terms.{choose, Term, var, unit, lam, pair, inj, app, proj, case, protect, mu}
 use Rattle.calculus.specs.Typing.{result, recurs, infer}

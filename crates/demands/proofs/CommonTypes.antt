@@ -1,19 +1,14 @@
 -- Item 3: the common type is the nearest among all types, by table 2.
 use mathlib.Core.Path.{_≡_, refl, sym, ap, subst, _∙_}
 use mathlib.Core.Bool.{true, false, So, false≢true}
-use mathlib.Core.Logic.{_↔_}
 use mathlib.Core.Option.{Option, none, some}
-use Prim.Native.Nat.{ℕ}
 use Rattle.calculus.specs.Security.{Security, Laws}
 use Rattle.calculus.specs.Types.{Ty, secureT}
 use Rattle.calculus.specs.Subtyping.{Direction, below, above}
-use Rattle.calculus.specs.Common.{common, same-shape}
+use Rattle.calculus.specs.Common.{common}
 use Rattle.calculus.proofs.Properties.{properties-laws}
 use Rattle.calculus.proofs.Directed.{Directed, directed-opposite, directed-antisym, directed-subtype, subtype-directed}
 use Rattle.calculus.proofs.Common.{common-bound, common-nearest, exists, common-exists, common-size}
-use Rattle.rules.specs.Answer.{Bytes, Octets, accepted}
-use Rattle.rules.specs.Groups.{readers}
-use Rattle.rules.specs.Calls.{groups-check}
 use Rattle.rules.proofs.Search.{some-inj}
 use Rattle.demands.specs.CommonTypes.{Toward, Nearest, CommonType, CommonTypes}
 use Rattle.demands.proofs.Groups.{lattice}

@@ -2,33 +2,32 @@
 use mathlib.Core.Path.{_≡_, refl, sym, subst, ap, _∙_}
 use mathlib.Core.List.{List, [], _∷_}
 use mathlib.Core.Logic.{_↔_}
-use Prim.Native.Nat.{ℕ, zero, suc, _<_, min}
+use Prim.Native.Nat.{ℕ, zero, suc, min}
 use native.Mathlib.Omega.{arith}
-use Rattle.calculus.specs.Security.{Property, Reader}
-use Rattle.calculus.specs.Types.{Ty, top}
+use Rattle.calculus.specs.Types.{Ty}
 use Rattle.calculus.specs.Terms.{Term}
 use Rattle.calculus.specs.Reduction.{step}
 use Rattle.calculus.specs.Callers.{as-typed, written, write}
 use Rattle.calculus.proofs.SecureTyping.{top-secure}
 use Rattle.rules.specs.Answer.{Bytes, Octets, Answer, accepted, refused, _>>_}
-use Rattle.rules.specs.Groups.{rows, readers}
-use Rattle.rules.specs.Types.{type-count, type-at}
-use Rattle.rules.specs.Script.{encode, term, size}
-use Rattle.rules.specs.Typing.{q21, typing}
+use Rattle.rules.specs.Groups.{readers}
+use Rattle.rules.specs.Types.{type-at}
+use Rattle.rules.specs.Script.{encode, term}
+use Rattle.rules.specs.Typing.{typing}
 use Rattle.rules.specs.Step.{End, at-value, moves, may-not, wrong-kind, too-big, step-in}
 use Rattle.rules.specs.Run.{Ran, run}
 use Rattle.rules.specs.Callers.{write-callers}
-use Rattle.rules.specs.Calls.{q1, types-check, script-check, checking, checking-by, stepping, stepping-by, running, running-by, run-report}
+use Rattle.rules.specs.Calls.{q1, types-check, script-check, checking, checking-by, stepping, running, running-by, run-report}
 use Rattle.rules.proofs.Asked.{and-then}
 use Rattle.rules.proofs.Scripts.{term-encode}
-use Rattle.demands.specs.Runs.{MovesBy, moved-to, Reaches, ReachesBy, the-script, after-step}
-use Rattle.demands.specs.Rewriting.{Existing, earlier, earlier-step, Rewritten, Rewriting}
+use Rattle.demands.specs.Runs.{moved-to, Reaches, ReachesBy, the-script, after-step}
+use Rattle.demands.specs.Rewriting.{Existing, earlier, earlier-step, Rewriting}
 use Rattle.demands.proofs.Answers.{accepted≢refused, accepted-inj, asks}
 use Rattle.demands.proofs.Tables.{Tables}
 use Rattle.demands.proofs.TypesTable.{tables}
 use Rattle.demands.proofs.Stepping.{formed-step}
 use Rattle.demands.proofs.Checked.{Fit, script-passed}
-use Rattle.demands.proofs.Steps.{moves-inj, ends-differ, limited-moves, within-limits, fit-passes, fit-steps, fit-step-is, fit-moves}
+use Rattle.demands.proofs.Steps.{moves-inj, ends-differ, limited-moves, within-limits, fit-passes, fit-steps, fit-step-is}
 use Rattle.demands.proofs.RelabelledBytes.{relabel-size}
 use Rattle.demands.proofs.WrittenTerms.{write-typing, write-end, write-step-in, write-ran, write-run}
 use Rattle.demands.proofs.WrittenScripts.{then-same, script-same, written-fit, fit-written}

@@ -1,7 +1,7 @@
 -- Stripping bytes is erasure of what they encode.
 use mathlib.Core.Path.{_≡_, refl, sym, ap, _∙_}
 use mathlib.Core.Bool.{Bool, true, false, cond, _||_}
-use mathlib.Core.List.{List, [], _∷_, _++_, append-assoc, map}
+use mathlib.Core.List.{List, [], _∷_, _++_, map}
 use Prim.Native.Nat.{ℕ, zero, suc, _+_, _*_, _/_, _%_}
 use native.Mathlib.Nat.{suc-add, add-suc, add-zero}
 use native.Mathlib.Omega.{arith}
@@ -10,7 +10,7 @@ use lib.ListN.{getD, drop}
 use Rattle.calculus.specs.Security.{Property}
 use Rattle.calculus.specs.Types.{Ty}
 use Rattle.calculus.specs.Terms.{Term, var, unit, lam, pair, inj, app, proj, case, protect, mu}
-use Rattle.calculus.specs.Relabelling.{Labels, relabelT, relabel}
+use Rattle.calculus.specs.Relabelling.{relabelT, relabel}
 use Rattle.calculus.specs.Erasure.{public, erased, eraseT, erase}
 use Rattle.rules.specs.Answer.{Bytes, byte}
 use Rattle.rules.specs.Limits.{type-width}

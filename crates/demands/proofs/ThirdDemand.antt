@@ -1,6 +1,6 @@
 -- Demand 3.
 use mathlib.Core.Path.{_≡_, refl, sym, subst, ap, ap₂, _∙_}
-use mathlib.Core.List.{[], _∷_, _++_, append-nil}
+use mathlib.Core.List.{[], _∷_, _++_}
 use Prim.Native.Nat.{ℕ, suc, zero, _-_, _*_, _≤_, min}
 use native.Mathlib.Omega.{arith}
 use lib.ListN.{length}
@@ -23,7 +23,7 @@ use Rattle.rules.specs.Script.{encode, term}
 use Rattle.rules.specs.Typing.{typing}
 use Rattle.rules.specs.Step.{step-in}
 use Rattle.rules.specs.Run.{Ran, run}
-use Rattle.rules.specs.Strip.{strip-from, strip-script, strip-types, one-group}
+use Rattle.rules.specs.Strip.{strip-script, strip-types, one-group}
 use Rattle.rules.specs.Calls.{zeros, types-check, script-check, checking, running, run-report, first-after}
 use Rattle.rules.specs.Reach.{verdict, Accepted}
 use Rattle.rules.proofs.PrefixLaws.{encode-length}

@@ -1,13 +1,12 @@
 -- Item 6 on bytes: an existing script and the rewritten one get the same answers to questions 2 to 19, and where these are yes the one is
 -- the encoding of the other's term, rewritten.
 use mathlib.Core.Path.{_≡_, refl, sym, ap, ap₂, _∙_}
-use mathlib.Core.Bool.{Bool, true, false, cond, not, _&&_}
-use mathlib.Core.List.{List, [], _∷_, _++_}
+use mathlib.Core.Bool.{Bool, true, false, not, _&&_}
+use mathlib.Core.List.{List, _++_}
 use Prim.Native.Nat.{ℕ, suc, _+_, _*_, _-_, _/_, _<_}
 use native.Mathlib.Omega.{arith}
 use borrow.Author.Tests.{eqb-true, lt-ltb, ltb-true}
 use lib.Dec.{eqb, leb, ltb}
-use lib.ListN.{length}
 use Rattle.calculus.specs.Types.{top}
 use Rattle.calculus.specs.Terms.{first, second, Term, var, unit, lam, pair, inj, app, proj, case, protect, mu}
 use Rattle.calculus.specs.Relabelling.{relabel}
@@ -17,7 +16,7 @@ use Rattle.calculus.proofs.SecureTyping.{top-secure}
 use Rattle.rules.specs.Answer.{Bytes, byte, Octets, Answer, accepted, refused, _>>_, each, _⇒_}
 use Rattle.rules.specs.Limits.{script-width}
 use Rattle.rules.specs.Groups.{rows, leq, readers}
-use Rattle.rules.specs.Types.{type-count, type-r, type-at, end-after, ok9}
+use Rattle.rules.specs.Types.{type-count, type-at, end-after}
 use Rattle.rules.specs.Script.{records, kind, r, ir, zero-byte, number, signature-of, arity, encode, term, binders, depths, term-end, exactly, ok14, ok15, ok16, ok18, ok19, q13, q14, q15, q16, q17, q18, q19}
 use Rattle.rules.specs.Callers.{recursion-of-type, write-callers}
 use Rattle.rules.specs.Calls.{types-check, script-check}

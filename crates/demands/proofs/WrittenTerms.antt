@@ -7,7 +7,7 @@ use Rattle.calculus.specs.Security.{Security}
 use Rattle.calculus.specs.Types.{sum, Ty, top, raiseT}
 use Rattle.calculus.specs.Subtyping.{subtype}
 use Rattle.calculus.specs.Common.{common}
-use Rattle.calculus.specs.Terms.{Term, var, unit, lam, pair, inj, app, proj, case, protect, mu, is-value}
+use Rattle.calculus.specs.Terms.{Term, var, unit, lam, pair, inj, app, proj, case, protect, mu}
 use Rattle.calculus.specs.Reduction.{Outcome, value, moved, denied, stuck, step}
 use Rattle.calculus.specs.Relabelling.{relabel, relabelO}
 use Rattle.calculus.specs.Callers.{called-as, as-written, as-typed, written, write}

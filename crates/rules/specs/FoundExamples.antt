@@ -12,7 +12,7 @@ use Rattle.rules.specs.Strip.{strip-script}
 use Rattle.rules.specs.Calls.{type-bytes, work-after, stepping, written-after}
 use Rattle.rules.specs.Reach.{verdict}
 use Rattle.rules.specs.Cases.{ty, groups, types, check}
-use Rattle.rules.specs.Examples.{var, unit, pair, app, proj, protect, diamond}
+use Rattle.rules.specs.Examples.{var, unit, pair, proj, protect, diamond}
 use Rattle.rules.specs.CallExamples.{around}
 
 -- a first injection of a unit, with these groups, tested by a case of r that finds its own type

@@ -1,10 +1,9 @@
 -- `inference::after_second_branch` meets its contract: the result type is raised in place.
 use mathlib.Core.Path.{_≡_, ap, _∙_}
-use Prim.Native.Nat.{ℕ}
 use native.Mathlib.Omega.{arith}
 use Rattle.calculus.specs.Security.{Security}
 use Rattle.calculus.specs.Types.{Ty, raiseT}
-use Rattle.rules.specs.Answer.{accepted, _>>=_ as bind}
+use Rattle.rules.specs.Answer.{Answer, accepted, refused, _>>=_ as bind}
 use Rattle.rules.specs.Groups.{readers}
 use Rattle.rules.specs.Types.{type-at}
 use Rattle.rules.specs.Script.{number}
@@ -18,18 +17,21 @@ use Rattle.inference.proofs.after_second_branch.Tie as tie
 abbrev S : tie.Start → Security
 S s = readers (s .args .groups .now)
 
-abbrev T : tie.Start → ℕ → Ty
-T s = type-at (s .args .types .now)
+abbrev Node : tie.Start → Type 0
+Node s = Branches (s .args .types .now) (s .args .s .now) (s .args .w .now)
 
-abbrev N : tie.Start → ℕ
-N s = number (s .args .s .now) 0
+-- the result type, and the rule as that type raised
+abbrev result : (s : tie.Start) → Node s → Answer Ty
+result s v = result-type (S s) (type-at (s .args .types .now)) (s .args .place) (number (s .args .s .now) 0) (v .first) (v .second)
 
--- the rule, as the result type raised
-raises : (s : tie.Start) (v : Branches (s .args .types .now) (s .args .s .now) (s .args .w .now))
-    → let p = s .args .place in let by = s .args .by .0 in
-    case-type (S s) (T s) p (N s) (v .first) (v .second) by
-    ≡ bind (result-type (S s) (T s) p (N s) (v .first) (v .second)) (λ r. accepted (raiseT (S s) r by))
-raises s v = case-raises (S s) (s .args .place) (T s) (N s) (v .first) (v .second) (s .args .by .0)
+raised : (s : tie.Start) (v : Node s) (o : Answer Ty) → result s v ≡ o
+    → let by = s .args .by .0 in
+    case-type (S s) (type-at (s .args .types .now)) (s .args .place) (number (s .args .s .now) 0) (v .first) (v .second) by
+    ≡ bind o (λ r. accepted (raiseT (S s) r by))
+raised s v o e =
+    let by = s .args .by .0 in
+    case-raises (S s) (s .args .place) (type-at (s .args .types .now)) (number (s .args .s .now) 0) (v .first) (v .second) by
+    ∙ ap (λ a. bind a (λ r. accepted (raiseT (S s) r by))) e
 
 -- the result type is asked for
 abbrev start : tie.After-result-type → tie.Start
@@ -57,15 +59,15 @@ returns c =
     let m = c .before in
     let a = m .before .before .before in
     let s = start a in
-    let z = refused-as (m .match .keys2) (a .result-type .ensures v b l) in
-    refused-meets (raises s v ∙ ap (λ o. bind o (λ r. accepted (raiseT (S s) r (s .args .by .0)))) (z .2)) (z .3)
+    let z = refused-as {o = result s v} (m .match .keys2) (a .result-type .ensures v b l) in
+    refused-meets (raised s v (refused (z .0) (z .1)) (z .2)) (z .3)
 
 raise-requires : tie.Need-raise-requires
 raise-requires c κs =
     let d = c .before .before in
     let a = found d in
     let v = start a .pre in
-    let z = typed-as (d .x .given .1) (a .result-type .ensures v 0 (omega (arith, v .room))) in
+    let z = typed-as {o = result (start a) v} (d .x .given .1) (a .result-type .ensures v 0 (omega (arith, v .room))) in
     record { type = z .type; held = z .wrote .sized .held }
 
 same-length-2 : tie.Need-same-length-2
@@ -79,8 +81,8 @@ returns-2 c =
     let a = found d in
     let s = start a in
     let by = s .args .by .0 in
-    let y = typed-as (d .x .given .1) (a .result-type .ensures v b l) in
-    meets-of (raises s v ∙ ap (λ o. bind o (λ r. accepted (raiseT (S s) r by))) (y .is))
+    let y = typed-as {o = result s v} (d .x .given .1) (a .result-type .ensures v b l) in
+    meets-of (raised s v (accepted (y .type)) (y .is))
     (finds
     (raise-wrote (S s) by (y .wrote) (x .raise .ensures .0 (y .type) (y .wrote .sized .held)) (x .raise .ensures .1)
     (omega (arith, a .result-type .kept .1 .1 .1 .1 .0))))
