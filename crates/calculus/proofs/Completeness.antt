@@ -134,7 +134,7 @@ module _ {S : Security} {tab : ℕ → Ty} (L : Laws S) (T : Table S tab) where
   protect-below m h x = record { least = _; inferred = i-protect h (x .inferred); below = raise-directed L m m (x .below) (L .leI-refl m h) }
 
   mu-below : {Γ : List Ty} {k : Property} {s t : Ty} {e : Term} (w : Reader) (i : ℕ) → tab i ≡ node function k s t → So (S .permits k (S .caller k w))
-      → So (S .absorbs k (top t)) → InferredBelow S tab (tab i ∷ Γ) e (tab i) → InferredBelow S tab Γ (mu w i e) (tab i)
+      → So (S .absorbs k (S .caller k w) (top t)) → InferredBelow S tab (tab i ∷ Γ) e (tab i) → InferredBelow S tab Γ (mu w i e) (tab i)
   mu-below w i e m h x = record { least = tab i; inferred = i-mu e m h (x .inferred) (x .below); below = directed-refl L below (tab i) (T .secure i) }
 
   extend-table : {Γ Δ : List Ty} (i : ℕ) → Narrower S Γ Δ → Narrower S (tab i ∷ Γ) (tab i ∷ Δ)

@@ -8,7 +8,7 @@ use Rattle.calculus.specs.Types.{Ty}
 use Rattle.calculus.specs.Terms.{Term, is-value}
 use Rattle.calculus.specs.Reduction.{step}
 use Rattle.calculus.specs.Typing.{HasType, Table}
-use Rattle.calculus.specs.Erasure.{public, erased, eraseT, erase, eraseO}
+use Rattle.calculus.specs.Erasure.{public, no-influence, erased, eraseT, erase, eraseO}
 use Rattle.calculus.proofs.RelabelledTerms.{relabel-value}
 use Rattle.calculus.proofs.Relabelling.{Keeps, relabel-step}
 use Rattle.calculus.proofs.Reduction.{denied-step}
@@ -16,9 +16,9 @@ use Rattle.calculus.proofs.Progress.{never-denied}
 
 -- One group: raised by itself, read by itself and called by itself it stays itself, and it may read itself.
 pub record OneGroup (S : Security) : Type 0 where
-  pub raise : S .raise public zero ≡ public
+  pub raise : S .raise public no-influence ≡ public
   pub permits : So (S .permits public zero)
-  pub influence : S .influence public zero ≡ zero
+  pub influence : S .influence public zero ≡ no-influence
   pub caller : S .caller public zero ≡ zero
 
 erasure-keeps : (S S′ : Security) (tab : ℕ → Ty) → OneGroup S′ → Keeps erased S S′ tab

@@ -30,4 +30,4 @@ pub data Inferred (S : Security) (tab : ℕ → Ty) : List Ty → Term → Ty �
   i-protect : {Γ : List Ty} {m : Indirect} {e : Term} {t : Ty} → So (S .secureI m) → Inferred S tab Γ e t
       → Inferred S tab Γ (protect m e) (raiseT S t m)
   i-mu : {Γ : List Ty} {w : Reader} {i : ℕ} {e : Term} {k : Property} {s t u : Ty} → tab i ≡ node function k s t → So (S .permits k (S .caller k w))
-      → So (S .absorbs k (top t)) → Inferred S tab (tab i ∷ Γ) e u → Directed S below u (tab i) → Inferred S tab Γ (mu w i e) (tab i)
+      → So (S .absorbs k (S .caller k w) (top t)) → Inferred S tab (tab i ∷ Γ) e u → Directed S below u (tab i) → Inferred S tab Γ (mu w i e) (tab i)

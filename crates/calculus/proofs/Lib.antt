@@ -1,4 +1,5 @@
 pub mod Booleans
+pub mod Lattices
 pub mod Properties
 pub mod Sides
 pub mod Directed
@@ -28,4 +29,5 @@ pub mod Progress
 pub mod RelabelledTerms
 pub mod Relabelling
 pub mod Erasure
-pub mod Callers
+pub mod RelabelledTypes
+pub mod Creators

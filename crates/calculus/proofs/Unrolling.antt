@@ -17,7 +17,7 @@ use Rattle.calculus.proofs.Weakening.{weakening}
 
 module _ {S : Security} {tab : ℕ → Ty} (L : Laws S) (T : Table S tab) where
   -- Raised by the influence of its own calls, the result stays at or below itself.
-  absorbed : (k : Property) (w : Reader) (t : Ty) → So (S .secure k) → So (secureT S t) → So (S .permits k w) → So (S .absorbs k (top t))
+  absorbed : (k : Property) (w : Reader) (t : Ty) → So (S .secure k) → So (secureT S t) → So (S .permits k w) → So (S .absorbs k w (top t))
       → Directed S below (raiseT S t (S .influence k w)) t
   unfolding secureT
   absorbed k w (one l) h g m a = d-one (L .absorption k l w h g m a)
@@ -26,7 +26,7 @@ module _ {S : Security} {tab : ℕ → Ty} (L : Laws S) (T : Table S tab) where
       d-node (L .absorption k l w h (x .own) m a) (directed-refl L _ s (x .left)) (directed-refl L below t (x .right))
 
   pub unrolled-typed : {w : Reader} {e : Term} {k : Property} {s t : Ty} (i : ℕ) → tab i ≡ node function k s t → So (S .permits k (S .caller k w))
-      → So (S .absorbs k (top t)) → HasType S tab [] (mu w i e) (tab i) → HasType S tab [] (unrolled S w i k e) (tab i)
+      → So (S .absorbs k (S .caller k w) (top t)) → HasType S tab [] (mu w i e) (tab i) → HasType S tab [] (unrolled S w i k e) (tab i)
   unfolding lookup
   unrolled-typed {w} {e} {k} {s} {t} i x m a p =
       let l : tab (suc i) ≡ s = T .left i x in

@@ -1,9 +1,5 @@
--- Item 6: the group that a recursive call is made as, and "we rewrite existing scripts by putting in r of the recursion's type".
-use Prim.Native.Nat.{ℕ}
+-- Item 6: the group that a recursive call is made as.
 use Rattle.calculus.specs.Security.{Property, Reader, Security}
-use Rattle.calculus.specs.Types.{Ty, top}
-use Rattle.calculus.specs.Terms.{Term}
-use Rattle.calculus.specs.Relabelling.{Labels, relabel}
 
 -- the same rules, but for the group that a recursive call is made as
 abbrev pub called-as : (Property → Reader → Reader) → Security → Security
@@ -28,10 +24,3 @@ as-written k w = w
 -- Document 01: "unrolling's inner application, unmarked in the source, is made as r of the recursion's type". What is written isn't read.
 abbrev pub as-typed : Property → Reader → Reader
 as-typed k w = k .r
-
--- r of its type written into every recursion
-abbrev pub written : (ℕ → Ty) → Labels
-written tab = record { property = λ k. k; reader = λ w. w; indirect = λ m. m; recursion = λ i w. top (tab i) .r }
-
-abbrev pub write : (ℕ → Ty) → Term → Term
-write tab e = relabel (written tab) e

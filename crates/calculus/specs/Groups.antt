@@ -1,4 +1,4 @@
--- Section 2.1: a lattice of security groups, and the properties over it.
+-- Sections 2.1 and 4: a lattice of security groups, and the properties over it.
 use mathlib.Core.Path.{_≡_}
 use mathlib.Core.Bool.{Bool, _&&_, So}
 use Prim.Native.Nat.{ℕ, zero}
@@ -30,18 +30,25 @@ pub record Lattice (G : Groups) : Type 0 where
   pub in-table : (g : ℕ) → So (G .group g) → So (G .leq g g)
   pub groups-only : (g h : ℕ) → So (G .leq g h) → So (G .group g)
 
--- Readers and indirect readers: what the calculus does with them. Item 6: "Byte 1 of a recursion now holds" the group of its call.
+-- Readers and creators: what the calculus does with them. For creators everything is turned round.
 abbrev pub properties : Groups → Security
 properties G = record {
-  le = λ k l. G .leq (k .r) (l .r) && G .leq (k .ir) (l .ir);
-  leI = λ m n. G .leq m n;
-  join = λ k l. record { r = G .join (k .r) (l .r); ir = G .join (k .ir) (l .ir) };
-  meet = λ k l. record { r = G .meet (k .r) (l .r); ir = G .meet (k .ir) (l .ir) };
-  raise = λ k m. record { r = G .join (k .r) m; ir = G .join (k .ir) m };
+  -- "Below now also needs c' ⊑ c and ic' ⊑ ic."
+  le = λ k l. G .leq (k .r) (l .r) && (G .leq (k .ir) (l .ir) && (G .leq (l .c) (k .c) && G .leq (l .ic) (k .ic)));
+  leI = λ m n. G .leq (m .ir) (n .ir) && G .leq (n .ic) (m .ic);
+  -- "Common types use meets and joins turned round."
+  join = λ k l. record { r = G .join (k .r) (l .r); ir = G .join (k .ir) (l .ir); c = G .meet (k .c) (l .c); ic = G .meet (k .ic) (l .ic) };
+  meet = λ k l. record { r = G .meet (k .r) (l .r); ir = G .meet (k .ir) (l .ir); c = G .join (k .c) (l .c); ic = G .join (k .ic) (l .ic) };
+  -- "Raising by (g, m) also meets m into c and ic."
+  raise = λ k m. record { r = G .join (k .r) (m .ir); ir = G .join (k .ir) (m .ir); c = G .meet (k .c) (m .ic); ic = G .meet (k .ic) (m .ic) };
   permits = λ k w. G .leq (k .r) w;
-  influence = λ k w. k .ir;
+  -- "Application, projection and case raise by ir and by ic ⊓ the node's group."
+  influence = λ k w. record { ir = k .ir; ic = G .meet (k .ic) w };
+  -- Item 6: "Byte 1 of a recursion now holds" the group of its call.
   caller = λ k w. w;
-  absorbs = λ k l. G .leq (k .ir) (l .ir);
-  secure = λ k. G .leq (k .ir) (k .r);
-  secureI = λ m. G .group m;
+  -- "A recursion also needs c of its result ⊑ ic ⊓ the group written in it."
+  absorbs = λ k w l. G .leq (k .ir) (l .ir) && G .leq (l .c) (G .meet (k .ic) w);
+  -- "ic ⊑ c"
+  secure = λ k. G .leq (k .ir) (k .r) && G .leq (k .ic) (k .c);
+  secureI = λ m. G .group (m .ir) && G .group (m .ic);
 }

@@ -10,3 +10,4 @@ pub mod Typing
 pub mod Relabelling
 pub mod Erasure
 pub mod Callers
+pub mod Creators

@@ -1,32 +1,35 @@
--- Section 2.1: security properties, and what the calculus does with them.
--- Everything above this file goes through the operations of `Security`, so readers over a groups table are one instance
--- and a property with more parts would be another.
+-- Sections 2.1 and 4: security properties, and what the calculus does with them.
+-- Everything above this file goes through the operations of `Security`, so properties over a groups table are one instance
+-- and those whose creators aren't read, as before item 10, another.
 use mathlib.Core.Path.{_≡_}
 use mathlib.Core.Bool.{Bool, So}
 use Prim.Native.Nat.{ℕ}
 
--- κ ::= (r, ir): the readers and the indirect readers of an object.
+-- κ ::= (r, ir, c, ic): the readers and the indirect readers of an object, its creators and its indirect creators.
 pub record Property : Type 0 where
   pub r : ℕ
   pub ir : ℕ
+  pub c : ℕ
+  pub ic : ℕ
 
 -- The security group with which a destructor is labelled.
 abbrev pub Reader : Type 0
 Reader = ℕ
 
--- What a protect is labelled with.
-abbrev pub Indirect : Type 0
-Indirect = ℕ
+-- What a protect is labelled with, and what a reading leaves on its result: indirect readers and indirect creators.
+pub record Indirect : Type 0 where
+  pub ir : ℕ
+  pub ic : ℕ
 
 pub record Security : Type 0 where
   -- κ ≤ κ′
   pub le : Property → Property → Bool
-  -- ir ⊑ ir′
+  -- ir ⊑ ir′ and ic′ ⊑ ic
   pub leI : Indirect → Indirect → Bool
   -- κ ⊔ κ′ and κ ⊓ κ′: the least property at or above both, and the greatest at or below both
   pub join : Property → Property → Property
   pub meet : Property → Property → Property
-  -- κ • ir
+  -- κ • (ir, ic)
   pub raise : Property → Indirect → Property
   -- r ⊑ r′: may a destructor labelled r′ read an object with this property?
   pub permits : Property → Reader → Bool
@@ -34,9 +37,9 @@ pub record Security : Type 0 where
   pub influence : Property → Reader → Indirect
   -- the group as which a recursion of this property, labelled with this group, is called when it unrolls
   pub caller : Property → Reader → Reader
-  -- document 01's condition on a recursion: may its result, of the second property, be read through the first?
-  pub absorbs : Property → Property → Bool
-  -- ir ⊑ r, and both are groups
+  -- the condition on a recursion: may its result, of the second property, be read through the first by a call as this group?
+  pub absorbs : Property → Reader → Property → Bool
+  -- ir ⊑ r and ic ⊑ c, and all are groups
   pub secure : Property → Bool
   pub secureI : Indirect → Bool
 
@@ -61,5 +64,5 @@ pub record Laws (S : Security) : Type 0 where
   pub permits-mono : (k l : Property) (w : Reader) → So (S .le k l) → So (S .permits l w) → So (S .permits k w)
   pub influence-mono : (k l : Property) (w : Reader) → So (S .le k l) → So (S .permits l w) → So (S .leI (S .influence k w) (S .influence l w))
   pub influence-secure : (k : Property) (w : Reader) → So (S .secure k) → So (S .permits k w) → So (S .secureI (S .influence k w))
-  pub absorption : (k l : Property) (w : Reader) → So (S .secure k) → So (S .secure l) → So (S .permits k w) → So (S .absorbs k l)
+  pub absorption : (k l : Property) (w : Reader) → So (S .secure k) → So (S .secure l) → So (S .permits k w) → So (S .absorbs k w l)
       → So (S .le (S .raise l (S .influence k w)) l)

@@ -31,12 +31,12 @@ abbrev pub top : Ty → Property
 top (one k) = k
 top (node f k s t) = k
 
--- s • ir: "joins g into both r and ir of the first record of s, and nowhere deeper"
+-- s • (ir, ic): "joins g into both r and ir of the first record of s, and nowhere deeper", and "meets m into c and ic"
 abbrev pub raiseT : Security → Ty → Indirect → Ty
 raiseT S (one k) m = one (S .raise k m)
 raiseT S (node f k s t) m = node f (S .raise k m) s t
 
--- Every property in a secure type satisfies ir ⊑ r.
+-- Every property in a secure type satisfies ir ⊑ r and ic ⊑ c.
 unfoldable pub secureT : Security → Ty → Bool
 secureT S (one k) = S .secure k
 secureT S (node f k s t) = S .secure k && (secureT S s && secureT S t)

@@ -53,9 +53,10 @@ pub data HasType (S : Security) (tab : ℕ → Ty) : List Ty → Term → Ty →
   t-protect : {Γ : List Ty} {m : Indirect} {e : Term} {t : Ty} → So (S .secureI m) → HasType S tab Γ e t
       → HasType S tab Γ (protect m e) (raiseT S t m)
   -- "21 is put to the recursion before 23, with r of its type against the written group."
-  -- "A recursion of type (s1 → s2, (r, ir)) needs ir ⊑ the indirect readers of s2."
+  -- "A recursion of type (s1 → s2, (r, ir)) needs ir ⊑ the indirect readers of s2", and "A recursion also needs c of its result ⊑ ic ⊓
+  -- the group written in it."
   t-mu : {Γ : List Ty} {w : Reader} {i : ℕ} {e : Term} {k : Property} {s t : Ty} → tab i ≡ node function k s t → So (S .permits k (S .caller k w))
-      → So (S .absorbs k (top t)) → HasType S tab (tab i ∷ Γ) e (tab i) → HasType S tab Γ (mu w i e) (tab i)
+      → So (S .absorbs k (S .caller k w) (top t)) → HasType S tab (tab i ∷ Γ) e (tab i) → HasType S tab Γ (mu w i e) (tab i)
 
 -- A table of types as the theory needs it: secure types within the limit, in which the left side of type i is type i + 1.
 pub record Table (S : Security) (tab : ℕ → Ty) : Type 0 where
@@ -69,7 +70,7 @@ result S tab i t u = cond (finds-own i) (common S below t u) (when (subtype S be
 
 -- questions 21 and 23 of a recursion labelled w, of a type with these parts
 abbrev pub recurs : Security → Parts → Reader → Bool
-recurs S p w = S .permits (p .own) (S .caller (p .own) w) && S .absorbs (p .own) (top (p .rhs))
+recurs S p w = S .permits (p .own) (S .caller (p .own) w) && S .absorbs (p .own) (S .caller (p .own) w) (top (p .rhs))
 
 -- The least type that the rules give, if any.
 unfoldable pub infer : Security → (ℕ → Ty) → List Ty → Term → Option Ty
