@@ -5,13 +5,12 @@ use Rattle.rules.specs.Types.{encode-type}
 use Rattle.rules.specs.Script.{encode, size, depth, subterm}
 use Rattle.rules.specs.Step.{exceeds}
 use Rattle.rules.specs.Strip.{strip-from}
-use Rattle.rules.specs.Callers.{write-callers, callers-written}
 use Rattle.rules.specs.Calls.{checking, type-records, stepping, running, run-report, sheeting, sheet-records}
 use Rattle.rules.specs.Report.{text, decimal, our-words, run-text, report}
 use Rattle.rules.specs.Words.{word}
 
 pub call-examples : CallExamples
-unfolding encode-type encode size depth subterm exceeds strip-from checking type-records stepping running run-report sheeting sheet-records text decimal our-words word run-text report write-callers callers-written
+unfolding encode-type encode size depth subterm exceeds strip-from checking type-records stepping running run-report sheeting sheet-records text decimal our-words word run-text report
 call-examples = record {
   records-found = refl;
   none-found = refl;
@@ -55,12 +54,6 @@ call-examples = record {
   no-term = refl;
   stripped-script = refl;
   stripped-types = refl;
-  caller-written = refl;
-  caller-replaced = refl;
-  no-such-caller = refl;
-  caller-cut-short = refl;
-  one-written = refl;
-  none-written = refl;
   closed-with-parts = refl;
   closed-inside = refl;
   open-to-1 = refl;

@@ -8,6 +8,7 @@ pub mod Nodes
 pub mod Octets
 pub mod Strip
 pub mod Callers
+pub mod Widening
 pub mod TermCode
 pub mod TypeCode
 pub mod RecordFields
@@ -27,4 +28,5 @@ pub mod Cases
 pub mod CallExamples
 pub mod WordExamples
 pub mod FoundExamples
+pub mod CreatorExamples
 pub mod Examples

@@ -4,7 +4,7 @@ use mathlib.Core.Bool.{Bool, true, So, _&&_, and-eq-true-iff, _||_}
 use Prim.Native.Nat.{ℕ, _+_, _*_, _/_, _%_, _<_}
 use borrow.Author.Tests.{ltb-true, lt-ltb, eqb-true, eq-eqb}
 use lib.Dec.{eqb, ltb}
-use Rattle.calculus.specs.Security.{Property}
+use Rattle.calculus.specs.Security.{Property, Indirect}
 use Rattle.calculus.specs.Terms.{first, second, Term, var, unit, lam, pair, inj, app, proj, case, protect, mu}
 use Rattle.calculus.specs.Typing.{finds-own}
 use Rattle.rules.specs.Answer.{Bytes}
@@ -15,7 +15,7 @@ use Rattle.rules.proofs.TermCode.{term-head, two-bytes}
 
 module _ (g : Bytes) where
   abbrev pub Label : Property → Type 0
-  Label k = (k .r < rows g) × (k .ir < rows g) × So (leq g (k .ir) (k .r))
+  Label k = (k .r < rows g) × (k .ir < rows g) × (k .c < rows g) × (k .ic < rows g) × So (leq g (k .ir) (k .r))
 
   abbrev pub Labelled : Term → Type 0
   Labelled (var n) = Unit {0}
@@ -26,17 +26,30 @@ module _ (g : Bytes) where
   Labelled (app w f a) = w < rows g
   Labelled (proj d w e) = w < rows g
   Labelled (case w i e a b) = w < rows g
-  Labelled (protect m e) = m < rows g
+  Labelled (protect m e) = (m .ir < rows g) × (m .ic < rows g)
   Labelled (mu w i e) = w < rows g
 
-  label : (k : Property) → (ltb (k .r) (rows g) && (ltb (k .ir) (rows g) && leq g (k .ir) (k .r))) ≡ true → Label k
+  abbrev Asked : Property → Bool
+  Asked k = ltb (k .r) (rows g) && (ltb (k .ir) (rows g) && (ltb (k .c) (rows g) && (ltb (k .ic) (rows g) && leq g (k .ir) (k .r))))
+
+  label : (k : Property) → Asked k ≡ true → Label k
   label k h =
       let a = and-eq-true-iff _ _ .0 h in
       let b = and-eq-true-iff _ _ .0 (a .1) in
-      (ltb-true (k .r) (rows g) (a .0), ltb-true (k .ir) (rows g) (b .0), b .1)
+      let c = and-eq-true-iff _ _ .0 (b .1) in
+      let d = and-eq-true-iff _ _ .0 (c .1) in
+      (ltb-true (k .r) (rows g) (a .0), ltb-true (k .ir) (rows g) (b .0), ltb-true (k .c) (rows g) (c .0), ltb-true (k .ic) (rows g) (d .0), d .1)
 
-  unlabel : (k : Property) → Label k → (ltb (k .r) (rows g) && (ltb (k .ir) (rows g) && leq g (k .ir) (k .r))) ≡ true
-  unlabel k h = and-eq-true-iff _ _ .1 (lt-ltb (k .r) (rows g) (h .0), and-eq-true-iff _ _ .1 (lt-ltb (k .ir) (rows g) (h .1), h .2))
+  unlabel : (k : Property) → Label k → Asked k ≡ true
+  unlabel k h = rw (lt-ltb (k .r) (rows g) (h .0), lt-ltb (k .ir) (rows g) (h .1), lt-ltb (k .c) (rows g) (h .2), lt-ltb (k .ic) (rows g) (h .3)) (h .4)
+
+  two-groups : (m : Indirect) → (ltb (m .ir) (rows g) && (ltb (m .ic) (rows g) && true)) ≡ true → (m .ir < rows g) × (m .ic < rows g)
+  two-groups m h =
+      let a = and-eq-true-iff _ _ .0 h in
+      (ltb-true (m .ir) (rows g) (a .0), ltb-true (m .ic) (rows g) (and-eq-true-iff _ _ .0 (a .1) .0))
+
+  untwo-groups : (m : Indirect) → (m .ir < rows g) × (m .ic < rows g) → (ltb (m .ir) (rows g) && (ltb (m .ic) (rows g) && true)) ≡ true
+  untwo-groups m h = rw (lt-ltb (m .ir) (rows g) (h .0), lt-ltb (m .ic) (rows g) (h .1))
 
   group : (w : ℕ) → (ltb w (rows g) && true) ≡ true → w < rows g
   group w h = ltb-true w (rows g) (and-eq-true-iff _ _ .0 h .0)
@@ -56,7 +69,7 @@ module _ (g : Bytes) where
   labelled (proj first w e) h = group w h
   labelled (proj second w e) h = group w h
   labelled (case w i e a b) h = group w h
-  labelled (protect m e) h = group m h
+  labelled (protect m e) h = two-groups m h
   labelled (mu w i e) h = group w h
 
   pub labelled-ok15 : (c : Term) → Labelled c → ok15 g (term-head c) 0 ≡ true
@@ -71,7 +84,7 @@ module _ (g : Bytes) where
   labelled-ok15 (proj first w e) h = ungroup w h
   labelled-ok15 (proj second w e) h = ungroup w h
   labelled-ok15 (case w i e a b) h = ungroup w h
-  labelled-ok15 (protect m e) h = ungroup m h
+  labelled-ok15 (protect m e) h = untwo-groups m h
   labelled-ok15 (mu w i e) h = ungroup w h
 
 module _ (t : Bytes) where

@@ -29,7 +29,7 @@ q13-fitting rooms s q =
     let b = and-eq-true-iff _ _ .0 (a .1) in
     let c = and-eq-true-iff _ _ .0 (b .1) in
     record {
-      whole = eqb-true (length s % 6) 0 (a .0);
+      whole = eqb-true (length s % script-width) 0 (a .0);
       some-record = leb-true 1 (records s) (b .0);
       limited = leb-true (records s) script-limit (c .0);
       roomy = λ i l. leb-true (length s) (getD rooms i 0) (all-below-all (length rooms) (λ k. leb (length s) (getD rooms k 0)) (c .1) i l);
@@ -38,7 +38,7 @@ q13-fitting rooms s q =
 pub fitting-q13 : (rooms : List ℕ) (s : Bytes) → Fitting rooms s → q13 rooms s ≡ accepted tt
 fitting-q13 rooms s f =
     rw (
-      eq-eqb (length s % 6) 0 (f .whole),
+      eq-eqb (length s % script-width) 0 (f .whole),
       le-leb 1 (records s) (f .some-record),
       le-leb (records s) script-limit (f .limited),
       all-below-true (length rooms) (λ k. leb (length s) (getD rooms k 0)) (λ k l. le-leb (length s) (getD rooms k 0) (f .roomy k l)),

@@ -41,21 +41,21 @@ pub record Whole (s : Bytes) : Type 0 where
 pub encode-whole : (e : Term) → Whole (encode e)
 encode-whole e = record { encoded = ap encode (term-encode e); sized = ap size (term-encode e) ∙ sym (records-encode e) }
 
-whole-tree : (s : Bytes) → length s % 6 ≡ 0 → Tree term-code s 0 (records s) → Whole s
+whole-tree : (s : Bytes) → length s % 8 ≡ 0 → Tree term-code s 0 (records s) → Whole s
 whole-tree s l t =
-    let d : drop (6 * records s) s ≡ [] = drop-of-length-le s {i = 6 * records s} (omega arith) in
+    let d : drop (8 * records s) s ≡ [] = drop-of-length-le s {i = 8 * records s} (omega arith) in
     let p : s ≡ encode (t .tree) = t .bytes ∙ ap (λ b. encode (t .tree) ++ b) d ∙ append-nil (encode (t .tree)) in
     subst Whole (sym p) (encode-whole (t .tree))
 
 pub whole : (rooms : List ℕ) (s : Bytes) → Octets s → q13 rooms s ≡ accepted tt → q14 s ≡ accepted tt → q17 s ≡ accepted tt → Whole s
 unfolding term-end
 whole rooms s o q13-yes q14-yes q17-yes =
-    let l : length s % 6 ≡ 0 = eqb-true _ 0 (and-eq-true-iff _ _ .0 (ask-true 13 0 _ q13-yes) .0) in
+    let l : length s % 8 ≡ 0 = eqb-true _ 0 (and-eq-true-iff _ _ .0 (ask-true 13 0 _ q13-yes) .0) in
     let walk : end-after (λ j. arity (kind s j)) (records s - 0) 1 0 ≡ some (records s) = exactly-some (records s) (term-end s 0) q17-yes in
     whole-tree s l
     (one-tree
     (way-back term-prefix s (records s - 0) 1 0 (records s) (omega arith) walk
-    (λ j a b. record { passes = ok14-record s j ∙ each-all 14 (records s) (ok14 s) q14-yes j b; low = subst (λ x. x < 256) (sym (record-byte 6 s j 4 (omega arith))) (o (6 * j + 4)) })))
+    (λ j a b. record { passes = ok14-record s j ∙ each-all 14 (records s) (ok14 s) q14-yes j b; low = subst (λ x. x < 256) (sym (record-byte 8 s j 4 (omega arith))) (o (8 * j + 4)) })))
 
 -- The other way: a term that was reached passes 17 again.
 pub q17-encode : (e : Term) → q17 (encode e) ≡ accepted tt

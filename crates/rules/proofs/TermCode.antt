@@ -10,7 +10,7 @@ use lib.ListN.{length, getD}
 use Rattle.calculus.specs.Terms.{first, second, choose, Term, var, unit, lam, pair, inj, app, proj, case, protect, mu}
 use Rattle.rules.specs.Answer.{Bytes, byte, _⇒_}
 use Rattle.rules.specs.Limits.{script-width}
-use Rattle.rules.specs.Script.{encode, size, parse, make, no-term, arity, script-record, Signature, signature-of, ok14}
+use Rattle.rules.specs.Script.{full-record, object-record, encode, size, parse, make, no-term, arity, script-record, Signature, signature-of, ok14}
 use Rattle.rules.proofs.Prefix.{All, joined, total, Shape, Code, Prefix}
 
 abbrev pub term-operands : Term → List Term
@@ -27,14 +27,14 @@ term-operands (mu w i e) = e ∷ []
 
 abbrev pub term-head : Term → Bytes
 term-head (var n) = script-record 0 0 0 n
-term-head (unit k) = script-record 1 (k .r) (k .ir) 0
-term-head (lam k i e) = script-record 2 (k .r) (k .ir) i
-term-head (pair k a b) = script-record 3 (k .r) (k .ir) 0
-term-head (inj d k i e) = script-record (choose d 4 5) (k .r) (k .ir) i
+term-head (unit k) = object-record 1 k 0
+term-head (lam k i e) = object-record 2 k i
+term-head (pair k a b) = object-record 3 k 0
+term-head (inj d k i e) = object-record (choose d 4 5) k i
 term-head (app w f a) = script-record 6 w 0 0
 term-head (proj d w e) = script-record (choose d 7 8) w 0 0
 term-head (case w i e a b) = script-record 9 w 0 i
-term-head (protect m e) = script-record 10 0 m 0
+term-head (protect m e) = full-record 10 0 (m .ir) 0 0 (m .ic)
 term-head (mu w i e) = script-record 11 w 0 i
 
 pub term-size-is : (e : Term) → size e ≡ suc (total size (term-operands e))
@@ -131,30 +131,37 @@ term-parse-node (protect m e) s ts h = rw h
 term-parse-node (mu w i e) s ts h = rw (h, two-bytes i)
 
 -- What question 14 says of a record's fields.
-record Fields (f : Signature) (k r ir z n : ℕ) : Type 0 where
+record Fields (f : Signature) (k r ir z n c ic : ℕ) : Type 0 where
   known : k ≤ 11
   zero-is : z ≡ 0
   r-unnamed : f .r ≡ false → r ≡ 0
   ir-unnamed : f .ir ≡ false → ir ≡ 0
   number-unnamed : f .number ≡ false → n ≡ 0
+  c-unnamed : f .c ≡ false → c ≡ 0
+  ic-unnamed : f .ic ≡ false → ic ≡ 0
 
 unless : (b : Bool) (x : ℕ) → (not b ⇒ eqb x 0) ≡ true → b ≡ false → x ≡ 0
 unless true x h e = absurd (false≢true (sym e))
 unless false x h e = eqb-true x 0 h
 
-fields : (f : Signature) (k r ir z n : ℕ)
-    → (leb k 11 && (eqb z 0 && ((not (f .r) ⇒ eqb r 0) && ((not (f .ir) ⇒ eqb ir 0) && (not (f .number) ⇒ eqb n 0))))) ≡ true → Fields f k r ir z n
-fields f k r ir z n h =
+fields : (f : Signature) (k r ir z n c ic : ℕ)
+    → (leb k 11 && (eqb z 0 && ((not (f .r) ⇒ eqb r 0) && ((not (f .ir) ⇒ eqb ir 0)
+    && ((not (f .number) ⇒ eqb n 0) && ((not (f .c) ⇒ eqb c 0) && (not (f .ic) ⇒ eqb ic 0))))))) ≡ true → Fields f k r ir z n c ic
+fields f k r ir z n c ic h =
     let a = and-eq-true-iff _ _ .0 h in
     let b = and-eq-true-iff _ _ .0 (a .1) in
-    let c = and-eq-true-iff _ _ .0 (b .1) in
-    let d = and-eq-true-iff _ _ .0 (c .1) in
+    let p = and-eq-true-iff _ _ .0 (b .1) in
+    let d = and-eq-true-iff _ _ .0 (p .1) in
+    let x = and-eq-true-iff _ _ .0 (d .1) in
+    let y = and-eq-true-iff _ _ .0 (x .1) in
     record {
       known = leb-true k 11 (a .0);
       zero-is = eqb-true z 0 (b .0);
-      r-unnamed = unless (f .r) r (c .0);
+      r-unnamed = unless (f .r) r (p .0);
       ir-unnamed = unless (f .ir) ir (d .0);
-      number-unnamed = unless (f .number) n (d .1);
+      number-unnamed = unless (f .number) n (x .0);
+      c-unnamed = unless (f .c) c (y .0);
+      ic-unnamed = unless (f .ic) ic (y .1);
     }
 
 -- lists of a known length
@@ -174,29 +181,29 @@ three-terms : (ts : List Term) → length ts ≡ 3 → getD ts 0 no-term ∷ get
 three-terms [] h = absurd (omega arith)
 three-terms (a ∷ ts) h = ap (λ l. a ∷ l) (two-terms ts (omega arith))
 
-six : (k : ℕ) {r r′ ir ir′ z z′ lo lo′ hi hi′ : ℕ} → r ≡ r′ → ir ≡ ir′ → z ≡ z′ → lo ≡ lo′ → hi ≡ hi′
-    → _≡_ {A = Bytes} (k ∷ r ∷ ir ∷ z ∷ lo ∷ hi ∷ []) (k ∷ r′ ∷ ir′ ∷ z′ ∷ lo′ ∷ hi′ ∷ [])
-six k p q t u v = cc
+eight : (k : ℕ) {r r′ ir ir′ z z′ lo lo′ hi hi′ c c′ ic ic′ : ℕ} → r ≡ r′ → ir ≡ ir′ → z ≡ z′ → lo ≡ lo′ → hi ≡ hi′ → c ≡ c′ → ic ≡ ic′
+    → _≡_ {A = Bytes} (k ∷ r ∷ ir ∷ z ∷ lo ∷ hi ∷ c ∷ ic ∷ []) (k ∷ r′ ∷ ir′ ∷ z′ ∷ lo′ ∷ hi′ ∷ c′ ∷ ic′ ∷ [])
+eight k p q t u v x y = cc
 
-abbrev made : ℕ → ℕ → ℕ → ℕ → List Term → Term
-made k r ir n ts = make k r ir n (getD ts 0 no-term) (getD ts 1 no-term) (getD ts 2 no-term)
+abbrev made : ℕ → ℕ → ℕ → ℕ → ℕ → ℕ → List Term → Term
+made k r ir n c ic ts = make k r ir n c ic (getD ts 0 no-term) (getD ts 1 no-term) (getD ts 2 no-term)
 
-node-of : (k r ir z lo hi : ℕ) (ts : List Term) → Fields (signature-of k) k r ir z (lo + 256 * hi) → lo < 256 → length ts ≡ arity k
-    → (term-head (made k r ir (lo + 256 * hi) ts) ≡ k ∷ r ∷ ir ∷ z ∷ lo ∷ hi ∷ []) × (term-operands (made k r ir (lo + 256 * hi) ts) ≡ ts)
+node-of : (k r ir z lo hi c ic : ℕ) (ts : List Term) → Fields (signature-of k) k r ir z (lo + 256 * hi) c ic → lo < 256 → length ts ≡ arity k
+    → (term-head (made k r ir (lo + 256 * hi) c ic ts) ≡ k ∷ r ∷ ir ∷ z ∷ lo ∷ hi ∷ c ∷ ic ∷ []) × (term-operands (made k r ir (lo + 256 * hi) c ic ts) ≡ ts)
 unfolding arity
-node-of zero r ir z lo hi ts F l m = (six 0 (sym (F .r-unnamed refl)) (sym (F .ir-unnamed refl)) (sym (F .zero-is)) (omega arith) (omega arith), no-terms ts m)
-node-of (suc zero) r ir z lo hi ts F l m = let n0 = F .number-unnamed refl in (six 1 refl refl (sym (F .zero-is)) (omega arith) (omega arith), no-terms ts m)
-node-of (suc (suc zero)) r ir z lo hi ts F l m = (six 2 refl refl (sym (F .zero-is)) (omega arith) (omega arith), one-term ts m)
-node-of (suc (suc (suc zero))) r ir z lo hi ts F l m = let n0 = F .number-unnamed refl in (six 3 refl refl (sym (F .zero-is)) (omega arith) (omega arith), two-terms ts m)
-node-of (suc (suc (suc (suc zero)))) r ir z lo hi ts F l m = (six 4 refl refl (sym (F .zero-is)) (omega arith) (omega arith), one-term ts m)
-node-of (suc (suc (suc (suc (suc zero))))) r ir z lo hi ts F l m = (six 5 refl refl (sym (F .zero-is)) (omega arith) (omega arith), one-term ts m)
-node-of (suc (suc (suc (suc (suc (suc zero)))))) r ir z lo hi ts F l m = let n0 = F .number-unnamed refl in (six 6 refl (sym (F .ir-unnamed refl)) (sym (F .zero-is)) (omega arith) (omega arith), two-terms ts m)
-node-of (suc (suc (suc (suc (suc (suc (suc zero))))))) r ir z lo hi ts F l m = let n0 = F .number-unnamed refl in (six 7 refl (sym (F .ir-unnamed refl)) (sym (F .zero-is)) (omega arith) (omega arith), one-term ts m)
-node-of (suc (suc (suc (suc (suc (suc (suc (suc zero)))))))) r ir z lo hi ts F l m = let n0 = F .number-unnamed refl in (six 8 refl (sym (F .ir-unnamed refl)) (sym (F .zero-is)) (omega arith) (omega arith), one-term ts m)
-node-of (suc (suc (suc (suc (suc (suc (suc (suc (suc zero))))))))) r ir z lo hi ts F l m = (six 9 refl (sym (F .ir-unnamed refl)) (sym (F .zero-is)) (omega arith) (omega arith), three-terms ts m)
-node-of (suc (suc (suc (suc (suc (suc (suc (suc (suc (suc zero)))))))))) r ir z lo hi ts F l m = let n0 = F .number-unnamed refl in (six 10 (sym (F .r-unnamed refl)) refl (sym (F .zero-is)) (omega arith) (omega arith), one-term ts m)
-node-of (suc (suc (suc (suc (suc (suc (suc (suc (suc (suc (suc zero))))))))))) r ir z lo hi ts F l m = (six 11 refl (sym (F .ir-unnamed refl)) (sym (F .zero-is)) (omega arith) (omega arith), one-term ts m)
-node-of (suc (suc (suc (suc (suc (suc (suc (suc (suc (suc (suc (suc k)))))))))))) r ir z lo hi ts F l m = let h = F .known in absurd (omega arith)
+node-of zero r ir z lo hi c ic ts F l m = (eight 0 (sym (F .r-unnamed refl)) (sym (F .ir-unnamed refl)) (sym (F .zero-is)) (omega arith) (omega arith) (sym (F .c-unnamed refl)) (sym (F .ic-unnamed refl)), no-terms ts m)
+node-of (suc zero) r ir z lo hi c ic ts F l m = let n0 = F .number-unnamed refl in (eight 1 refl refl (sym (F .zero-is)) (omega arith) (omega arith) refl refl, no-terms ts m)
+node-of (suc (suc zero)) r ir z lo hi c ic ts F l m = (eight 2 refl refl (sym (F .zero-is)) (omega arith) (omega arith) refl refl, one-term ts m)
+node-of (suc (suc (suc zero))) r ir z lo hi c ic ts F l m = let n0 = F .number-unnamed refl in (eight 3 refl refl (sym (F .zero-is)) (omega arith) (omega arith) refl refl, two-terms ts m)
+node-of (suc (suc (suc (suc zero)))) r ir z lo hi c ic ts F l m = (eight 4 refl refl (sym (F .zero-is)) (omega arith) (omega arith) refl refl, one-term ts m)
+node-of (suc (suc (suc (suc (suc zero))))) r ir z lo hi c ic ts F l m = (eight 5 refl refl (sym (F .zero-is)) (omega arith) (omega arith) refl refl, one-term ts m)
+node-of (suc (suc (suc (suc (suc (suc zero)))))) r ir z lo hi c ic ts F l m = let n0 = F .number-unnamed refl in (eight 6 refl (sym (F .ir-unnamed refl)) (sym (F .zero-is)) (omega arith) (omega arith) (sym (F .c-unnamed refl)) (sym (F .ic-unnamed refl)), two-terms ts m)
+node-of (suc (suc (suc (suc (suc (suc (suc zero))))))) r ir z lo hi c ic ts F l m = let n0 = F .number-unnamed refl in (eight 7 refl (sym (F .ir-unnamed refl)) (sym (F .zero-is)) (omega arith) (omega arith) (sym (F .c-unnamed refl)) (sym (F .ic-unnamed refl)), one-term ts m)
+node-of (suc (suc (suc (suc (suc (suc (suc (suc zero)))))))) r ir z lo hi c ic ts F l m = let n0 = F .number-unnamed refl in (eight 8 refl (sym (F .ir-unnamed refl)) (sym (F .zero-is)) (omega arith) (omega arith) (sym (F .c-unnamed refl)) (sym (F .ic-unnamed refl)), one-term ts m)
+node-of (suc (suc (suc (suc (suc (suc (suc (suc (suc zero))))))))) r ir z lo hi c ic ts F l m = (eight 9 refl (sym (F .ir-unnamed refl)) (sym (F .zero-is)) (omega arith) (omega arith) (sym (F .c-unnamed refl)) (sym (F .ic-unnamed refl)), three-terms ts m)
+node-of (suc (suc (suc (suc (suc (suc (suc (suc (suc (suc zero)))))))))) r ir z lo hi c ic ts F l m = let n0 = F .number-unnamed refl in (eight 10 (sym (F .r-unnamed refl)) refl (sym (F .zero-is)) (omega arith) (omega arith) (sym (F .c-unnamed refl)) refl, one-term ts m)
+node-of (suc (suc (suc (suc (suc (suc (suc (suc (suc (suc (suc zero))))))))))) r ir z lo hi c ic ts F l m = (eight 11 refl (sym (F .ir-unnamed refl)) (sym (F .zero-is)) (omega arith) (omega arith) (sym (F .c-unnamed refl)) (sym (F .ic-unnamed refl)), one-term ts m)
+node-of (suc (suc (suc (suc (suc (suc (suc (suc (suc (suc (suc (suc k)))))))))))) r ir z lo hi c ic ts F l m = let h = F .known in absurd (omega arith)
 
 -- A record passes question 14, and its bytes are bytes.
 pub record Good-record (h : Bytes) : Type 0 where
@@ -212,10 +219,12 @@ term-node (k ∷ r ∷ []) ts l g m = absurd (omega arith)
 term-node (k ∷ r ∷ ir ∷ []) ts l g m = absurd (omega arith)
 term-node (k ∷ r ∷ ir ∷ z ∷ []) ts l g m = absurd (omega arith)
 term-node (k ∷ r ∷ ir ∷ z ∷ lo ∷ []) ts l g m = absurd (omega arith)
-term-node (k ∷ r ∷ ir ∷ z ∷ lo ∷ hi ∷ []) ts l g m =
-    let p = node-of k r ir z lo hi ts (fields (signature-of k) k r ir z (lo + 256 * hi) (g .passes)) (g .low) m in
-    (made k r ir (lo + 256 * hi) ts, p .0, p .1)
-term-node (k ∷ r ∷ ir ∷ z ∷ lo ∷ hi ∷ x ∷ h) ts l g m = absurd (omega arith)
+term-node (k ∷ r ∷ ir ∷ z ∷ lo ∷ hi ∷ []) ts l g m = absurd (omega arith)
+term-node (k ∷ r ∷ ir ∷ z ∷ lo ∷ hi ∷ c ∷ []) ts l g m = absurd (omega arith)
+term-node (k ∷ r ∷ ir ∷ z ∷ lo ∷ hi ∷ c ∷ ic ∷ []) ts l g m =
+    let p = node-of k r ir z lo hi c ic ts (fields (signature-of k) k r ir z (lo + 256 * hi) c ic (g .passes)) (g .low) m in
+    (made k r ir (lo + 256 * hi) c ic ts, p .0, p .1)
+term-node (k ∷ r ∷ ir ∷ z ∷ lo ∷ hi ∷ c ∷ ic ∷ x ∷ h) ts l g m = absurd (omega arith)
 
 abbrev pub term-prefix : Prefix term-code
 term-prefix =

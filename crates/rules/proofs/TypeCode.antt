@@ -88,11 +88,13 @@ type-node [] ts l g m = absurd (omega arith)
 type-node (k ∷ []) ts l g m = absurd (omega arith)
 type-node (k ∷ r ∷ []) ts l g m = absurd (omega arith)
 type-node (k ∷ r ∷ ir ∷ []) ts l g m = absurd (omega arith)
-type-node (k ∷ r ∷ ir ∷ z ∷ []) ts l g m =
-    let p : Property = record { r = r; ir = ir } in
+type-node (k ∷ r ∷ ir ∷ z ∷ []) ts l g m = absurd (omega arith)
+type-node (k ∷ r ∷ ir ∷ z ∷ c ∷ []) ts l g m = absurd (omega arith)
+type-node (k ∷ r ∷ ir ∷ z ∷ c ∷ ic ∷ []) ts l g m =
+    let p : Property = record { r = r; ir = ir; c = c; ic = ic } in
     let q = node-of k p ts (g .known) m in
-    (made k p ts, q .0 ∙ ap (λ x. k ∷ r ∷ ir ∷ x ∷ []) (sym (g .zero-is)), q .1)
-type-node (k ∷ r ∷ ir ∷ z ∷ x ∷ h) ts l g m = absurd (omega arith)
+    (made k p ts, q .0 ∙ ap (λ x. k ∷ r ∷ ir ∷ x ∷ c ∷ ic ∷ []) (sym (g .zero-is)), q .1)
+type-node (k ∷ r ∷ ir ∷ z ∷ c ∷ ic ∷ x ∷ h) ts l g m = absurd (omega arith)
 
 abbrev pub type-prefix : Prefix type-code
 type-prefix =

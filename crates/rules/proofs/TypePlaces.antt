@@ -10,12 +10,12 @@ use Rattle.calculus.specs.Security.{Property}
 use Rattle.calculus.specs.Types.{Former, sum, product, function, Parts, Ty, one, node, top, sizeT}
 use Rattle.rules.specs.Answer.{Bytes, byte}
 use Rattle.rules.specs.Limits.{type-width}
-use Rattle.rules.specs.Types.{type-count, type-kind, type-r, former-kind, encode-type, no-type, parse-types, type-at, type-end}
+use Rattle.rules.specs.Types.{type-count, type-kind, type-r, type-ir, type-c, type-ic, former-kind, encode-type, no-type, parse-types, type-at, type-end}
 use Rattle.rules.proofs.Prefix.{record-at}
 use Rattle.rules.proofs.PrefixLaws.{record-is, round-trip, tree-end}
 use Rattle.rules.proofs.Nodes.{Every, to-nodes, operand-at}
 use Rattle.rules.proofs.TypeCode.{type-shape, type-code, type-prefix, type-head}
-use Rattle.rules.proofs.RecordFields.{type-kind-is, type-r-is}
+use Rattle.rules.proofs.RecordFields.{type-kind-is, type-r-is, type-ir-is, type-c-is, type-ic-is}
 
 -- the type at a place where one is written
 pub type-at-is : (t : Bytes) (i : ℕ) (e : Ty) (rest : Bytes) → drop (type-width * i) t ≡ encode-type e ++ rest → type-at t i ≡ e
@@ -23,17 +23,19 @@ unfolding type-at
 type-at-is t i e rest h = ap (λ b. getD (parse-types b) 0 no-type) h ∙ ap (λ ts. getD ts 0 no-type) (round-trip type-prefix e rest)
 
 -- outside the table
-too-short : (b : Bytes) → length b < 4 → parse-types b ≡ []
+too-short : (b : Bytes) → length b < 6 → parse-types b ≡ []
 unfolding parse-types
 too-short [] l = refl
 too-short (k ∷ []) l = refl
 too-short (k ∷ r ∷ []) l = refl
 too-short (k ∷ r ∷ ir ∷ []) l = refl
-too-short (k ∷ r ∷ ir ∷ z ∷ b) l = absurd (omega arith)
+too-short (k ∷ r ∷ ir ∷ z ∷ []) l = refl
+too-short (k ∷ r ∷ ir ∷ z ∷ c ∷ []) l = refl
+too-short (k ∷ r ∷ ir ∷ z ∷ c ∷ ic ∷ b) l = absurd (omega arith)
 
 pub type-at-outside : (t : Bytes) (i : ℕ) → type-count t ≤ i → type-at t i ≡ no-type
 unfolding type-at
-type-at-outside t i l = ap (λ ts. getD ts 0 no-type) (too-short (drop (4 * i) t) (omega (arith, length-drop (4 * i) t)))
+type-at-outside t i l = ap (λ ts. getD ts 0 no-type) (too-short (drop (type-width * i) t) (omega (arith, length-drop (type-width * i) t)))
 
 -- The type that record i starts: its bytes stand there, and it ends within the table.
 pub record Standing (t : Bytes) (i : ℕ) : Type 0 where
@@ -78,14 +80,27 @@ pub kind-at : (t : Bytes) (i : ℕ) → Standing t i → type-kind t i ≡ byte 
 kind-at t i st = sym (type-kind-is t i) ∙ ap (λ h. byte h 0) (own-record t i st)
 
 abbrev property : Bytes → Property
-property h = record { r = byte h 1; ir = byte h 2 }
+property h = record { r = byte h 1; ir = byte h 2; c = byte h 4; ic = byte h 5 }
 
 top-of-head : (e : Ty) → property (type-head e) ≡ top e
 top-of-head (one k) = refl
 top-of-head (node f k s t) = refl
 
-pub r-at : (t : Bytes) (i : ℕ) → Standing t i → type-r t i ≡ top (type-at t i) .r
-r-at t i st = sym (type-r-is t i) ∙ ap (λ h. byte h 1) (own-record t i st) ∙ ap (λ (k : Property). k .r) (top-of-head (type-at t i))
+module _ (t : Bytes) (i : ℕ) (st : Standing t i) where
+  own-property : property (record-at type-width t i) ≡ top (type-at t i)
+  own-property = ap property (own-record t i st) ∙ top-of-head (type-at t i)
+
+  pub r-at : type-r t i ≡ top (type-at t i) .r
+  r-at = sym (type-r-is t i) ∙ ap (λ (k : Property). k .r) own-property
+
+  pub ir-at : type-ir t i ≡ top (type-at t i) .ir
+  ir-at = sym (type-ir-is t i) ∙ ap (λ (k : Property). k .ir) own-property
+
+  pub c-at : type-c t i ≡ top (type-at t i) .c
+  c-at = sym (type-c-is t i) ∙ ap (λ (k : Property). k .c) own-property
+
+  pub ic-at : type-ic t i ≡ top (type-at t i) .ic
+  ic-at = sym (type-ic-is t i) ∙ ap (λ (k : Property). k .ic) own-property
 
 -- what one record's question says of every node of the type that stands at i
 pub asked-of-type : (ok : Bytes → ℕ → Bool) → ((t : Bytes) (i : ℕ) → ok (record-at type-width t i) 0 ≡ ok t i) → (t : Bytes)

@@ -84,7 +84,7 @@ module _ (t : Bytes) (P : Passes t) where
 
   module _ (Q : Ty → Type 0) (known-of : (i : ℕ) (e : Ty) → i < type-count t → pending t i ≡ 0 → type-end t i ≡ some (i + sizeT e) → Q e) where
     nothing-left : (i : ℕ) → type-count t ≤ i → Forest Q t i
-    nothing-left i l = record { trees = []; bytes = drop-of-length-le t {i = 4 * i} (omega (arith, P .whole)); all = tt }
+    nothing-left i l = record { trees = []; bytes = drop-of-length-le t {i = type-width * i} (omega (arith, P .whole)); all = tt }
 
     in-front : (i e : ℕ) → i < type-count t → pending t i ≡ 0 → type-end t i ≡ some e → Tree type-code t i e → Forest Q t e → Forest Q t i
     in-front i e l p h d f =
@@ -131,7 +131,7 @@ part-in Q t i f w c a =
     let b = total sizeT (w .before) in
     let own = at-bytes type-code a t (0 + b) (joined encode-type (w .after)) (outer-bytes t (f .trees) i (f .bytes) w) in
     let z : i ≡ 0 + b + w .place = omega (arith, w .place-is) in
-    let n : length t ≡ 4 * total sizeT (f .trees) = ap length (f .bytes) ∙ joined-length type-code (f .trees) in
+    let n : length t ≡ type-width * total sizeT (f .trees) = ap length (f .bytes) ∙ joined-length type-code (f .trees) in
     record {
       outer = w .tree;
       own = c;
@@ -139,13 +139,13 @@ part-in Q t i f w c a =
       at = a;
       known = all-at Q (w .before) (w .tree) (w .after) (subst (All Q) (w .is) (f .all));
       rest = own .0;
-      bytes = subst (λ k. drop (4 * k) t ≡ encode-type c ++ own .0) (sym z) (own .1);
+      bytes = subst (λ k. drop (type-width * k) t ≡ encode-type c ++ own .0) (sym z) (own .1);
       fits = omega (arith, at-size type-shape a, ap (total sizeT) (w .is), total-append sizeT (w .before) (w .tree ∷ w .after));
     }
 
 part-of : (Q : Ty → Type 0) (t : Bytes) (i : ℕ) → i < type-count t → Forest Q t 0 → Part Q t i
 part-of Q t i l f =
-    let n : length t ≡ 4 * total sizeT (f .trees) = ap length (f .bytes) ∙ joined-length type-code (f .trees) in
+    let n : length t ≡ type-width * total sizeT (f .trees) = ap length (f .bytes) ∙ joined-length type-code (f .trees) in
     let w = within sizeT (f .trees) i (omega arith) in
     let c = node-at type-shape (w .tree) (w .place) (w .inside) in
     part-in Q t i f w (c .0) (c .1)

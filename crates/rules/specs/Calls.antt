@@ -13,10 +13,10 @@ use Rattle.calculus.specs.Terms.{Term, subst, raise-value, is-value}
 use Rattle.calculus.specs.Reduction.{step, operand-first, reading, apply, project, branch, unroll}
 use Rattle.rules.specs.Answer.{Bytes, Answer, accepted, refused, _>>=_, _>>_, ask, first-from, last-below}
 use Rattle.rules.specs.Limits.{work-length, answer-length, sheet-width}
-use Rattle.rules.specs.Groups.{rows, join, meet, ok3, ok4, ok5, ok6, ok7, q2, q3, q4, q5, q6, q7, readers}
-use Rattle.rules.specs.Types.{type-count, encode-type, type-at, ok9, ok10, ok11, ok12, q8, q9, q10, q11, q12}
+use Rattle.rules.specs.Groups.{rows, join, meet, ok3, ok4, ok5, ok6, ok7, q2, q3, q4, q5, q6, q7, properties-of}
+use Rattle.rules.specs.Types.{type-count, encode-type, type-at, ok9, ok10, ok36-type, ok11, ok12, q8, q9, q10, q36-types, q11, q12}
 use Rattle.rules.specs.Comparison.{equal-types, Comparison, comparison}
-use Rattle.rules.specs.Script.{records, encode, term, size, depth, counts, term-end, ok14, ok15, ok16, ok18, ok19, q13, q14, q15, q16, q17, q18, q19}
+use Rattle.rules.specs.Script.{records, encode, term, size, depth, counts, term-end, ok14, ok15, ok36-object, ok16, ok18, ok19, q13, q14, q15, q36-objects, q16, q17, q18, q19}
 use Rattle.rules.specs.Typing.{of-typing, typing}
 use Rattle.rules.specs.Step.{End, at-value, moves, may-not, wrong-kind, too-big, end-number, end-count, step-in, exceeds}
 use Rattle.rules.specs.Run.{Ran, run}
@@ -29,6 +29,11 @@ fill-front bytes old = bytes ++ drop (length bytes) old
 abbrev pub zeros : ℕ → Bytes
 zeros n = replicate n 0
 
+-- a buffer whose front an answer's bytes fill; a refusal leaves it as it was
+abbrev pub filled-after : Answer Bytes → Bytes → Bytes
+filled-after (accepted bytes) old = fill-front bytes old
+filled-after (refused q p) old = old
+
 -- "Groups check: 2 to 7."
 unfoldable pub groups-check : Bytes → Answer (Unit {0})
 unfolding first-from ok3 ok4 ok5 ok6 ok7
@@ -40,14 +45,15 @@ groups-check g = do
   q6 g
   q7 g
 
--- "Types check: 2 to 12."
+-- "Types check: 2 to 12", with 36 "directly after 10".
 unfoldable pub types-check : Bytes → Bytes → Answer (Unit {0})
-unfolding groups-check first-from ok9 ok10 ok11 ok12
+unfolding groups-check first-from ok9 ok10 ok36-type ok11 ok12
 types-check g t = do
   groups-check g
   q8 t
   q9 g t
   q10 g t
+  q36-types g t
   q11 t
   q12 t
 
@@ -62,22 +68,23 @@ comparing g t i j = do
   types-check g t
   q25 0 i (type-count t)
   q25 1 j (type-count t)
-  accepted (comparison (readers g) (type-at t i) (type-at t j))
+  accepted (comparison (properties-of g) (type-at t i) (type-at t j))
 
--- questions 2 to 19; `rooms` are the lengths of a run's buffers
+-- questions 2 to 19, with 36 after 15 too; `rooms` are the lengths of a run's buffers
 unfoldable pub script-check : List ℕ → Bytes → Bytes → Bytes → Answer (Unit {0})
-unfolding types-check first-from ok14 ok15 ok16 term-end ok18 ok19 counts term
+unfolding types-check first-from ok14 ok15 ok36-object ok16 term-end ok18 ok19 counts term
 script-check rooms g t s = do
   types-check g t
   q13 rooms s
   q14 s
   q15 g s
+  q36-objects g s
   q16 t s
   q17 s
   q18 s
   q19 s
 
--- 1. Are work and answer buffer at least 64,512 and 252 bytes? (place 0)
+-- 1. Are work and answer buffer at least 96,768 and 378 bytes? (place 0)
 abbrev pub q1 : ℕ → ℕ → Answer (Unit {0})
 q1 work answer = ask 1 0 (leb work-length work && leb answer-length answer)
 
@@ -91,7 +98,7 @@ checking-by S work answer g t s = do
 
 unfoldable pub checking : ℕ → ℕ → Bytes → Bytes → Bytes → Answer Ty
 unfolding script-check typing size sizeT subtype type-at term join meet last-below common
-checking work answer g t s = checking-by (readers g) work answer g t s
+checking work answer g t s = checking-by (properties-of g) work answer g t s
 
 -- "It then gives the type's record count,"
 unfoldable pub type-records : Answer Ty → Answer ℕ
@@ -124,7 +131,7 @@ stepping-by S g t s room = do
 
 unfoldable pub stepping : Bytes → Bytes → Bytes → ℕ → Answer End
 unfolding script-check step-in step operand-first reading apply project branch unroll subst raise-value exceeds size depth type-at term join meet last-below common
-stepping g t s room = stepping-by (readers g) g t s room
+stepping g t s room = stepping-by (properties-of g) g t s room
 
 -- "A step reports its end and a record count, the script's own unless it moved."
 pub record StepReport : Type 0 where
@@ -155,7 +162,7 @@ running-by S g t s budget first scratch = do
 
 unfoldable pub running : Bytes → Bytes → Bytes → ℕ → ℕ → ℕ → Answer Ran
 unfolding script-check run is-value step-in step operand-first reading apply project branch unroll subst raise-value exceeds size depth type-at term join meet last-below common
-running g t s budget first scratch = running-by (readers g) g t s budget first scratch
+running g t s budget first scratch = running-by (properties-of g) g t s budget first scratch
 
 -- "A run reports end, steps made and record count."
 pub record Report : Type 0 where
@@ -202,5 +209,4 @@ sheet-records (accepted b) = accepted (length b / sheet-width)
 sheet-records (refused q p) = refused q p
 
 abbrev pub sheet-after : Answer Bytes → Bytes → Bytes
-sheet-after (accepted b) old = fill-front b old
-sheet-after (refused q p) old = old
+sheet-after x old = filled-after x old

@@ -1,4 +1,4 @@
--- Document 01, 'Cases A to L', each statement a field of one record.
+-- Document 01, 'Cases A to L', in the form of item 10 with c and ic as group 0, each statement a field of one record.
 use mathlib.Core.Path.{_≡_}
 use mathlib.Core.List.{_++_, _∷_, []}
 use mathlib.Core.Option.{none}
@@ -15,9 +15,9 @@ use Rattle.rules.specs.Report.{text, report}
 abbrev pub word : ℕ → Bytes
 word w = w ∷ 0 ∷ 0 ∷ 0 ∷ []
 
--- a type record
+-- a type record with group 0 as c and ic
 abbrev pub ty : ℕ → ℕ → ℕ → Bytes
-ty kind r ir = type-record kind (record { r = r; ir = ir })
+ty kind r ir = type-record kind (record { r = r; ir = ir; c = 0; ic = 0 })
 
 -- "Groups 0 ⊑ 1 (words 3, 2)."
 abbrev pub groups : Bytes
@@ -68,21 +68,21 @@ ends end steps count = accepted (record { end = end; steps = steps; count = coun
 
 pub record Cases : Type 0 where
   pub A-refused : check types (case-term 1 1 0) ≡ refused 21 0
-  pub A-run : ran 1000 49152 (case-term 1 1 0) ≡ ends 2 0 7
+  pub A-run : ran 1000 65536 (case-term 1 1 0) ≡ ends 2 0 7
   pub A-report : report none groups types (case-term 1 1 0) ≡ text "refused 21 at 0\n"
   pub B-type : check types (case-term 1 1 1) ≡ accepted (ty 1 1 1 ++ ty 0 0 0 ++ ty 0 0 0)
-  pub B-run : ran 1000 49152 (case-term 1 1 1) ≡ ends 0 2 2
+  pub B-run : ran 1000 65536 (case-term 1 1 1) ≡ ends 0 2 2
   pub B-report : report none groups types (case-term 1 1 1)
       ≡ text "accepted 3\n" ++ text "end 0 steps 2 records 2\n" ++ text "closed 0 0\n"
   pub C-type : check types (case-term 1 0 1) ≡ accepted (ty 1 0 0 ++ ty 0 0 0 ++ ty 0 0 0)
-  pub C-run : ran 1000 49152 (case-term 1 0 1) ≡ ends 0 2 2
+  pub C-run : ran 1000 65536 (case-term 1 0 1) ≡ ends 0 2 2
   pub D : check types (case-term 0 1 0) ≡ refused 15 1
-  pub E : ran 1 49152 (case-term 1 1 1) ≡ ends 1 1 3
+  pub E : ran 1 65536 (case-term 1 1 1) ≡ ends 1 1 3
   pub F : check types (script-record 0 0 0 0) ≡ refused 19 0
   pub G-accepted : check types (loop 0 0) ≡ accepted (ty 0 0 0)
-  pub G-run : ran 3 49152 (loop 0 0) ≡ ends 1 3 9
-  pub H-72 : ran 1000 72 (loop 0 0) ≡ ends 4 0 7
-  pub H-78 : ran 1 78 (loop 0 0) ≡ ends 1 1 13
+  pub G-run : ran 3 65536 (loop 0 0) ≡ ends 1 3 9
+  pub H-96 : ran 1000 96 (loop 0 0) ≡ ends 4 0 7
+  pub H-104 : ran 1 104 (loop 0 0) ≡ ends 1 1 13
   pub I : check (types-with 1 1) (loop 1 1) ≡ refused 23 1
   pub J : groups-check (word 15 ++ word 10 ++ word 12 ++ word 8) ≡ accepted tt
   pub J-join : join (word 15 ++ word 10 ++ word 12 ++ word 8) 1 2 ≡ 3

@@ -12,9 +12,9 @@ use Rattle.calculus.specs.Subtyping as directions
 pub data Comparison : Type 0 where
   same below neither : Comparison
 
--- r and ir: with the kind they are all that a record says
+-- r, ir, c and ic: with the kind they are all that a record says
 abbrev pub equal-properties : Property → Property → Bool
-equal-properties k l = eqb (k .r) (l .r) && eqb (k .ir) (l .ir)
+equal-properties k l = eqb (k .r) (l .r) && (eqb (k .ir) (l .ir) && (eqb (k .c) (l .c) && eqb (k .ic) (l .ic)))
 
 -- "Same means equal in every record."
 unfoldable pub equal-types : Ty → Ty → Bool

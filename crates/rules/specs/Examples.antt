@@ -98,16 +98,16 @@ pub record Examples : Type 0 where
   -- the limits of 2, 8 and 13
   pub 32-rows : q2 (zeros (4 * 32)) ≡ accepted tt
   pub 33-rows : q2 (zeros (4 * 33)) ≡ refused 2 0
-  pub 4096-types : q8 (zeros (4 * 4096)) ≡ accepted tt
-  pub 4097-types : q8 (zeros (4 * 4097)) ≡ refused 8 0
-  pub 8192-records : q13 [] (zeros (6 * 8192)) ≡ accepted tt
-  pub 8193-records : q13 [] (zeros (6 * 8193)) ≡ refused 13 0
+  pub 4096-types : q8 (zeros (6 * 4096)) ≡ accepted tt
+  pub 4097-types : q8 (zeros (6 * 4097)) ≡ refused 8 0
+  pub 8192-records : q13 [] (zeros (8 * 8192)) ≡ accepted tt
+  pub 8193-records : q13 [] (zeros (8 * 8193)) ≡ refused 13 0
   -- the join is the lowest common bit and no larger number
   pub joined-type : type-bytes (verdict diamond types (protect 2 ++ unit 1 1)) ≡ accepted (ty 0 3 3)
   -- 8 to 12
   pub no-types : types-check groups [] ≡ refused 8 0
   pub kind-past-3 : types-check groups (ty 0 0 0 ++ ty 4 0 0) ≡ refused 9 1
-  pub byte-3 : types-check groups (ty 0 0 0 ++ (0 ∷ 0 ∷ 0 ∷ 1 ∷ [])) ≡ refused 9 1
+  pub byte-3 : types-check groups (ty 0 0 0 ++ (0 ∷ 0 ∷ 0 ∷ 1 ∷ 0 ∷ 0 ∷ [])) ≡ refused 9 1
   pub group-past-rows : types-check groups (ty 0 2 0) ≡ refused 9 0
   pub indirect-above : types-check groups (ty 0 0 1) ≡ refused 10 0
   pub unfinished : types-check groups (ty 0 0 0 ++ ty 1 0 0 ++ ty 0 0 0) ≡ refused 11 1
@@ -128,8 +128,8 @@ pub record Examples : Type 0 where
   pub sides-mixed : comparing groups mixed-pairs 3 6 ≡ accepted neither
   pub equal-sides : comparing groups mixed-pairs 3 9 ≡ accepted same
   -- 13 to 18
-  pub no-room : ran 9 41 (loop 0 0) ≡ refused 13 0
-  pub no-scratch : run-report (running groups types (loop 0 0) 9 42 41) ≡ refused 13 0
+  pub no-room : ran 9 55 (loop 0 0) ≡ refused 13 0
+  pub no-scratch : run-report (running groups types (loop 0 0) 9 56 55) ≡ refused 13 0
   pub unnamed-field : check types (script-record 0 1 0 0) ≡ refused 14 0
   pub label-past-rows : check types (app 2 ++ unit 0 0 ++ unit 0 0) ≡ refused 15 0
   pub case-past-rows : check types (protect 0 ++ script-record 9 2 0 1 ++ unit 0 0 ++ unit 0 0 ++ unit 0 0) ≡ refused 15 1
@@ -147,9 +147,9 @@ pub record Examples : Type 0 where
   pub depth-257 : q18 (protects 256) ≡ refused 18 256
   pub depth-first : check types (pair 0 0 ++ var 0 ++ protects 255) ≡ refused 18 257
   -- a record's number is little-endian: 256 names no type, and no binder of two
-  pub number-bytes : number (0 ∷ 0 ∷ 0 ∷ 0 ∷ 2 ∷ 1 ∷ []) 0 ≡ 258
-  pub type-256 : check types ((2 ∷ 0 ∷ 0 ∷ 0 ∷ 0 ∷ 1 ∷ []) ++ unit 0 0) ≡ refused 16 0
-  pub variable-256 : check types (script-record 2 0 0 1 ++ script-record 2 0 0 1 ++ (0 ∷ 0 ∷ 0 ∷ 0 ∷ 0 ∷ 1 ∷ [])) ≡ refused 19 2
+  pub number-bytes : number (0 ∷ 0 ∷ 0 ∷ 0 ∷ 2 ∷ 1 ∷ 0 ∷ 0 ∷ []) 0 ≡ 258
+  pub type-256 : check types ((2 ∷ 0 ∷ 0 ∷ 0 ∷ 0 ∷ 1 ∷ 0 ∷ 0 ∷ []) ++ unit 0 0) ≡ refused 16 0
+  pub variable-256 : check types (script-record 2 0 0 1 ++ script-record 2 0 0 1 ++ (0 ∷ 0 ∷ 0 ∷ 0 ∷ 0 ∷ 1 ∷ 0 ∷ 0 ∷ [])) ≡ refused 19 2
   -- a branch has one binder, the tested operand none
   pub branch-binder : check types (branch 0) ≡ accepted (ty 0 0 0)
   pub one-binder : check types (branch 1) ≡ refused 19 3
@@ -177,6 +177,6 @@ pub record Examples : Type 0 where
   pub 63-found : check types (pairs 31) ≡ accepted (pair-types 31)
   pub 65-found : check types (pairs 32) ≡ refused 24 0
   -- 1
-  pub short-work : checking 64511 252 groups types (unit 0 0) ≡ refused 1 0
-  pub short-answer : checking 64512 251 groups types (unit 0 0) ≡ refused 1 0
-  pub long-enough : checking 64512 252 groups types (unit 1 0) ≡ accepted (one (record { r = 1; ir = 0 }))
+  pub short-work : checking 96767 378 groups types (unit 0 0) ≡ refused 1 0
+  pub short-answer : checking 96768 377 groups types (unit 0 0) ≡ refused 1 0
+  pub long-enough : checking 96768 378 groups types (unit 1 0) ≡ accepted (one (record { r = 1; ir = 0; c = 0; ic = 0 }))

@@ -34,7 +34,7 @@ deep (suc n) = protect 0 ++ deep n
 
 -- the same case as a term
 abbrev pub found-case : terms.Term
-found-case = terms.case 0 65535 (terms.inj terms.first (record { r = 0; ir = 0 }) 0 no-term) no-term no-term
+found-case = terms.case 0 65535 (terms.inj terms.first (record { r = 0; ir = 0; c = 0; ic = 0 }) 0 no-term) no-term no-term
 
 pub record FoundExamples : Type 0 where
   -- the join of the branches' groups, raised by ir of the tested operand
@@ -59,8 +59,8 @@ pub record FoundExamples : Type 0 where
   pub own-256 : q18 (deep 252) ≡ accepted tt
   pub own-257 : q18 (deep 253) ≡ refused 18 255
   -- and in too big
-  pub own-fits : exceeds 60000 (around 252 found-case) ≡ false
-  pub own-exceeds : exceeds 60000 (around 253 found-case) ≡ true
+  pub own-fits : exceeds 70000 (around 252 found-case) ≡ false
+  pub own-exceeds : exceeds 70000 (around 253 found-case) ≡ true
   -- it steps as any other, and stripping keeps its number
-  pub own-steps : written-after (stepping groups types (finds 1 1 1 (var 0) (unit 1 1)) 12) [] ≡ protect 1 ++ unit 0 0
+  pub own-steps : written-after (stepping groups types (finds 1 1 1 (var 0) (unit 1 1)) 16) [] ≡ protect 1 ++ unit 0 0
   pub own-stripped : strip-script (script-record 9 1 0 65535) ≡ script-record 9 0 0 65535

@@ -107,6 +107,6 @@ q7 t = ask 7 0 (ok7 t)
 abbrev pub groups-of : Bytes → Groups
 groups-of t = record { group = λ g. ltb g (rows t); leq = leq t; join = join t; meet = meet t }
 
--- readers and indirect readers over a groups table
-abbrev pub readers : Bytes → Security
-readers t = properties (groups-of t)
+-- the properties over a groups table
+abbrev pub properties-of : Bytes → Security
+properties-of t = properties (groups-of t)

@@ -11,6 +11,7 @@ pub mod Strip
 pub mod Callers
 pub mod Sheet
 pub mod Calls
+pub mod Rewriting
 pub mod Reach
 pub mod Words
 pub mod Report
@@ -19,3 +20,4 @@ pub mod Examples
 pub mod CallExamples
 pub mod WordExamples
 pub mod FoundExamples
+pub mod CreatorExamples

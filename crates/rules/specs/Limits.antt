@@ -7,13 +7,20 @@ abbrev pub row-width : ℕ
 row-width = 4
 
 abbrev pub type-width : ℕ
-type-width = 4
+type-width = 6
 
 abbrev pub script-width : ℕ
-script-width = 6
+script-width = 8
 
 abbrev pub sheet-width : ℕ
 sheet-width = 4
+
+-- and of a type and a script record in the forms before item 10
+abbrev pub old-type-width : ℕ
+old-type-width = 4
+
+abbrev pub old-script-width : ℕ
+old-script-width = 6
 
 -- "1 to 32 rows", "1 to 4,096 records", "1 to 8,192", "depth at most 256"
 abbrev pub group-limit : ℕ
@@ -38,11 +45,11 @@ word-limit = 6
 abbrev pub words-length : ℕ
 words-length = word-limit * word-width
 
--- the last question: 34, of a words table
+-- the last question: 36, of creators
 abbrev pub last-question : ℕ
-last-question = 34
+last-question = 36
 
--- Question 1's lengths: a type for the answer, and a type for each level of a script for the work.
+-- Question 1's lengths, 378 and 96,768 bytes: a type for the answer, and a type for each level of a script for the work.
 abbrev pub answer-length : ℕ
 answer-length = type-limit * type-width
 
@@ -53,7 +60,7 @@ work-length = depth-limit * answer-length
 abbrev pub report-budget : ℕ
 report-budget = 1000
 
--- 49,152 bytes: the longest script
+-- 65,536 bytes: the longest script
 abbrev pub report-buffer : ℕ
 report-buffer = script-limit * script-width
 

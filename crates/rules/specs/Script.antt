@@ -1,4 +1,4 @@
--- Document 01, 'Scripts', and questions 13 to 19.
+-- Document 01, 'Scripts', with item 10's creators: questions 13 to 19 and 36.
 use mathlib.Core.Bool.{Bool, true, false, cond, not, _&&_, _||_}
 use mathlib.Core.List.{List, [], _∷_, _++_}
 use mathlib.Core.Option.{Option, none, some}
@@ -13,7 +13,7 @@ use Rattle.rules.specs.Limits.{script-width, script-limit, depth-limit}
 use Rattle.rules.specs.Groups.{rows, leq}
 use Rattle.rules.specs.Types.{type-count, type-kind, end-after}
 
--- "Records of 6 bytes, no header: kind, r, ir, 0, a 16-bit little-endian number."
+-- "Records .., no header: kind, r, ir, 0, a 16-bit little-endian number." Item 10: "script records [grow] to 8, in bytes 6 and 7".
 abbrev pub records : Bytes → ℕ
 records s = length s / script-width
 
@@ -32,18 +32,27 @@ zero-byte s i = byte s (script-width * i + 3)
 abbrev pub number : Bytes → ℕ → ℕ
 number s i = byte s (script-width * i + 4) + 256 * byte s (script-width * i + 5)
 
+abbrev pub c : Bytes → ℕ → ℕ
+c s i = byte s (script-width * i + 6)
+
+abbrev pub ic : Bytes → ℕ → ℕ
+ic s i = byte s (script-width * i + 7)
+
 -- a line of the table of kinds
 pub record Signature : Type 0 where
   pub operands : ℕ
   -- which fields are named
   pub r : Bool
   pub ir : Bool
+  pub c : Bool
+  pub ic : Bool
   pub number : Bool
   -- whether the number names a type
   pub typed : Bool
 
+-- Item 10: "Kinds 1 to 5 use both, protect uses ic." So an object, which names r and ir, names c, and what names ir names ic.
 abbrev pub signature : ℕ → Bool → Bool → Bool → Bool → Signature
-signature o r ir n t = record { operands = o; r = r; ir = ir; number = n; typed = t }
+signature o r ir n t = record { operands = o; r = r; ir = ir; c = r && ir; ic = ir; number = n; typed = t }
 
 -- The table of kinds. A field that it doesn't name is unnamed.
 unfoldable pub signatures : List Signature
@@ -72,32 +81,40 @@ unfoldable pub arity : ℕ → ℕ
 unfolding signature-of
 arity k = signature-of k .operands
 
--- a record
+-- a record: kind, r, ir, number, c, ic
+abbrev pub full-record : ℕ → ℕ → ℕ → ℕ → ℕ → ℕ → Bytes
+full-record k r ir n c ic = k ∷ r ∷ ir ∷ 0 ∷ n % 256 ∷ n / 256 ∷ c ∷ ic ∷ []
+
+-- one with group 0 as c and ic
 abbrev pub script-record : ℕ → ℕ → ℕ → ℕ → Bytes
-script-record k r ir n = k ∷ r ∷ ir ∷ 0 ∷ n % 256 ∷ n / 256 ∷ []
+script-record k r ir n = full-record k r ir n 0 0
+
+-- an object's
+abbrev pub object-record : ℕ → Property → ℕ → Bytes
+object-record kind k n = full-record kind (k .r) (k .ir) n (k .c) (k .ic)
 
 -- A term as records: "each is followed by its operands in order. Unnamed fields are 0."
 unfoldable pub encode : Term → Bytes
 encode (var n) = script-record 0 0 0 n
-encode (unit k) = script-record 1 (k .r) (k .ir) 0
-encode (lam k i e) = script-record 2 (k .r) (k .ir) i ++ encode e
-encode (pair k a b) = script-record 3 (k .r) (k .ir) 0 ++ (encode a ++ encode b)
-encode (inj first k i e) = script-record 4 (k .r) (k .ir) i ++ encode e
-encode (inj second k i e) = script-record 5 (k .r) (k .ir) i ++ encode e
+encode (unit k) = object-record 1 k 0
+encode (lam k i e) = object-record 2 k i ++ encode e
+encode (pair k a b) = object-record 3 k 0 ++ (encode a ++ encode b)
+encode (inj first k i e) = object-record 4 k i ++ encode e
+encode (inj second k i e) = object-record 5 k i ++ encode e
 encode (app w f a) = script-record 6 w 0 0 ++ (encode f ++ encode a)
 encode (proj first w e) = script-record 7 w 0 0 ++ encode e
 encode (proj second w e) = script-record 8 w 0 0 ++ encode e
 encode (case w i e a b) = script-record 9 w 0 i ++ (encode e ++ (encode a ++ encode b))
-encode (protect m e) = script-record 10 0 m 0 ++ encode e
+encode (protect m e) = full-record 10 0 (m .ir) 0 0 (m .ic) ++ encode e
 encode (mu w i e) = script-record 11 w 0 i ++ encode e
 
 abbrev pub no-term : Term
 no-term = var 0
 
 -- the term of a record and up to three operands
-abbrev pub make : ℕ → ℕ → ℕ → ℕ → Term → Term → Term → Term
-make kind r ir n a b c =
-    let k : Property = record { r = r; ir = ir } in
+abbrev pub make : ℕ → ℕ → ℕ → ℕ → ℕ → ℕ → Term → Term → Term → Term
+make kind r ir n c ic a b d =
+    let k : Property = record { r = r; ir = ir; c = c; ic = ic } in
     getD
     (var n
     ∷ unit k
@@ -108,8 +125,8 @@ make kind r ir n a b c =
     ∷ app r a b
     ∷ proj first r a
     ∷ proj second r a
-    ∷ case r n a b c
-    ∷ protect ir a
+    ∷ case r n a b d
+    ∷ protect (record { ir = ir; ic = ic }) a
     ∷ mu r n a
     ∷ [])
     kind no-term
@@ -123,9 +140,11 @@ parse (k ∷ r ∷ []) = []
 parse (k ∷ r ∷ ir ∷ []) = []
 parse (k ∷ r ∷ ir ∷ z ∷ []) = []
 parse (k ∷ r ∷ ir ∷ z ∷ lo ∷ []) = []
-parse (k ∷ r ∷ ir ∷ z ∷ lo ∷ hi ∷ s) =
+parse (k ∷ r ∷ ir ∷ z ∷ lo ∷ hi ∷ []) = []
+parse (k ∷ r ∷ ir ∷ z ∷ lo ∷ hi ∷ c ∷ []) = []
+parse (k ∷ r ∷ ir ∷ z ∷ lo ∷ hi ∷ c ∷ ic ∷ s) =
     let ts = parse s in
-    make k r ir (lo + 256 * hi) (getD ts 0 no-term) (getD ts 1 no-term) (getD ts 2 no-term) ∷ drop (arity k) ts
+    make k r ir (lo + 256 * hi) c ic (getD ts 0 no-term) (getD ts 1 no-term) (getD ts 2 no-term) ∷ drop (arity k) ts
 
 -- the term of a script
 unfoldable pub term : Bytes → Term
@@ -200,12 +219,16 @@ depths e = counts widened one-more one-more 1 e
 abbrev pub binders : Term → List ℕ
 binders e = counts unwidened no-more one-more 0 e
 
--- 13. Script: whole records, 1 to 8,192, and in a run within both buffers? (0) `rooms` are the lengths of a run's buffers.
-abbrev pub q13 : List ℕ → Bytes → Answer (Unit {0})
-q13 rooms s =
+-- 13. Script: whole records, 1 to 8,192, and in a run within both buffers? (0) `rooms` are the lengths of a run's buffers, `width` that
+-- of the records: item 10's rewriting asks it of the form before.
+abbrev pub q13-of : ℕ → List ℕ → Bytes → Answer (Unit {0})
+q13-of width rooms s =
     ask 13 0
-    (eqb (length s % script-width) 0
-    && (leb 1 (records s) && (leb (records s) script-limit && all-below (λ i. leb (length s) (getD rooms i 0)) (length rooms))))
+    (eqb (length s % width) 0
+    && (leb 1 (length s / width) && (leb (length s / width) script-limit && all-below (λ i. leb (length s) (getD rooms i 0)) (length rooms))))
+
+abbrev pub q13 : List ℕ → Bytes → Answer (Unit {0})
+q13 rooms s = q13-of script-width rooms s
 
 -- 14. Kind at most 11, unnamed fields 0?
 unfoldable pub ok14 : Bytes → ℕ → Bool
@@ -214,20 +237,35 @@ ok14 s i =
     let f = signature-of (kind s i) in
     leb (kind s i) 11
     && (eqb (zero-byte s i) 0
-    && ((not (f .r) ⇒ eqb (r s i) 0) && ((not (f .ir) ⇒ eqb (ir s i) 0) && (not (f .number) ⇒ eqb (number s i) 0))))
+    && ((not (f .r) ⇒ eqb (r s i) 0)
+    && ((not (f .ir) ⇒ eqb (ir s i) 0)
+    && ((not (f .number) ⇒ eqb (number s i) 0) && ((not (f .c) ⇒ eqb (c s i) 0) && (not (f .ic) ⇒ eqb (ic s i) 0))))))
 
 abbrev pub q14 : Bytes → Answer (Unit {0})
 q14 s = each 14 (records s) (ok14 s)
+
+-- "for kinds 1 to 5"
+abbrev pub is-object : ℕ → Bool
+is-object kind = leb 1 kind && leb kind 5
 
 -- 15. Named groups in table, and for kinds 1 to 5 ir ⊑ r?
 unfoldable pub ok15 : Bytes → Bytes → ℕ → Bool
 unfolding signature-of
 ok15 g s i =
     let f = signature-of (kind s i) in
-    (f .r ⇒ ltb (r s i) (rows g)) && ((f .ir ⇒ ltb (ir s i) (rows g)) && (leb 1 (kind s i) && leb (kind s i) 5 ⇒ leq g (ir s i) (r s i)))
+    (f .r ⇒ ltb (r s i) (rows g))
+    && ((f .ir ⇒ ltb (ir s i) (rows g))
+    && ((f .c ⇒ ltb (c s i) (rows g)) && ((f .ic ⇒ ltb (ic s i) (rows g)) && (is-object (kind s i) ⇒ leq g (ir s i) (r s i)))))
 
 abbrev pub q15 : Bytes → Bytes → Answer (Unit {0})
 q15 g s = each 15 (records s) (ok15 g s)
+
+-- 36. "and, for kinds 1 to 5, after 15 when ic ⊑ c fails at that record"
+unfoldable pub ok36-object : Bytes → Bytes → ℕ → Bool
+ok36-object g s i = is-object (kind s i) ⇒ leq g (ic s i) (c s i)
+
+abbrev pub q36-objects : Bytes → Bytes → Answer (Unit {0})
+q36-objects g s = each 36 (records s) (ok36-object g s)
 
 -- is record i a case that finds its own type?
 abbrev pub own-at : Bytes → ℕ → Bool

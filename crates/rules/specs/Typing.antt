@@ -41,9 +41,9 @@ q21 S place s w = ask 21 place (S .permits (top s) w)
 abbrev pub q22 : Security → ℕ → Ty → Ty → Answer (Unit {0})
 q22 S place s wanted = ask 22 place (subtype S below s wanted)
 
--- 23. Recursion: ir ⊑ the indirect readers of its result?
-abbrev pub q23 : Security → ℕ → Ty → Answer (Unit {0})
-q23 S place s = ask 23 place (S .absorbs (top s) (top (right s)))
+-- 23. Recursion: ir ⊑ the indirect readers of its result, and c of its result ⊑ ic ⊓ the group that it is called as?
+abbrev pub q23 : Security → ℕ → Ty → Reader → Answer (Unit {0})
+q23 S place s w = ask 23 place (S .absorbs (top s) w (top (right s)))
 
 -- 24. Function and pair: found type at most 63 records?
 abbrev pub q24 : ℕ → Ty → Answer (Unit {0})
@@ -111,7 +111,7 @@ typing S tab Γ p (protect m e) = do
   accepted (raiseT S t m)
 typing S tab Γ p (mu w i e) = do
   q21 S p (tab i) (S .caller (top (tab i)) w)
-  q23 S p (tab i)
+  q23 S p (tab i) (S .caller (top (tab i)) w)
   t ← typing S tab (tab i ∷ Γ) (1 + p) e
   q22 S p t (tab i)
   accepted (tab i)
