@@ -1,5 +1,5 @@
 -- What stands inside closed objects doesn't reach a sheet, and all else does.
-use mathlib.Core.Path.{_≡_, refl, sym, ap, ap₂, subst, _∙_}
+use mathlib.Core.Path.{_≡_, refl, sym, ap, subst, _∙_}
 use mathlib.Core.Bool.{Bool, true, false, and-eq-true-iff, false≢true}
 use mathlib.Core.List.{[], _∷_, _++_, append-assoc}
 use Prim.Native.Nat.{ℕ, _≤_}
@@ -9,9 +9,9 @@ use Rattle.calculus.specs.Terms.{Side, first, second, choose, Term, var, unit, 
 use Rattle.rules.specs.Answer.{Bytes, accepted}
 use Rattle.rules.specs.Groups.{leq}
 use Rattle.rules.specs.Script.{term}
-use Rattle.rules.specs.Sheet.{sheet-record, shown-parts, sheet}
+use Rattle.rules.specs.Sheet.{sheet}
 use Rattle.rules.specs.Calls.{script-check, sheeting}
-use Rattle.demands.specs.Closed.{Closed, closed-unit, closed-function, closed-pair, closed-injection, AlikeOutside, closed-in-both, units, functions, pairs, injections, ClosedCloses, ClosedObjectsClose}
+use Rattle.demands.specs.Closed.{Closed, closed-unit, closed-function, closed-pair, closed-injection, SameReaders, AlikeOutside, closed-in-both, units, functions, pairs, injections, ClosedCloses, ClosedObjectsClose}
 
 module _ (g : Bytes) (group : ℕ) where
   -- a closed object is one record, whatever it is
@@ -25,12 +25,10 @@ module _ (g : Bytes) (group : ℕ) where
   alike-sheets : {a b : Term} → AlikeOutside g group a b → sheet g group a ≡ sheet g group b
   unfolding sheet
   alike-sheets (closed-in-both h h′) = closed-sheet h ∙ sym (closed-sheet h′)
-  alike-sheets units = refl
-  alike-sheets functions = refl
-  alike-sheets (pairs {k} h h′) =
-      ap (λ (parts : Bytes). sheet-record g group 3 k ++ shown-parts g group k parts) (ap₂ _++_ (alike-sheets h) (alike-sheets h′))
-  alike-sheets (injections {d} {k} h) =
-      ap (λ (parts : Bytes). sheet-record g group (choose d 1 2) k ++ shown-parts g group k parts) (alike-sheets h)
+  alike-sheets (units c) = rw (c .0, c .1)
+  alike-sheets (functions c) = rw (c .0, c .1)
+  alike-sheets (pairs c h h′) = rw (c .0, c .1, alike-sheets h, alike-sheets h′)
+  alike-sheets (injections c h) = rw (c .0, c .1, alike-sheets h)
 
   -- a value as a sheet sees it
   data View : Term → Type 0 where
@@ -118,9 +116,9 @@ module _ (g : Bytes) (group : ℕ) where
   same-side second second e = refl
 
   -- the fields of two first records, and what follows them
-  module _ {k k′ : Property} {m n : ℕ} {xs ys : Bytes} (e : m ∷ k .r ∷ k .ir ∷ 0 ∷ xs ≡ n ∷ k′ .r ∷ k′ .ir ∷ 0 ∷ ys) where
-    groups-same : k ≡ k′
-    groups-same = let p : k .r ≡ k′ .r = cc in let q : k .ir ≡ k′ .ir = cc in ap₂ (λ (r ir : ℕ). record { r = r; ir = ir }) p q
+  module _ {r ir r′ ir′ m n : ℕ} {xs ys : Bytes} (e : m ∷ r ∷ ir ∷ 0 ∷ xs ≡ n ∷ r′ ∷ ir′ ∷ 0 ∷ ys) where
+    readers-same : (r ≡ r′) × (ir ≡ ir′)
+    readers-same = (cc, cc)
 
     kinds-same : m ≡ n
     kinds-same = cc
@@ -128,33 +126,24 @@ module _ (g : Bytes) (group : ℕ) where
     rests-same : xs ≡ ys
     rests-same = cc
 
-  of-units : {k l : Property} {x y : Bytes} → k ≡ l → x ≡ y → Read (unit k) (unit l) x y
-  of-units {k} c r = record { alike = subst (λ (m : Property). AlikeOutside g group (unit k) (unit m)) c units; rest = r }
+  of-units : {k l : Property} {x y : Bytes} → SameReaders k l → x ≡ y → Read (unit k) (unit l) x y
+  of-units c r = record { alike = units c; rest = r }
 
-  of-functions : {k l : Property} {i j : ℕ} {e f : Term} {x y : Bytes} → k ≡ l → x ≡ y → Read (lam k i e) (lam l j f) x y
-  of-functions {k} {l} {i} {j} {e} {f} c r =
-      record { alike = subst (λ (m : Property). AlikeOutside g group (lam k i e) (lam m j f)) c functions; rest = r }
+  of-functions : {k l : Property} {i j : ℕ} {e f : Term} {x y : Bytes} → SameReaders k l → x ≡ y → Read (lam k i e) (lam l j f) x y
+  of-functions c r = record { alike = functions c; rest = r }
 
-  of-pairs : {k l : Property} {a b a′ b′ : Term} {x y : Bytes} → k ≡ l → Readable a → Readable b → is-value a′ ≡ true → is-value b′ ≡ true
+  of-pairs : {k l : Property} {a b a′ b′ : Term} {x y : Bytes} → SameReaders k l → Readable a → Readable b → is-value a′ ≡ true → is-value b′ ≡ true
       → (sheet g group a ++ sheet g group b) ++ x ≡ (sheet g group a′ ++ sheet g group b′) ++ y → Read (pair k a b) (pair l a′ b′) x y
   of-pairs {k} {l} {a} {b} {a′} {b′} {x} {y} c left right p q e =
       let whole = sym (append-assoc (sheet g group a) (sheet g group b) x) ∙ e ∙ append-assoc (sheet g group a′) (sheet g group b′) y in
       let one = left a′ p (sheet g group b ++ x) (sheet g group b′ ++ y) whole in
       let two = right b′ q x y (one .rest) in
-      record {
-        alike = subst (λ (m : Property). AlikeOutside g group (pair k a b) (pair m a′ b′)) c (pairs (one .alike) (two .alike));
-        rest = two .rest;
-      }
+      record { alike = pairs c (one .alike) (two .alike); rest = two .rest }
 
-  of-injections : {d d′ : Side} {k l : Property} {i j : ℕ} {e f : Term} {x y : Bytes} → d ≡ d′ → k ≡ l → Read e f x y
+  of-injections : {d d′ : Side} {k l : Property} {i j : ℕ} {e f : Term} {x y : Bytes} → d ≡ d′ → SameReaders k l → Read e f x y
       → Read (inj d k i e) (inj d′ l j f) x y
   of-injections {d} {d′} {k} {l} {i} {j} {e} {f} s c r =
-      record {
-        alike =
-            subst (λ (m : Property). AlikeOutside g group (inj d k i e) (inj d′ m j f)) c
-            (subst (λ (o : Side). AlikeOutside g group (inj d k i e) (inj o k j f)) s (injections (r .alike)));
-        rest = r .rest;
-      }
+      record { alike = subst (λ (o : Side). AlikeOutside g group (inj d k i e) (inj o l j f)) s (injections c (r .alike)); rest = r .rest }
 
   read-seen : {a b : Term} (v : View a) (w : View b) → Parts v → (x y : Bytes) → seen v ++ x ≡ seen w ++ y → Read a b x y
   read-seen (hidden h) (hidden h′) ih x y e = record { alike = closed-in-both h h′; rest = cc }
@@ -163,25 +152,25 @@ module _ (g : Bytes) (group : ℕ) where
   read-seen (hidden h) (open-pair h′ p′ q′) ih x y e = apart 5 3 e (λ z. omega arith)
   read-seen (hidden h) (open-injection {d = d′} h′ p′) ih x y e = apart 5 (choose d′ 1 2) e (λ z. omega (arith, side-kind d′))
   read-seen (open-unit h) (hidden h′) ih x y e = apart 0 5 e (λ z. omega arith)
-  read-seen (open-unit h) (open-unit h′) ih x y e = of-units (groups-same e) (rests-same e)
+  read-seen (open-unit h) (open-unit h′) ih x y e = of-units (readers-same e) (rests-same e)
   read-seen (open-unit h) (open-function h′) ih x y e = apart 0 4 e (λ z. omega arith)
   read-seen (open-unit h) (open-pair h′ p′ q′) ih x y e = apart 0 3 e (λ z. omega arith)
   read-seen (open-unit h) (open-injection {d = d′} h′ p′) ih x y e = apart 0 (choose d′ 1 2) e (λ z. omega (arith, side-kind d′))
   read-seen (open-function h) (hidden h′) ih x y e = apart 4 5 e (λ z. omega arith)
   read-seen (open-function h) (open-unit h′) ih x y e = apart 4 0 e (λ z. omega arith)
-  read-seen (open-function h) (open-function h′) ih x y e = of-functions (groups-same e) (rests-same e)
+  read-seen (open-function h) (open-function h′) ih x y e = of-functions (readers-same e) (rests-same e)
   read-seen (open-function h) (open-pair h′ p′ q′) ih x y e = apart 4 3 e (λ z. omega arith)
   read-seen (open-function h) (open-injection {d = d′} h′ p′) ih x y e = apart 4 (choose d′ 1 2) e (λ z. omega (arith, side-kind d′))
   read-seen (open-pair h p q) (hidden h′) ih x y e = apart 3 5 e (λ z. omega arith)
   read-seen (open-pair h p q) (open-unit h′) ih x y e = apart 3 0 e (λ z. omega arith)
   read-seen (open-pair h p q) (open-function h′) ih x y e = apart 3 4 e (λ z. omega arith)
-  read-seen (open-pair h p q) (open-pair h′ p′ q′) ih x y e = of-pairs (groups-same e) (ih .0) (ih .1) p′ q′ (rests-same e)
+  read-seen (open-pair h p q) (open-pair h′ p′ q′) ih x y e = of-pairs (readers-same e) (ih .0) (ih .1) p′ q′ (rests-same e)
   read-seen (open-pair h p q) (open-injection {d = d′} h′ p′) ih x y e = apart 3 (choose d′ 1 2) e (λ z. omega (arith, side-kind d′))
   read-seen (open-injection {d} h p) (hidden h′) ih x y e = apart (choose d 1 2) 5 e (λ z. omega (arith, side-kind d))
   read-seen (open-injection {d} h p) (open-unit h′) ih x y e = apart (choose d 1 2) 0 e (λ z. omega (arith, side-kind d))
   read-seen (open-injection {d} h p) (open-function h′) ih x y e = apart (choose d 1 2) 4 e (λ z. omega (arith, side-kind d))
   read-seen (open-injection {d} h p) (open-pair h′ p′ q′) ih x y e = apart (choose d 1 2) 3 e (λ z. omega (arith, side-kind d))
-  read-seen (open-injection {d} h p) (open-injection {d = d′} h′ p′) ih x y e = of-injections (same-side d d′ (kinds-same e)) (groups-same e) (ih _ p′ x y (rests-same e))
+  read-seen (open-injection {d} h p) (open-injection {d = d′} h′ p′) ih x y e = of-injections (same-side d d′ (kinds-same e)) (readers-same e) (ih _ p′ x y (rests-same e))
 
   unit-parts : {k : Property} (v : View (unit k)) → Parts v
   unit-parts (hidden h) = tt

@@ -15,7 +15,7 @@ use Rattle.calculus.proofs.Properties.{properties-laws}
 use Rattle.calculus.proofs.Directed.{same-refl, same-eq}
 use Rattle.calculus.proofs.Subtyping.{subtype-sound, subtype-complete, subtype-opposite, subtype-reflexive, subtype-antisymmetric}
 use Rattle.rules.specs.Answer.{Bytes, Octets, Answer, accepted, refused, ask, _>>_}
-use Rattle.rules.specs.Groups.{readers}
+use Rattle.rules.specs.Groups.{properties-of}
 use Rattle.rules.specs.Types.{type-count, type-at, encode-type}
 use Rattle.rules.specs.Comparison.{Comparison, same, below, neither, equal-properties, equal-types, comparison, comparison-number}
 use Rattle.rules.specs.Typing.{q22}
@@ -31,8 +31,15 @@ use Rattle.demands.proofs.TypesTable.{tables}
 -- Equal in every record is equal.
 equal-property : (k l : Property) → equal-properties k l ≡ true → k ≡ l
 equal-property k l h =
-    let p = both (eqb (k .r) (l .r)) (eqb (k .ir) (l .ir)) h in
-    λ i. record { r = eqb-true (k .r) (l .r) (p .0) i; ir = eqb-true (k .ir) (l .ir) (p .1) i }
+    let p = both (eqb (k .r) (l .r)) _ h in
+    let q = both (eqb (k .ir) (l .ir)) _ (p .1) in
+    let s = both (eqb (k .c) (l .c)) (eqb (k .ic) (l .ic)) (q .1) in
+    λ i. record {
+      r = eqb-true (k .r) (l .r) (p .0) i;
+      ir = eqb-true (k .ir) (l .ir) (q .0) i;
+      c = eqb-true (k .c) (l .c) (s .0) i;
+      ic = eqb-true (k .ic) (l .ic) (s .1) i;
+    }
 
 equal-sound : (s t : Ty) → equal-types s t ≡ true → s ≡ t
 unfolding equal-types
@@ -46,7 +53,10 @@ equal-sound (node f k s t) (node f′ l s′ t′) h =
     λ i. node (same-eq f f′ (a .0) i) (equal-property k l (b .0) i) (equal-sound s s′ (c .0) i) (equal-sound t t′ (c .1) i)
 
 own-property : (k : Property) → equal-properties k k ≡ true
-own-property k = and-true (eq-eqb (k .r) (k .r) refl) (eq-eqb (k .ir) (k .ir) refl)
+own-property k = and-true (own (k .r)) (and-true (own (k .ir)) (and-true (own (k .c)) (own (k .ic))))
+  where
+    own : (g : ℕ) → eqb g g ≡ true
+    own g = eq-eqb g g refl
 
 equal-refl : (s : Ty) → equal-types s s ≡ true
 unfolding equal-types
@@ -185,7 +195,7 @@ module _ (g t : Bytes) (o : Octets g) (yes : types-check g t ≡ accepted tt) wh
   X = tables g t o yes
 
   abbrev S : Security
-  S = readers g
+  S = properties-of g
 
   answer : (i j : ℕ) → i < type-count t → j < type-count t → comparing g t i j ≡ accepted (comparison S (type-at t i) (type-at t j))
   unfolding comparing

@@ -3,7 +3,7 @@ use mathlib.Core.Path.{_≡_, refl, sym, ap, subst, _∙_}
 use mathlib.Core.Bool.{Bool, true, false, not}
 use mathlib.Core.List.{List, [], _∷_, _++_}
 use mathlib.Core.Option.{Option, none, some}
-use Prim.Native.Nat.{ℕ, _<_}
+use Prim.Native.Nat.{ℕ}
 use lib.Dec.{eqb}
 use Rattle.rules.specs.Answer.{Answer, accepted, refused, _>>_, ask, refused-at, each, first-below}
 use Rattle.rules.specs.Script.{exactly}
@@ -94,16 +94,17 @@ checks-more l m n D E = record { asked = _>>_ l m; decides = decides (decided-th
     then-typing (accepted u) = refl
     then-typing (refused q p) = refl
 
--- a refusal has the number of one of the questions
-unfoldable pub Below : ℕ → List Question → Type 0
-Below n [] = Unit {0}
-Below n (x ∷ qs) = (x .number < n) × Below n qs
+-- a refusal has the number of one of the questions: what holds of each of these holds of it
+unfoldable pub Numbers : (ℕ → Type 0) → List Question → Type 0
+Numbers P [] = Unit {0}
+Numbers P (x ∷ qs) = P (x .number) × Numbers P qs
 
-first-no-below : {n : ℕ} {qs : List Question} {q place : ℕ} → Below n qs → FirstNo qs q place → q < n
-unfolding Below
-first-no-below b (this-one h) = b .0
-first-no-below b (a-later h F) = first-no-below (b .1) F
+module _ (P : ℕ → Type 0) where
+  first-no-number : {qs : List Question} {q place : ℕ} → Numbers P qs → FirstNo qs q place → P q
+  unfolding Numbers
+  first-no-number n (this-one h) = n .0
+  first-no-number n (a-later h F) = first-no-number (n .1) F
 
-pub refusal-below : {A : Type 0} {n : ℕ} {qs : List Question} {a : Answer A} {q place : ℕ} → Below n qs → Decided qs a → a ≡ refused q place → q < n
-refusal-below b (says-yes Y) e = accepted≢refused e
-refusal-below {n = n} b (refuses F) e = rw (← number-inj e) (first-no-below b F)
+  pub refusal-number : {A : Type 0} {qs : List Question} {a : Answer A} {q place : ℕ} → Numbers P qs → Decided qs a → a ≡ refused q place → P q
+  refusal-number n (says-yes Y) e = accepted≢refused e
+  refusal-number n (refuses F) e = subst P (number-inj e) (first-no-number n F)

@@ -1,4 +1,4 @@
--- A groups table that passes questions 2 to 7 is a lattice with 0 at the bottom, and readers over it obey the calculus's laws.
+-- A groups table that passes questions 2 to 7 is a lattice with 0 at the bottom, so properties over it obey the calculus's laws.
 use mathlib.Core.Path.{_≡_, refl, sym, ap, subst, _∙_}
 use mathlib.Core.Bool.{Bool, true, false, _&&_, So, Bool·beq, false≢true}
 use mathlib.Core.Option.{Option, none, some}

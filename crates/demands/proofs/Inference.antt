@@ -5,9 +5,8 @@ use mathlib.Core.List.{List, [], _∷_}
 use mathlib.Core.Option.{Option, none, some}
 use Prim.Native.Nat.{ℕ, suc, zero, _+_, _<_}
 use native.Mathlib.Omega.{arith}
-use borrow.Author.Tests.{lt-ltb}
 use lib.ListN.{length, getD}
-use Rattle.calculus.specs.Security.{Property, Reader, Security}
+use Rattle.calculus.specs.Security.{Property, Reader, Indirect, Security}
 use Rattle.calculus.specs.Types.{Former, sum, product, function, Ty, one, node, top, raiseT, fits, when, Parts, parts}
 use Rattle.calculus.specs.Subtyping.{subtype, below}
 use Rattle.calculus.specs.Terms.{Side, choose, Term, var, unit, lam, pair, inj, app, proj, case, protect, mu}
@@ -15,7 +14,7 @@ use Rattle.calculus.specs.Typing.{finds-own, lookup, recurs, result, infer}
 use Rattle.calculus.specs.Common.{common}
 use Rattle.calculus.specs.Types as typing
 use Rattle.rules.specs.Answer.{Bytes, Answer, accepted, refused, _>>=_, _>>_, ask}
-use Rattle.rules.specs.Groups.{readers}
+use Rattle.rules.specs.Groups.{properties-of}
 use Rattle.rules.specs.Types.{type-at, type-count, type-kind, no-type}
 use Rattle.rules.specs.Script.{size}
 use Rattle.rules.specs.Typing.{has-form, left, right, q20, q21, q22, q23, q24, found-or, typing}
@@ -203,22 +202,22 @@ case-rule S w false a p m o m′ m″ o′ o″ e e′ e″ =
     (λ no. dead-branch (o″ r) (subtype S below u a) (λ v. subtype S below v a) a (λ t. when (S .permits k w) (raiseT S t (S .influence k w))) no)))
     (λ no. dead-case (o′ l) (o″ r) (S .permits k w) (λ u v. when (subtype S below u a && subtype S below v a) a) (λ t. raiseT S t (S .influence k w)) no)))
 
-protect-rule : (S : Security) (i : ℕ) (m : Answer Ty) (o : Option Ty) → forget m ≡ o → S .secureI i ≡ true
+protect-rule : (S : Security) (i : Indirect) (m : Answer Ty) (o : Option Ty) → forget m ≡ o → S .secureI i ≡ true
     → forget (_>>=_ m (λ s. accepted (raiseT S s i))) ≡ typing._>>=_ o (λ s. when (S .secureI i) (raiseT S s i))
 protect-rule S i m o e h = bind-forget m _ o _ e (λ s. when-true (S .secureI i) (raiseT S s i) h)
 
 -- questions 21 and 23 of a recursion with label w, of type a
 abbrev recurring : Security → Ty → Reader → Bool
-recurring S a w = S .permits (top a) (S .caller (top a) w) && S .absorbs (top a) (top (right a))
+recurring S a w = S .permits (top a) (S .caller (top a) w) && S .absorbs (top a) (S .caller (top a) w) (top (right a))
 
 mu-rule : (S : Security) (a : Ty) (w : Reader) (p : ℕ) (m : Answer Ty) (o : Option Ty) → forget m ≡ o → has-form function a ≡ true
-    → forget (_>>_ (q21 S p a (S .caller (top a) w)) (_>>_ (q23 S p a) (_>>=_ m (λ s. _>>_ (q22 S p s a) (accepted a)))))
+    → forget (_>>_ (q21 S p a (S .caller (top a) w)) (_>>_ (q23 S p a (S .caller (top a) w)) (_>>=_ m (λ s. _>>_ (q22 S p s a) (accepted a)))))
     ≡ typing._>>=_ (parts function a) (λ x. typing._>>=_ o (λ s. when (recurs S x w && subtype S below s a) a))
 mu-rule S a w p m o e f =
     through-parts function a _ _ f
-    (ask-forget 21 p (S .permits (top a) (S .caller (top a) w)) (_>>_ (q23 S p a) (_>>=_ m (λ s. _>>_ (q22 S p s a) (accepted a)))) _
+    (ask-forget 21 p (S .permits (top a) (S .caller (top a) w)) (_>>_ (q23 S p a (S .caller (top a) w)) (_>>=_ m (λ s. _>>_ (q22 S p s a) (accepted a)))) _
     (λ y.
-    ask-forget 23 p (S .absorbs (top a) (top (right a))) (_>>=_ m (λ s. _>>_ (q22 S p s a) (accepted a))) _
+    ask-forget 23 p (S .absorbs (top a) (S .caller (top a) w) (top (right a))) (_>>=_ m (λ s. _>>_ (q22 S p s a) (accepted a))) _
     (λ z. bind-forget m _ o _ e (λ s. last-forget 22 p (recurring S a w) (subtype S below s a) a (rw (y, z))))
     (λ no. dead o (recurring S a w) (λ s. subtype S below s a) (λ s. a) (rw (y, no))))
     (λ no. dead o (recurring S a w) (λ s. subtype S below s a) (λ s. a) (rw no)))
@@ -226,7 +225,7 @@ mu-rule S a w p m o e f =
 module _ (g t : Bytes) (sums : (i : ℕ) → i < type-count t → type-kind t i ≡ 1 → So (has-form sum (type-at t i)))
     (functions : (i : ℕ) → i < type-count t → type-kind t i ≡ 3 → So (has-form function (type-at t i))) where
   abbrev S : Security
-  S = readers g
+  S = properties-of g
 
   abbrev tab : ℕ → Ty
   tab = type-at t
@@ -249,5 +248,5 @@ module _ (g t : Bytes) (sums : (i : ℕ) → i < type-count t → type-kind t i 
       case-rule S w (finds-own i) (tab i) p (typing S tab Γ (1 + p) e) (infer S tab Γ e) (λ s. typing S tab (s ∷ Γ) (1 + p + size e) a)
       (λ s. typing S tab (s ∷ Γ) (1 + p + size e + size a) b) (λ s. infer S tab (s ∷ Γ) a) (λ s. infer S tab (s ∷ Γ) b) (agree Γ (1 + p) e (F .2))
       (λ s. agree (s ∷ Γ) (1 + p + size e) a (F .3)) (λ s. agree (s ∷ Γ) (1 + p + size e + size a) b (F .4))
-  agree Γ p (protect m e) F = protect-rule S m (typing S tab Γ (1 + p) e) (infer S tab Γ e) (agree Γ (1 + p) e (F .1)) (lt-ltb _ _ (F .0))
+  agree Γ p (protect m e) F = protect-rule S m (typing S tab Γ (1 + p) e) (infer S tab Γ e) (agree Γ (1 + p) e (F .1)) (F .0)
   agree Γ p (mu w i e) F = mu-rule S (tab i) w p (typing S tab (tab i ∷ Γ) (1 + p) e) (infer S tab (tab i ∷ Γ) e) (agree (tab i ∷ Γ) (1 + p) e (F .3)) (functions i (F .1) (F .2))

@@ -1,10 +1,13 @@
 pub mod Answers
 pub mod Groups
 pub mod Formed
+pub mod Grouped
 pub mod Inference
 pub mod Tables
 pub mod Stepping
 pub mod RelabelledBytes
+pub mod RelabelledTyping
+pub mod WidenedTerms
 pub mod Stripping
 pub mod Erased
 pub mod Runs
@@ -13,6 +16,7 @@ pub mod TypesTable
 pub mod Checked
 pub mod Deciding
 pub mod Places
+pub mod OldQuestions
 pub mod FirstDemand
 pub mod Steps
 pub mod SecondDemand
@@ -22,7 +26,7 @@ pub mod ThirdDemand
 pub mod Demands
 pub mod Comparison
 pub mod Closed
-pub mod WrittenTerms
-pub mod WrittenScripts
-pub mod Rewriting
+pub mod GroupZero
+pub mod MigratedScripts
+pub mod Migration
 pub mod CommonTypes

@@ -43,8 +43,8 @@ module _ (S : Security) (end p : ℕ) (l : p < end) where
   at-22 : (s t : Ty) → Placed end (q22 S p s t)
   at-22 s t = asked 22 p (subtype S below s t) refl l
 
-  at-23 : (s : Ty) → Placed end (q23 S p s)
-  at-23 s = asked 23 p (S .absorbs (top s) (top (right s))) refl l
+  at-23 : (s : Ty) (w : Reader) → Placed end (q23 S p s w)
+  at-23 s w = asked 23 p (S .absorbs (top s) w (top (right s))) refl l
 
   at-24 : (s : Ty) → Placed end (q24 p s)
   at-24 s = asked 24 p (fits s) refl l
@@ -95,8 +95,8 @@ module _ (S : Security) (end p : ℕ) (l : p < end) where
       (bind (cond own (found-or p (common S below u v)) (accepted a)) _ (at-result own (common S below u v) a) (λ r. placed-yes))))))))
 
   mu-placed : (a : Ty) (w : Reader) (m : Answer Ty) → Placed end m
-      → Placed end (_>>_ (q21 S p a w) (_>>_ (q23 S p a) (_>>=_ m (λ s. _>>_ (q22 S p s a) (accepted a)))))
-  mu-placed a w m P = then (q21 S p a w) _ (at-21 a w) (then (q23 S p a) _ (at-23 a) (bind m _ P (λ s. then (q22 S p s a) _ (at-22 s a) placed-yes)))
+      → Placed end (_>>_ (q21 S p a w) (_>>_ (q23 S p a w) (_>>=_ m (λ s. _>>_ (q22 S p s a) (accepted a)))))
+  mu-placed a w m P = then (q21 S p a w) _ (at-21 a w) (then (q23 S p a w) _ (at-23 a w) (bind m _ P (λ s. then (q22 S p s a) _ (at-22 s a) placed-yes)))
 
 pub typing-placed : (S : Security) (tab : ℕ → Ty) (end : ℕ) (Γ : List Ty) (p : ℕ) (e : Term) → p + size e ≤ end → Placed end (typing S tab Γ p e)
 unfolding typing size

@@ -5,7 +5,7 @@ use Prim.Native.Nat.{ℕ, suc, zero, _≤_, _<_}
 use native.Mathlib.Omega.{arith}
 use Rattle.calculus.specs.Terms.{Term}
 use Rattle.rules.specs.Answer.{Bytes, accepted}
-use Rattle.rules.specs.Groups.{readers}
+use Rattle.rules.specs.Groups.{properties-of}
 use Rattle.rules.specs.Types.{type-at}
 use Rattle.rules.specs.Script.{encode}
 use Rattle.rules.specs.Step.{End, at-value, moves, may-not, wrong-kind, too-big, end-number, step-in}
@@ -46,13 +46,13 @@ module _ (g t : Bytes) (types : types-check g t ≡ accepted tt) (X : Tables g t
   no-budget : {s u : Bytes} → Reaches g t room 0 s u → u ≡ s
   no-budget the-script = refl
 
-  no-move : {budget : ℕ} {s u : Bytes} (e : Term) → encode e ≡ s → Fit g t e → ((e′ : Term) → step-in (readers g) (type-at t) room e ≡ moves e′ → ⊥)
+  no-move : {budget : ℕ} {s u : Bytes} (e : Term) → encode e ≡ s → Fit g t e → ((e′ : Term) → step-in (properties-of g) (type-at t) room e ≡ moves e′ → ⊥)
       → Reaches g t room budget s u → u ≡ s
   no-move e p F n the-script = refl
   no-move e p F n (after-step (moved-to {e = e′} m) r) = absurd (n e′ (fit-step-is g t types X room e p F m))
 
   -- a step more
-  moved-on : (budget : ℕ) (e e′ : Term) (x : Ran) → Fit g t e → step-in (readers g) (type-at t) room e ≡ moves e′ → Of budget e′ x → Of (suc budget) e (one-step-more x)
+  moved-on : (budget : ℕ) (e e′ : Term) (x : Ran) → Fit g t e → step-in (properties-of g) (type-at t) room e ≡ moves e′ → Of budget e′ x → Of (suc budget) e (one-step-more x)
   moved-on budget e e′ x F h T = record {
     after = one-more (encode e) (T .after);
     from-script = refl;
@@ -79,19 +79,19 @@ module _ (g t : Bytes) (types : types-check g t ≡ accepted tt) (X : Tables g t
           let w = T .reaches u .0 (subst (λ (b : Term). Reaches g t room budget (encode b) u) same r) in
           (suc (w .0), omega (arith, w .1), w .2)
 
-  pub run-terms : (budget : ℕ) (e : Term) → Fit g t e → Of budget e (run (readers g) (type-at t) room budget e)
+  pub run-terms : (budget : ℕ) (e : Term) → Fit g t e → Of budget e (run (properties-of g) (type-at t) room budget e)
   unfolding run
   run-terms zero e F = stays 0 _ e (λ u r. no-budget r)
-  run-terms (suc budget) e F = go (step-in (readers g) (type-at t) room e) refl (λ e′ h. run-terms budget e′ (fit-moves g t types X room e e′ F h))
+  run-terms (suc budget) e F = go (step-in (properties-of g) (type-at t) room e) refl (λ e′ h. run-terms budget e′ (fit-moves g t types X room e e′ F h))
     where
-      stopped : (x : End) → step-in (readers g) (type-at t) room e ≡ x → (end-number x ≡ 1 → ⊥) → Of (suc budget) e (ends (end-number x) e)
+      stopped : (x : End) → step-in (properties-of g) (type-at t) room e ≡ x → (end-number x ≡ 1 → ⊥) → Of (suc budget) e (ends (end-number x) e)
       stopped x h n = stays (suc budget) (end-number x) e (λ u r. no-move e refl F (λ e′ m. n (ap end-number (sym h ∙ m))) r)
 
-      go : (x : End) → step-in (readers g) (type-at t) room e ≡ x
-          → ((e′ : Term) → step-in (readers g) (type-at t) room e ≡ moves e′ → Of budget e′ (run (readers g) (type-at t) room budget e′))
-          → Of (suc budget) e (run (readers g) (type-at t) room (suc budget) e)
+      go : (x : End) → step-in (properties-of g) (type-at t) room e ≡ x
+          → ((e′ : Term) → step-in (properties-of g) (type-at t) room e ≡ moves e′ → Of budget e′ (run (properties-of g) (type-at t) room budget e′))
+          → Of (suc budget) e (run (properties-of g) (type-at t) room (suc budget) e)
       go at-value h ih = rw (h, run) (stopped at-value h (λ x. omega arith))
-      go (moves e′) h ih = rw (h, run) (moved-on budget e e′ (run (readers g) (type-at t) room budget e′) F h (ih e′ h))
+      go (moves e′) h ih = rw (h, run) (moved-on budget e e′ (run (properties-of g) (type-at t) room budget e′) F h (ih e′ h))
       go may-not h ih = rw (h, run) (stopped may-not h (λ x. omega arith))
       go wrong-kind h ih = rw (h, run) (stopped wrong-kind h (λ x. omega arith))
       go too-big h ih = rw (h, run) (stopped too-big h (λ x. omega arith))

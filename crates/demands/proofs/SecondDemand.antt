@@ -21,7 +21,7 @@ use Rattle.calculus.proofs.Soundness.{infer-sound}
 use Rattle.calculus.proofs.Completeness.{infer-complete}
 use Rattle.rules.specs.Answer.{Bytes, Octets, Answer, accepted, refused, _>>_}
 use Rattle.rules.specs.Limits.{work-length, answer-length}
-use Rattle.rules.specs.Groups.{readers}
+use Rattle.rules.specs.Groups.{properties-of}
 use Rattle.rules.specs.Types.{type-at, encode-type}
 use Rattle.rules.specs.Script.{encode, term}
 use Rattle.rules.specs.Typing.{typing}
@@ -53,12 +53,12 @@ goes m n h = rw h
 pub longer-same : (g t s : Bytes) (work answer : ℕ) → work-length ≤ work → answer-length ≤ answer → checking work answer g t s ≡ verdict g t s
 unfolding checking
 longer-same g t s work answer l m =
-    goes (q1 work answer) (_>>_ (script-check [] g t s) (typing (readers g) (type-at t) [] 0 (term s)))
+    goes (q1 work answer) (_>>_ (script-check [] g t s) (typing (properties-of g) (type-at t) [] 0 (term s)))
     (asks 1 0 _ (and-true (le-leb work-length work l) (le-leb answer-length answer m)))
 
 module _ (g t s : Bytes) (octets-g : Octets g) (octets-s : Octets s) where
   abbrev S : Security
-  S = readers g
+  S = properties-of g
 
   abbrev tab : ℕ → Ty
   tab = type-at t
@@ -114,7 +114,7 @@ module _ (g t s : Bytes) (octets-g : Octets g) (octets-s : Octets s) where
 -- repeating the step
 module _ (g t : Bytes) (types : types-check g t ≡ accepted tt) (X : Tables g t) (room : ℕ) where
   abbrev after : ℕ → Term → Ran
-  after budget e = run (readers g) (type-at t) room budget e
+  after budget e = run (properties-of g) (type-at t) room budget e
 
   abbrev Repeated : ℕ → Term → Ran → Type 0
   Repeated budget e x = Repeats g t room budget (encode e) (x .end) (x .steps) (encode (x .last))
@@ -126,12 +126,12 @@ module _ (g t : Bytes) (types : types-check g t ≡ accepted tt) (X : Tables g t
       go : (b : Bool) → is-value e ≡ b → Repeated 0 e (ends (cond b 0 1) e)
       go true v = spent-on-value (ap is-value (term-encode e) ∙ v)
       go false v = spent (ap is-value (term-encode e) ∙ v)
-  repeated (suc budget) e F = go (step-in (readers g) (type-at t) room e) refl (λ e′ h. repeated budget e′ (fit-moves g t types X room e e′ F h))
+  repeated (suc budget) e F = go (step-in (properties-of g) (type-at t) room e) refl (λ e′ h. repeated budget e′ (fit-moves g t types X room e e′ F h))
     where
-      stopped : (x : End) → step-in (readers g) (type-at t) room e ≡ x → (end-number x ≡ 1 → ⊥) → Repeated (suc budget) e (ends (end-number x) e)
+      stopped : (x : End) → step-in (properties-of g) (type-at t) room e ≡ x → (end-number x ≡ 1 → ⊥) → Repeated (suc budget) e (ends (end-number x) e)
       stopped x h n = stops (fit-steps g t types X room e F ∙ ap accepted h) n
 
-      go : (x : End) → step-in (readers g) (type-at t) room e ≡ x → ((e′ : Term) → step-in (readers g) (type-at t) room e ≡ moves e′ → Repeated budget e′ (after budget e′))
+      go : (x : End) → step-in (properties-of g) (type-at t) room e ≡ x → ((e′ : Term) → step-in (properties-of g) (type-at t) room e ≡ moves e′ → Repeated budget e′ (after budget e′))
           → Repeated (suc budget) e (after (suc budget) e)
       go at-value h ih = rw (h, run) (stopped at-value h (λ x. omega arith))
       go (moves e′) h ih = rw (h, run) (goes-on (moved-to (fit-steps g t types X room e F ∙ ap accepted h)) (ih e′ h))
@@ -147,7 +147,7 @@ module _ (g t : Bytes) (types : types-check g t ≡ accepted tt) (X : Tables g t
   unfolding run
   spent-is e b p v = (ap (λ (x : Bool). cond x 0 1) (sym v ∙ ap (λ (y : Bytes). is-value (term y)) (sym p) ∙ ap is-value (term-encode e)), refl, sym p)
 
-  stop-is : (budget : ℕ) (e : Term) (x : End) {s : Bytes} → encode e ≡ s → step-in (readers g) (type-at t) room e ≡ x → (end-number x ≡ 1 → ⊥)
+  stop-is : (budget : ℕ) (e : Term) (x : End) {s : Bytes} → encode e ≡ s → step-in (properties-of g) (type-at t) room e ≡ x → (end-number x ≡ 1 → ⊥)
       → Same (end-number x) 0 s (after (suc budget) e)
   unfolding run
   stop-is budget e at-value p h n = rw (h, run) (refl, refl, sym p)
@@ -156,7 +156,7 @@ module _ (g t : Bytes) (types : types-check g t ≡ accepted tt) (X : Tables g t
   stop-is budget e wrong-kind p h n = rw (h, run) (refl, refl, sym p)
   stop-is budget e too-big p h n = rw (h, run) (refl, refl, sym p)
 
-  move-is : (budget : ℕ) (e e′ : Term) {end steps : ℕ} {last : Bytes} → step-in (readers g) (type-at t) room e ≡ moves e′
+  move-is : (budget : ℕ) (e e′ : Term) {end steps : ℕ} {last : Bytes} → step-in (properties-of g) (type-at t) room e ≡ moves e′
       → Same end steps last (after budget e′) → Same end (suc steps) last (after (suc budget) e)
   unfolding run
   move-is budget e e′ h d = rw (h, run) (d .0, ap suc (d .1), d .2)
@@ -195,24 +195,24 @@ second-demand g t s G O = record {
   reports = reports g t s G O;
   encoded = λ q. passed g t s G O q .encoded;
   moves-when = λ room e q. (
-    λ h. let m = limited-moves room _ e (ended g t s G O room (moves e) q h) in (step-reduces (readers g) (type-at t) (term s) e (m .0), m .1),
-    λ h. ends-so g t s G O room (moved e) q (reduces-step (readers g) (type-at t) (h .0)) ∙ sized g t s G O room e false (h .1),
+    λ h. let m = limited-moves room _ e (ended g t s G O room (moves e) q h) in (step-reduces (properties-of g) (type-at t) (term s) e (m .0), m .1),
+    λ h. ends-so g t s G O room (moved e) q (reduces-step (properties-of g) (type-at t) (h .0)) ∙ sized g t s G O room e false (h .1),
   );
   too-big-when = λ room q. (
-    λ h. let m = limited-too-big room _ (ended g t s G O room too-big q h) in (m .0, step-reduces (readers g) (type-at t) (term s) (m .0) (m .1), m .2),
-    λ h. ends-so g t s G O room (moved (h .0)) q (reduces-step (readers g) (type-at t) (h .1)) ∙ sized g t s G O room (h .0) true (h .2),
+    λ h. let m = limited-too-big room _ (ended g t s G O room too-big q h) in (m .0, step-reduces (properties-of g) (type-at t) (term s) (m .0) (m .1), m .2),
+    λ h. ends-so g t s G O room (moved (h .0)) q (reduces-step (properties-of g) (type-at t) (h .1)) ∙ sized g t s G O room (h .0) true (h .2),
   );
   value-when = λ room q. (
-    λ h. step-value (readers g) (type-at t) (term s) (limited-value room _ (ended g t s G O room at-value q h)),
-    λ v. ends-so g t s G O room value q (value-step (readers g) (type-at t) (term s) v),
+    λ h. step-value (properties-of g) (type-at t) (term s) (limited-value room _ (ended g t s G O room at-value q h)),
+    λ v. ends-so g t s G O room value q (value-step (properties-of g) (type-at t) (term s) v),
   );
   wrong-when = λ room q. (
-    λ h. step-stuck (readers g) (type-at t) (term s) (limited-wrong-kind room _ (ended g t s G O room wrong-kind q h)),
-    λ a. ends-so g t s G O room stuck q (stuck-step (readers g) (type-at t) a),
+    λ h. step-stuck (properties-of g) (type-at t) (term s) (limited-wrong-kind room _ (ended g t s G O room wrong-kind q h)),
+    λ a. ends-so g t s G O room stuck q (stuck-step (properties-of g) (type-at t) a),
   );
   denied-when = λ room q. (
-    λ h. step-denied (readers g) (type-at t) (term s) (limited-may-not room _ (ended g t s G O room may-not q h)),
-    λ a. ends-so g t s G O room denied q (denied-step (readers g) (type-at t) a),
+    λ h. step-denied (properties-of g) (type-at t) (term s) (limited-may-not room _ (ended g t s G O room may-not q h)),
+    λ a. ends-so g t s G O room denied q (denied-step (properties-of g) (type-at t) a),
   );
   repeats = runs-so g t s G O;
 }

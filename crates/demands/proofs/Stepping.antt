@@ -1,22 +1,22 @@
--- A step keeps what questions 15, 16 and 19 ask: every term that a run reaches is formed as the script is.
+-- A step keeps what questions 15, 36, 16 and 19 ask: every term that a run reaches is formed as the script is.
 use mathlib.Core.Path.{_≡_, refl, sym, subst}
-use mathlib.Core.Bool.{Bool, true, false, cond}
+use mathlib.Core.Bool.{Bool, true, false, cond, So}
 use Prim.Native.Nat.{ℕ, suc, _<_, _≤_}
 use native.Mathlib.Omega.{arith}
-use borrow.Author.Tests.{eqb-false, ltb-true, lt-ltb}
+use borrow.Author.Tests.{eqb-false, ltb-true}
 use lib.Dec.{eqb}
 use Rattle.calculus.specs.Security.{Property, Reader, Indirect, Security}
 use Rattle.calculus.specs.Terms.{Side, first, second, choose, Term, var, unit, lam, pair, inj, app, proj, case, protect, mu, raise-value}
 use Rattle.calculus.specs.Terms as terms
-use Rattle.calculus.specs.Callers.{called-as}
 use Rattle.calculus.specs.Reduction.{unrolled, Contracts, c-app, c-proj, c-case, c-mu, c-protect, Context, hole, app-left, app-right, in-proj, in-inj, pair-left, pair-right, in-protect, in-case, plug, moved, step}
+use Rattle.calculus.proofs.Booleans.{and-left}
 use Rattle.calculus.proofs.Properties.{properties-laws}
 use Rattle.calculus.proofs.Reduction.{step-reduces}
 use Rattle.calculus.proofs.SecureTyping.{table-parts}
 use Rattle.rules.specs.Answer.{Bytes}
-use Rattle.rules.specs.Groups.{rows, readers}
+use Rattle.rules.specs.Groups.{rows, properties-of}
 use Rattle.rules.specs.Types.{type-at}
-use Rattle.demands.proofs.Formed.{Secure, Formed}
+use Rattle.demands.proofs.Formed.{Secure, SecureI, Formed}
 use Rattle.demands.proofs.Tables.{Tables}
 
 -- under more binders
@@ -72,26 +72,29 @@ formed-plug g t (pair-right k v h E) e F = let x = formed-plug g t E e (F .2) in
 formed-plug g t (in-protect m E) e F = let x = formed-plug g t E e (F .1) in (x .0, λ e′ F′. (F .0, x .1 e′ F′))
 formed-plug g t (in-case w i E a b) e F = let x = formed-plug g t E e (F .2) in (x .0, λ e′ F′. (F .0, F .1, x .1 e′ F′, F .3, F .4))
 
+-- Rules by which what is made of groups of the table is one too.
+pub record Stays (g : Bytes) (S : Security) : Type 0 where
+  pub raise : (k : Property) (m : Indirect) → Secure g k → SecureI g m → Secure g (S .raise k m)
+  pub influence : (k : Property) (w : Reader) → Secure g k → So (S .permits k w) → SecureI g (S .influence k w)
+  pub caller : (k : Property) (w : Reader) → k .r < rows g → w < rows g → S .caller k w < rows g
+
 module _ {g t : Bytes} (X : Tables g t) where
-  -- a labelled property's groups are in the table
+  pub properties-stay : Stays g (properties-of g)
+  properties-stay =
+      let laws = properties-laws (X .lattice) in
+      record { raise = laws .raise-secure; influence = laws .influence-secure; caller = λ k w r l. l }
+
   r-group : (k : Property) → Secure g k → k .r < rows g
-  r-group k h = ltb-true _ _ (X .lattice .groups-only _ _ (X .lattice .self-right _ _ h))
+  r-group k h = ltb-true _ _ (X .lattice .groups-only _ _ (X .lattice .self-right _ _ (and-left _ _ h)))
 
-  ir-group : (k : Property) → Secure g k → k .ir < rows g
-  ir-group k h = ltb-true _ _ (X .lattice .groups-only _ _ h)
-
-  -- Whoever a recursive call is made as, where that is a group of the table.
-  module _ (caller : Property → Reader → Reader) (in-table : (k : Property) (w : Reader) → k .r < rows g → w < rows g → caller k w < rows g) where
-    abbrev S : Security
-    S = called-as caller (readers g)
-
-    formed-raise : (n : ℕ) (v : Term) (m : Indirect) → m < rows g → Formed g t n v → Formed g t n (raise-value S v m)
+  module _ {S : Security} (stays : Stays g S) where
+    formed-raise : (n : ℕ) (v : Term) (m : Indirect) → SecureI g m → Formed g t n v → Formed g t n (raise-value S v m)
     unfolding Formed raise-value
     formed-raise n (var i) m l F = F
-    formed-raise n (unit k) m l F = properties-laws (X .lattice) .raise-secure k m F (lt-ltb _ _ l)
-    formed-raise n (lam k i e) m l F = (properties-laws (X .lattice) .raise-secure k m (F .0) (lt-ltb _ _ l), F .1, F .2)
-    formed-raise n (pair k a b) m l F = (properties-laws (X .lattice) .raise-secure k m (F .0) (lt-ltb _ _ l), F .1, F .2)
-    formed-raise n (inj d k i e) m l F = (properties-laws (X .lattice) .raise-secure k m (F .0) (lt-ltb _ _ l), F .1, F .2, F .3)
+    formed-raise n (unit k) m l F = stays .raise k m F l
+    formed-raise n (lam k i e) m l F = (stays .raise k m (F .0) l, F .1, F .2)
+    formed-raise n (pair k a b) m l F = (stays .raise k m (F .0) l, F .1, F .2)
+    formed-raise n (inj d k i e) m l F = (stays .raise k m (F .0) l, F .1, F .2, F .3)
     formed-raise n (app w f a) m l F = F
     formed-raise n (proj d w e) m l F = F
     formed-raise n (case w i e a b) m l F = F
@@ -100,14 +103,14 @@ module _ {g t : Bytes} (X : Tables g t) where
 
     formed-contracts : {e e′ : Term} → Contracts S (type-at t) e e′ → Formed g t 0 e → Formed g t 0 e′
     unfolding Formed
-    formed-contracts (c-app {k = k} {e = e} {v = v} x y) F = (ir-group k (F .1 .0), formed-subst g t 0 v e (F .2) (F .1 .2))
-    formed-contracts (c-proj {d = d} {k = k} {v = v} {v′ = v′} x y z) F = (ir-group k (F .1 .0), formed-choose g t 0 d v v′ (F .1 .1) (F .1 .2))
-    formed-contracts (c-case {d = d} {k = k} {v = v} {a = a} {b = b} x y) F =
-        (ir-group k (F .2 .0), formed-subst g t 0 v (choose d a b) (F .2 .3) (formed-choose g t 1 d a b (F .3) (F .4)))
+    formed-contracts (c-app {k = k} {e = e} {v = v} {w = w} x y) F = (stays .influence k w (F .1 .0) y, formed-subst g t 0 v e (F .2) (F .1 .2))
+    formed-contracts (c-proj {d = d} {k = k} {v = v} {v′ = v′} {w = w} x y z) F = (stays .influence k w (F .1 .0) z, formed-choose g t 0 d v v′ (F .1 .1) (F .1 .2))
+    formed-contracts (c-case {d = d} {k = k} {v = v} {a = a} {b = b} {w = w} x y) F =
+        (stays .influence k w (F .2 .0) y, formed-subst g t 0 v (choose d a b) (F .2 .3) (formed-choose g t 1 d a b (F .3) (F .4)))
     formed-contracts (c-mu {w = w} {i = i} {e = e} {k = k} p) F =
         let own = table-parts (X .table) i p .own in
         formed-subst g t 0 (unrolled S w i k e) e
-        (own, X .next i (F .1) (F .2), (in-table k w (r-group k own) (F .0), formed-weaken g t 0 1 (mu w i e) (omega arith) F, omega arith))
+        (own, X .next i (F .1) (F .2), (stays .caller k w (r-group k own) (F .0), formed-weaken g t 0 1 (mu w i e) (omega arith) F, omega arith))
         (F .3)
     formed-contracts (c-protect {m = m} {v = v} x) F = formed-raise 0 v m (F .0) (F .1)
 

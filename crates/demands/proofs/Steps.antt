@@ -6,12 +6,12 @@ use Prim.Native.Nat.{ℕ, _/_, _≤_}
 use native.Mathlib.Omega.{arith}
 use borrow.Author.Tests.{ltb-false}
 use lib.Dec.{ltb}
+use Rattle.calculus.specs.Security.{Security}
 use Rattle.calculus.specs.Terms.{Term}
-use Rattle.calculus.specs.Callers.{as-written}
 use Rattle.calculus.specs.Reduction.{Outcome, value, moved, denied, stuck, step}
 use Rattle.rules.specs.Answer.{Bytes, accepted}
 use Rattle.rules.specs.Limits.{script-width, script-limit, depth-limit}
-use Rattle.rules.specs.Groups.{readers}
+use Rattle.rules.specs.Groups.{properties-of}
 use Rattle.rules.specs.Types.{type-at}
 use Rattle.rules.specs.Script.{encode, size, depth}
 use Rattle.rules.specs.Step.{End, at-value, moves, may-not, wrong-kind, too-big, exceeds, limited, step-in}
@@ -19,7 +19,7 @@ use Rattle.rules.specs.Calls.{types-check, script-check, stepping}
 use Rattle.rules.proofs.Scripts.{term-encode}
 use Rattle.demands.proofs.Answers.{accepted-inj}
 use Rattle.demands.proofs.Tables.{Tables}
-use Rattle.demands.proofs.Stepping.{formed-step}
+use Rattle.demands.proofs.Stepping.{Stays, properties-stay, formed-step}
 use Rattle.demands.proofs.Checked.{Fit, Roomy, script-passes}
 
 -- the ends, apart
@@ -102,18 +102,21 @@ module _ (g t : Bytes) (types : types-check g t ≡ accepted tt) (X : Tables g t
   pub fit-passes : (e : Term) → Fit g t e → script-check [] g t (encode e) ≡ accepted tt
   fit-passes e F = script-passes [] g t e types (X .lattice) F (no-rooms (encode e))
 
-  pub fit-steps : (room : ℕ) (e : Term) → Fit g t e → stepping g t (encode e) room ≡ accepted (step-in (readers g) (type-at t) room e)
+  pub fit-steps : (room : ℕ) (e : Term) → Fit g t e → stepping g t (encode e) room ≡ accepted (step-in (properties-of g) (type-at t) room e)
   unfolding stepping
   fit-steps room e F = rw (fit-passes e F, term-encode e)
 
   -- what a step of its bytes answers is the step of the term
   pub fit-step-is : (room : ℕ) (e : Term) {s : Bytes} {x : End} → encode e ≡ s → Fit g t e → stepping g t s room ≡ accepted x
-      → step-in (readers g) (type-at t) room e ≡ x
+      → step-in (properties-of g) (type-at t) room e ≡ x
   fit-step-is room e {s} {x} p F h = accepted-inj (sym (fit-steps room e F) ∙ ap (λ (b : Bytes). stepping g t b room) p ∙ h)
 
-  pub fit-moves : (room : ℕ) (e e′ : Term) → Fit g t e → step-in (readers g) (type-at t) room e ≡ moves e′ → Fit g t e′
+  pub fit-moves-by : {S : Security} → Stays g S → (room : ℕ) (e e′ : Term) → Fit g t e → step-in S (type-at t) room e ≡ moves e′ → Fit g t e′
   unfolding step-in
-  fit-moves room e e′ F h =
-      let m = limited-moves room (step (readers g) (type-at t) e) e′ h in
+  fit-moves-by {S} stays room e e′ F h =
+      let m = limited-moves room (step S (type-at t) e) e′ h in
       let l = within-limits room e′ (m .1) in
-      record { formed = formed-step X as-written (λ k w r l. l) e e′ (m .0) (F .formed); small = l .0; shallow = l .2 }
+      record { formed = formed-step X stays e e′ (m .0) (F .formed); small = l .0; shallow = l .2 }
+
+  pub fit-moves : (room : ℕ) (e e′ : Term) → Fit g t e → step-in (properties-of g) (type-at t) room e ≡ moves e′ → Fit g t e′
+  fit-moves = fit-moves-by (properties-stay X)

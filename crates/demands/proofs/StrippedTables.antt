@@ -7,13 +7,13 @@ use lib.Dec.{eqb, leb, ltb}
 use Rattle.rules.specs.Answer.{Bytes, accepted, ask, each, is-none, _⇒_}
 use Rattle.rules.specs.Limits.{type-width, table-limit}
 use Rattle.rules.specs.Groups.{rows, leq}
-use Rattle.rules.specs.Types.{type-count, type-kind, type-zero, sides, end-after, type-end, pending, short, ok9, ok10, ok11, ok12, q8, q9, q10, q11}
+use Rattle.rules.specs.Types.{type-count, type-kind, type-zero, sides, end-after, type-end, pending, short, ok9, ok10, ok36-type, ok11, ok12, q8, q9, q10, q36-types, q11}
 use Rattle.rules.specs.Strip.{strip-types, one-group}
 use Rattle.rules.specs.Calls.{groups-check, types-check}
 use Rattle.rules.proofs.Search.{each-all, each-accepted}
 use Rattle.demands.proofs.Answers.{both, go-on, and-true}
 use Rattle.rules.proofs.Asked.{and-then}
-use Rattle.demands.proofs.Stripping.{strip-type-count, strip-type-kind, strip-type-r, strip-type-ir, strip-type-zero}
+use Rattle.demands.proofs.Stripping.{strip-type-count, strip-type-kind, strip-type-r, strip-type-ir, strip-type-zero, strip-type-c, strip-type-ic}
 use Rattle.rules.proofs.Strip.{strip-length}
 
 -- what is read of the kinds alone
@@ -62,11 +62,18 @@ module _ (t : Bytes) where
       let b = both (eqb (type-zero t i) 0) _ (a .1) in
       and-true (ap (λ (k : ℕ). leb k 3) (strip-type-kind t i) ∙ a .0)
       (and-true (ap (λ (z : ℕ). eqb z 0) (strip-type-zero t i) ∙ b .0)
-      (and-true (ap (λ (x : ℕ). ltb x 1) (strip-type-r t i)) (ap (λ (x : ℕ). ltb x 1) (strip-type-ir t i))))
+      (and-true (the-group (strip-type-r t i)) (and-true (the-group (strip-type-ir t i)) (and-true (the-group (strip-type-c t i)) (the-group (strip-type-ic t i))))))
+    where
+      the-group : {x : ℕ} → x ≡ 0 → ltb x (rows one-group) ≡ true
+      the-group e = rw e
 
   ok10-kept : (i : ℕ) → ok10 one-group (strip-types t) i ≡ true
   unfolding ok10
   ok10-kept i = ap₂ (λ (x y : ℕ). leq one-group x y) (strip-type-ir t i) (strip-type-r t i)
+
+  ok36-kept : (i : ℕ) → ok36-type one-group (strip-types t) i ≡ true
+  unfolding ok36-type
+  ok36-kept i = ap₂ (λ (x y : ℕ). leq one-group x y) (strip-type-ic t i) (strip-type-c t i)
 
   q8-same : q8 (strip-types t) ≡ q8 t
   q8-same = ap (λ (n : ℕ). ask 8 0 (eqb (n % type-width) 0 && (leb 1 (n / type-width) && leb (n / type-width) table-limit))) (strip-length type-width 0 t)
@@ -82,10 +89,12 @@ stripped-passes g t h =
     let b = and-then (q8 t) _ (a .1) in
     let c = and-then (q9 g t) _ (b .1) in
     let d = and-then (q10 g t) _ (c .1) in
-    let e = and-then (q11 t) _ (d .1) in
+    let e = and-then (q36-types g t) _ (d .1) in
+    let f = and-then (q11 t) _ (e .1) in
     go-on one-group-passes
     (go-on (q8-same t ∙ b .0)
     (go-on (each-kept t 9 (ok9 (rows g) t) (ok9 (rows one-group) (strip-types t)) (ok9-kept t (rows g)) (c .0))
     (go-on (each-kept t 10 (ok10 g t) (ok10 one-group (strip-types t)) (λ i _. ok10-kept t i) (d .0))
-    (go-on (each-kept t 11 (ok11 t) (ok11 (strip-types t)) (λ i p. ok11-same t i ∙ p) (e .0))
-    (each-kept t 12 (ok12 t) (ok12 (strip-types t)) (λ i p. ok12-same t i ∙ p) (e .1))))))
+    (go-on (each-kept t 36 (ok36-type g t) (ok36-type one-group (strip-types t)) (λ i _. ok36-kept t i) (e .0))
+    (go-on (each-kept t 11 (ok11 t) (ok11 (strip-types t)) (λ i p. ok11-same t i ∙ p) (f .0))
+    (each-kept t 12 (ok12 t) (ok12 (strip-types t)) (λ i p. ok12-same t i ∙ p) (f .1)))))))

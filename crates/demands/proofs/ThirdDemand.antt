@@ -17,7 +17,7 @@ use Rattle.calculus.proofs.Soundness.{infer-sound}
 use Rattle.calculus.proofs.Completeness.{infer-complete}
 use Rattle.rules.specs.Answer.{Bytes, Octets, accepted}
 use Rattle.rules.specs.Limits.{script-width}
-use Rattle.rules.specs.Groups.{readers}
+use Rattle.rules.specs.Groups.{properties-of}
 use Rattle.rules.specs.Types.{type-at}
 use Rattle.rules.specs.Script.{encode, term}
 use Rattle.rules.specs.Typing.{typing}
@@ -46,7 +46,7 @@ use Rattle.demands.proofs.RunTerms.{RunTerms, run-terms}
 -- a term that fits and has a type, as bytes
 module _ (g t : Bytes) (types : types-check g t ≡ accepted tt) (X : Tables g t) where
   abbrev S : Security
-  S = readers g
+  S = properties-of g
 
   abbrev tab : ℕ → Ty
   tab = type-at t
@@ -95,12 +95,12 @@ two-rooms a b s l m (suc (suc i)) h = absurd (omega arith)
 
 -- a run of a term that fits
 fit-runs : (g t : Bytes) → types-check g t ≡ accepted tt → Tables g t → (e : Term) (budget first scratch : ℕ) → Fit g t e → length (encode e) ≤ first → length (encode e) ≤ scratch
-    → running g t (encode e) budget first scratch ≡ accepted (run (readers g) (type-at t) (min first scratch) budget e)
+    → running g t (encode e) budget first scratch ≡ accepted (run (properties-of g) (type-at t) (min first scratch) budget e)
 unfolding running
 fit-runs g t types X e budget first scratch F l m =
-    goes (script-check (first ∷ scratch ∷ []) g t (encode e)) (accepted (run (readers g) (type-at t) (min first scratch) budget (term (encode e))))
+    goes (script-check (first ∷ scratch ∷ []) g t (encode e)) (accepted (run (properties-of g) (type-at t) (min first scratch) budget (term (encode e))))
     (script-passes (first ∷ scratch ∷ []) g t e types (X .lattice) F (two-rooms first scratch (encode e) l m))
-    ∙ ap (λ (x : Term). accepted (run (readers g) (type-at t) (min first scratch) budget x)) (term-encode e)
+    ∙ ap (λ (x : Term). accepted (run (properties-of g) (type-at t) (min first scratch) budget x)) (term-encode e)
 
 erase-length : (e : Term) → length (encode (erase e)) ≡ length (encode e)
 erase-length e = encode-length term-code (erase e) ∙ ap (λ (n : ℕ). script-width * n) (erase-size e) ∙ sym (encode-length term-code e)
@@ -123,12 +123,12 @@ last-is-stripped x first =
 
 -- the demand of a term that fits
 fit-demand : (g t : Bytes) → types-check g t ≡ accepted tt → Tables g t → (e : Term) (type : Ty) (budget : ℕ) (first scratch : Bytes) → Fit g t e
-    → HasType (readers g) (type-at t) [] e type → length (encode e) ≤ length first → length (encode e) ≤ length scratch
+    → HasType (properties-of g) (type-at t) [] e type → length (encode e) ≤ length first → length (encode e) ≤ length scratch
     → Demand3 g t (encode e) type budget first scratch
 fit-demand g t types X e type budget first scratch F h l m =
     let room = min (length first) (length scratch) in
     let L = properties-laws (X .lattice) in
-    let x = run (readers g) (type-at t) room budget e in
+    let x = run (properties-of g) (type-at t) room budget e in
     let safe = run-safe L (X .table) room budget e type h in
     let T = run-terms g t types X room budget e F in
     let bare-types = stripped-passes g t types in

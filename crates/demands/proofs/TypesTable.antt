@@ -7,7 +7,7 @@ use borrow.Author.Tests.{lt-ltb}
 use Rattle.calculus.specs.Types.{Former, sum, function, Ty, node, sizeT}
 use Rattle.rules.specs.Answer.{Bytes, Octets, accepted}
 use Rattle.rules.specs.Groups.{rows}
-use Rattle.rules.specs.Types.{type-count, type-kind, type-at, former-kind, q8, q9, q10, q11}
+use Rattle.rules.specs.Types.{type-count, type-kind, type-at, former-kind, q8, q9, q10, q36-types, q11}
 use Rattle.rules.specs.Typing.{has-form}
 use Rattle.rules.specs.Calls.{groups-check, types-check}
 use Rattle.rules.proofs.PrefixLaws.{size-positive}
@@ -41,12 +41,13 @@ tables g t octets passed =
     let b = and-then (q8 t) _ (a .1) in
     let c = and-then (q9 g t) _ (b .1) in
     let d = and-then (q10 g t) _ (c .1) in
-    let e = and-then (q11 t) _ (d .1) in
-    let P : Passes t = passes g t (b .0) (c .0) (e .0) in
+    let e = and-then (q36-types g t) _ (d .1) in
+    let f = and-then (q11 t) _ (e .1) in
+    let P : Passes t = passes g t (b .0) (c .0) (f .0) in
     let X = lattice g octets (a .0) in
     record {
       lattice = X;
-      table = secure-table g t P (d .0) (e .1) (X .in-table 0 (lt-ltb 0 (rows g) (some-rows g octets (a .0))));
+      table = secure-table g t P (d .0) (e .0) (f .1) (X .in-table 0 (lt-ltb 0 (rows g) (some-rows g octets (a .0))));
       stands = standing t P;
       sums = λ i l. formed-so sum t i (standing t P i l);
       functions = λ i l. formed-so function t i (standing t P i l);

@@ -20,17 +20,21 @@ pub data Closed (g : Bytes) (group : ℕ) : Term → Type 0 where
   closed-pair : {k : Property} {a b : Term} → leq g (k .r) group ≡ false → Closed g group (pair k a b)
   closed-injection : {d : Side} {k : Property} {i : ℕ} {e : Term} → leq g (k .r) group ≡ false → Closed g group (inj d k i e)
 
+-- the same groups, as far as a sheet shows them
+abbrev pub SameReaders : Property → Property → Type 0
+SameReaders k l = (k .r ≡ l .r) × (k .ir ≡ l .ir)
+
 -- Two values that differ only inside objects closed in both: at each place both are closed, whatever stands there, or they have
--- the same kind and groups, and parts that differ only so. A sheet shows neither the number of a type nor a function's body, so these
--- may be any.
+-- the same kind, r and ir, and parts that differ only so. A sheet shows neither c and ic nor the number of a type nor a function's body,
+-- so these may be any.
 pub data AlikeOutside (g : Bytes) (group : ℕ) : Term → Term → Type 0 where
   closed-in-both : {a b : Term} → Closed g group a → Closed g group b → AlikeOutside g group a b
-  units : {k : Property} → AlikeOutside g group (unit k) (unit k)
-  functions : {k : Property} {i i′ : ℕ} {e e′ : Term} → AlikeOutside g group (lam k i e) (lam k i′ e′)
-  pairs : {k : Property} {a b a′ b′ : Term} → AlikeOutside g group a a′ → AlikeOutside g group b b′
-      → AlikeOutside g group (pair k a b) (pair k a′ b′)
-  injections : {d : Side} {k : Property} {i i′ : ℕ} {e e′ : Term} → AlikeOutside g group e e′
-      → AlikeOutside g group (inj d k i e) (inj d k i′ e′)
+  units : {k l : Property} → SameReaders k l → AlikeOutside g group (unit k) (unit l)
+  functions : {k l : Property} {i i′ : ℕ} {e e′ : Term} → SameReaders k l → AlikeOutside g group (lam k i e) (lam l i′ e′)
+  pairs : {k l : Property} {a b a′ b′ : Term} → SameReaders k l → AlikeOutside g group a a′ → AlikeOutside g group b b′
+      → AlikeOutside g group (pair k a b) (pair l a′ b′)
+  injections : {d : Side} {k l : Property} {i i′ : ℕ} {e e′ : Term} → SameReaders k l → AlikeOutside g group e e′
+      → AlikeOutside g group (inj d k i e) (inj d l i′ e′)
 
 -- Of two values that pass questions 2 to 19, for every group and every room.
 pub record ClosedCloses (g t s s′ : Bytes) (group : ℕ) : Type 0 where

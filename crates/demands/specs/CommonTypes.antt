@@ -9,7 +9,7 @@ use Rattle.calculus.specs.Types.{Ty, secureT, sizeT}
 use Rattle.calculus.specs.Subtyping.{Subtype, Direction, below, above}
 use Rattle.calculus.specs.Common.{common, same-shape}
 use Rattle.rules.specs.Answer.{Bytes, Octets, accepted}
-use Rattle.rules.specs.Groups.{readers}
+use Rattle.rules.specs.Groups.{properties-of}
 use Rattle.rules.specs.Calls.{groups-check}
 
 -- table 2, or table 2 turned round
@@ -36,5 +36,5 @@ pub record CommonType (S : Security) (d : Direction) (s t : Ty) : Type 0 where
 
 abbrev pub CommonTypes : Type 0
 CommonTypes =
-    (g : Bytes) → Octets g → groups-check g ≡ accepted tt → (d : Direction) (s t : Ty) → So (secureT (readers g) s) → So (secureT (readers g) t)
-    → CommonType (readers g) d s t
+    (g : Bytes) → Octets g → groups-check g ≡ accepted tt → (d : Direction) (s t : Ty) → So (secureT (properties-of g) s) → So (secureT (properties-of g) t)
+    → CommonType (properties-of g) d s t

@@ -7,7 +7,7 @@ use Rattle.calculus.specs.Security.{Property, Security}
 use Rattle.calculus.specs.Types.{Former, sum, product, function, Ty, one, node}
 use Rattle.calculus.specs.Subtyping.{Subtype}
 use Rattle.rules.specs.Answer.{Bytes, Octets, accepted}
-use Rattle.rules.specs.Groups.{readers}
+use Rattle.rules.specs.Groups.{properties-of}
 use Rattle.rules.specs.Types.{type-count, type-at, encode-type}
 use Rattle.rules.specs.Comparison.{Comparison, same, below, neither, equal-properties, comparison, comparison-number}
 use Rattle.rules.specs.Typing.{q22}
@@ -19,7 +19,7 @@ pub record Compares (g t : Bytes) (i j : ℕ) : Type 0 where
   -- "Same means equal in every record": their bytes are equal, wherever they stand.
   pub same-when : (comparing g t i j ≡ accepted same) ↔ (encode-type (type-at t i) ≡ encode-type (type-at t j))
   -- same and below together are table 2
-  pub related-when : (comparing g t i j ≡ accepted neither → ⊥) ↔ Subtype (readers g) (type-at t i) (type-at t j)
+  pub related-when : (comparing g t i j ≡ accepted neither → ⊥) ↔ Subtype (properties-of g) (type-at t i) (type-at t j)
   -- two types are related both ways only where they are the same
   pub both-ways : ((comparing g t i j ≡ accepted neither → ⊥) × (comparing g t j i ≡ accepted neither → ⊥)) ↔ (comparing g t i j ≡ accepted same)
 

@@ -3,5 +3,5 @@ pub mod Runs
 pub mod Demands
 pub mod Comparison
 pub mod Closed
-pub mod Rewriting
+pub mod Migration
 pub mod CommonTypes
