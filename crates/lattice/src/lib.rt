@@ -1,16 +1,36 @@
-// The lattice of groups over a table of rows: readers and indirect readers, their order, their join and their meet.
+// The lattice of groups over a table of rows: readers and indirect readers, creators and indirect creators, their order, their
+// join and their meet, and the properties made of them.
 
 ghost use mathlib.Core.Path.{_≡_};
 ghost use Prim.Native.Nat.{ℕ, _≤_, _<_};
 ghost use lib.ListN.{length};
 ghost use Rattle.rules.specs.Answer.{byte};
 ghost use Rattle.rules.specs.Limits.{group-limit};
-ghost use Rattle.rules.specs.Groups.{rows, row, bit, leq, join, below-both, meet};
+ghost use Rattle.rules.specs.Groups.{rows, row, bit, leq, join, below-both, meet, properties-of};
+ghost use Rattle.lattice.specs.Said.{said-property, said-influence};
 
-// Readers and indirect readers: two types, so that neither is handed over in the other's place.
+// Readers and indirect readers, creators and indirect creators: four types, so that none is handed over in another's place.
 pub struct Reader(pub u8);
 
 pub struct Indirect(pub u8);
+
+pub struct Creator(pub u8);
+
+pub struct IndirectCreator(pub u8);
+
+// The property of an object: who may read it and be influenced by it, who made it and had an influence on it.
+pub struct Property {
+    pub r: Reader,
+    pub ir: Indirect,
+    pub c: Creator,
+    pub ic: IndirectCreator,
+}
+
+// What a reading leaves on its result, and what a protect carries.
+pub struct Influence {
+    pub ir: Indirect,
+    pub ic: IndirectCreator,
+}
 
 pub const ROW_WIDTH: usize = 4;
 
@@ -116,12 +136,12 @@ fn rows_to_search(groups: &[u8]) -> usize
     GROUP_LIMIT
 }
 
-// k ⊑ g and k ⊑ h
+// k ⊑ g and k ⊑ h. Most groups aren't below the first, so that the second is rarely asked.
 fn below_both(groups: &[u8], k: usize, g: u8, h: u8) -> bool
     ensures { λ a. ⌜ a ≡ below-both (now (groups .entry)) g h k ⌝ }
 {
     let word = row(groups, k);
-    bit(word, index(g)) & bit(word, index(h))
+    bit(word, index(g)) && bit(word, index(h))
 }
 
 // g ⊓ h, the highest group ⊑ both; 0 where there is none. The groups below a group stand in its column, so this costs a pass down
@@ -137,6 +157,20 @@ fn meet(groups: &[u8], g: u8, h: u8) -> u8
         }
     }
     0
+}
+
+// Two groups of one object.
+struct Two(u8, u8);
+
+// g ⊓ by and h ⊓ also. One search serves both where they are the same, as a group and the indirect one beside it mostly are.
+fn meet_both(groups: &[u8], g: u8, by: u8, h: u8, also: u8) -> Two
+    ensures { λ a. ⌜ (a .0 ≡ meet (now (groups .entry)) g by) × (a .1 ≡ meet (now (groups .entry)) h also) ⌝ }
+{
+    let first = meet(groups, g, by);
+    if (g == h) & (by == also) {
+        return Two(first, first);
+    }
+    Two(first, meet(groups, h, also))
 }
 
 impl Reader {
@@ -159,13 +193,6 @@ impl Reader {
         ensures { λ a. ⌜ a .0 ≡ join (now (groups .entry)) (self .0) (reader .0) ⌝ }
     {
         Reader(join(groups, self.0, reader.0))
-    }
-
-    // r ⊓ r′
-    pub fn meet(self, groups: &[u8], reader: Reader) -> Reader
-        ensures { λ a. ⌜ a .0 ≡ meet (now (groups .entry)) (self .0) (reader .0) ⌝ }
-    {
-        Reader(meet(groups, self.0, reader.0))
     }
 }
 
@@ -190,11 +217,122 @@ impl Indirect {
     {
         Indirect(join(groups, self.0, by.0))
     }
+}
 
-    // ir ⊓ ir′
-    pub fn meet(self, groups: &[u8], indirect: Indirect) -> Indirect
-        ensures { λ a. ⌜ a .0 ≡ meet (now (groups .entry)) (self .0) (indirect .0) ⌝ }
+impl Creator {
+    // c′ ⊑ c: below turns creators round
+    pub fn at_or_above(self, groups: &[u8], creator: Creator) -> bool
+        ensures { λ a. ⌜ a ≡ leq (now (groups .entry)) (creator .0) (self .0) ⌝ }
     {
-        Indirect(meet(groups, self.0, indirect.0))
+        leq(groups, creator.0, self.0)
+    }
+
+    // c ⊑ ic: 23's condition on a recursion's result
+    pub fn within(self, groups: &[u8], ic: IndirectCreator) -> bool
+        ensures { λ a. ⌜ a ≡ leq (now (groups .entry)) (self .0) (ic .0) ⌝ }
+    {
+        leq(groups, self.0, ic.0)
+    }
+
+    // c ⊔ c′
+    pub fn join(self, groups: &[u8], creator: Creator) -> Creator
+        ensures { λ a. ⌜ a .0 ≡ join (now (groups .entry)) (self .0) (creator .0) ⌝ }
+    {
+        Creator(join(groups, self.0, creator.0))
+    }
+}
+
+impl IndirectCreator {
+    // ic′ ⊑ ic
+    pub fn at_or_above(self, groups: &[u8], indirect: IndirectCreator) -> bool
+        ensures { λ a. ⌜ a ≡ leq (now (groups .entry)) (indirect .0) (self .0) ⌝ }
+    {
+        leq(groups, indirect.0, self.0)
+    }
+
+    // ic ⊑ c
+    pub fn within(self, groups: &[u8], c: Creator) -> bool
+        ensures { λ a. ⌜ a ≡ leq (now (groups .entry)) (self .0) (c .0) ⌝ }
+    {
+        leq(groups, self.0, c.0)
+    }
+
+    // ic ⊓ r, where the readers r are who read
+    pub fn read_by(self, groups: &[u8], reader: Reader) -> IndirectCreator
+        ensures { λ a. ⌜ a .0 ≡ meet (now (groups .entry)) (self .0) (reader .0) ⌝ }
+    {
+        IndirectCreator(meet(groups, self.0, reader.0))
+    }
+
+    // ic ⊔ ic′
+    pub fn join(self, groups: &[u8], indirect: IndirectCreator) -> IndirectCreator
+        ensures { λ a. ⌜ a .0 ≡ join (now (groups .entry)) (self .0) (indirect .0) ⌝ }
+    {
+        IndirectCreator(join(groups, self.0, indirect.0))
+    }
+}
+
+impl Property {
+    // κ ≤ κ′
+    pub fn at_or_below(self, groups: &[u8], property: Property) -> bool
+        ensures { λ a. ⌜ a ≡ properties-of (now (groups .entry)) .le (said-property self) (said-property property) ⌝ }
+    {
+        self.r.at_or_below(groups, property.r)
+            && (self.ir.at_or_below(groups, property.ir)
+                && (self.c.at_or_above(groups, property.c)
+                    && self.ic.at_or_above(groups, property.ic)))
+    }
+
+    // κ ⊔ κ′: the least property at or above both
+    pub fn join(self, groups: &[u8], property: Property) -> Property
+        ensures { λ a. ⌜ said-property a ≡ properties-of (now (groups .entry)) .join (said-property self) (said-property property) ⌝ }
+    {
+        let r = self.r.join(groups, property.r);
+        let ir = self.ir.joined(groups, property.ir);
+        let made = meet_both(groups, self.c.0, property.c.0, self.ic.0, property.ic.0);
+        let c = Creator(made.0);
+        let ic = IndirectCreator(made.1);
+        Property { r, ir, c, ic }
+    }
+
+    // κ ⊓ κ′: the greatest property at or below both
+    pub fn meet(self, groups: &[u8], property: Property) -> Property
+        ensures { λ a. ⌜ said-property a ≡ properties-of (now (groups .entry)) .meet (said-property self) (said-property property) ⌝ }
+    {
+        let read = meet_both(groups, self.r.0, property.r.0, self.ir.0, property.ir.0);
+        let r = Reader(read.0);
+        let ir = Indirect(read.1);
+        let c = self.c.join(groups, property.c);
+        let ic = self.ic.join(groups, property.ic);
+        Property { r, ir, c, ic }
+    }
+
+    // κ • (ir, ic)
+    pub fn raised(self, groups: &[u8], by: Influence) -> Property
+        ensures { λ a. ⌜ said-property a ≡ properties-of (now (groups .entry)) .raise (said-property self) (said-influence by) ⌝ }
+    {
+        let r = self.r.joined(groups, by.ir);
+        let ir = self.ir.joined(groups, by.ir);
+        let made = meet_both(groups, self.c.0, by.ic.0, self.ic.0, by.ic.0);
+        let c = Creator(made.0);
+        let ic = IndirectCreator(made.1);
+        Property { r, ir, c, ic }
+    }
+
+    // What a reading by this group leaves on its result: ir, and ic ⊓ the group.
+    pub fn influence(self, groups: &[u8], reader: Reader) -> Influence
+        ensures { λ a. ⌜ said-influence a ≡ properties-of (now (groups .entry)) .influence (said-property self) (reader .0) ⌝ }
+    {
+        let ir = self.ir;
+        let ic = self.ic.read_by(groups, reader);
+        Influence { ir, ic }
+    }
+
+    // Question 23: may a result of this property be read through a function of property `through`, called as this group?
+    pub fn absorbed_by(self, groups: &[u8], through: Property, caller: Reader) -> bool
+        ensures { λ a. ⌜ a ≡ properties-of (now (groups .entry)) .absorbs (said-property through) (caller .0) (said-property self) ⌝ }
+    {
+        through.ir.at_or_below(groups, self.ir)
+            && self.c.within(groups, through.ic.read_by(groups, caller))
     }
 }

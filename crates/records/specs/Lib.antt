@@ -1,5 +1,6 @@
 pub mod Kinds
 pub mod Place
+pub mod Labels
 pub mod Operands
 pub mod Binders
 pub mod Weight

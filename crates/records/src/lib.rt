@@ -1,17 +1,23 @@
 // A script's records: their fields, the table of kinds, and where a term ends.
 
+use lattice::Creator;
 use lattice::Indirect;
+use lattice::IndirectCreator;
+use lattice::Influence;
+use lattice::Property;
 use lattice::Reader;
 ghost use mathlib.Core.Path.{_≡_};
 ghost use Prim.Native.Nat.{_+_, _≤_, _<_};
 ghost use Rattle.calculus.specs.Terms.{Term};
-ghost use Rattle.rules.specs.Script.{records, kind, r, ir, zero-byte, number, signature, signature-of, arity, size, own-at, term-end};
+ghost use Rattle.rules.specs.Script.{records, kind, r, ir, zero-byte, number, c, ic, signature, signature-of, arity, size, own-at, term-end};
+ghost use Rattle.lattice.specs.Said.{said-property, said-influence};
 ghost use Rattle.records.specs.Place.{At, Here};
+ghost use Rattle.records.specs.Labels.{property-at, influence-at};
 ghost use Rattle.records.specs.Said.{said-line, said-end};
 ghost use Rattle.records.specs.Binders.{binds};
 ghost use Rattle.records.specs.Weight.{weight-at};
 
-pub const SCRIPT_WIDTH: usize = 6;
+pub const SCRIPT_WIDTH: usize = 8;
 
 // The kinds of records.
 pub const VARIABLE: u8 = 0;
@@ -103,22 +109,63 @@ pub fn number(script: &[u8], i: usize) -> u16
     word(script[SCRIPT_WIDTH * i + 4]) + 256 * word(script[SCRIPT_WIDTH * i + 5])
 }
 
+pub fn creator(script: &[u8], i: usize) -> Creator
+    requires { ⌜ i < records (now script) ⌝ }
+    ensures { λ a. ⌜ a .0 ≡ c (now (script .entry)) i ⌝ }
+{
+    Creator(script[SCRIPT_WIDTH * i + 6])
+}
+
+pub fn indirect_creator(script: &[u8], i: usize) -> IndirectCreator
+    requires { ⌜ i < records (now script) ⌝ }
+    ensures { λ a. ⌜ a .0 ≡ ic (now (script .entry)) i ⌝ }
+{
+    IndirectCreator(script[SCRIPT_WIDTH * i + 7])
+}
+
+// The property of an object's record.
+pub fn property(script: &[u8], i: usize) -> Property
+    requires { ⌜ i < records (now script) ⌝ }
+    ensures { λ a. ⌜ said-property a ≡ property-at (now (script .entry)) i ⌝ }
+{
+    let r = reader(script, i);
+    let ir = indirect(script, i);
+    let c = creator(script, i);
+    let ic = indirect_creator(script, i);
+    Property { r, ir, c, ic }
+}
+
+// The influence that a protect's record carries.
+pub fn influence(script: &[u8], i: usize) -> Influence
+    requires { ⌜ i < records (now script) ⌝ }
+    ensures { λ a. ⌜ said-influence a ≡ influence-at (now (script .entry)) i ⌝ }
+{
+    let ir = indirect(script, i);
+    let ic = indirect_creator(script, i);
+    Influence { ir, ic }
+}
+
 // A line of the table of kinds: the number of operands, which fields are named, and whether the number names a type.
 pub struct Signature {
     pub operands: u8,
-    pub reader: bool,
-    pub indirect: bool,
+    pub r: bool,
+    pub ir: bool,
+    pub c: bool,
+    pub ic: bool,
     pub number: bool,
     pub typed: bool,
 }
 
-fn entry(operands: u8, reader: bool, indirect: bool, number: bool, typed: bool) -> Signature
-    ensures { λ a. ⌜ said-line a ≡ signature operands reader indirect number typed ⌝ }
+// An object, which names r and ir, names c, and what names ir names ic.
+fn entry(operands: u8, r: bool, ir: bool, number: bool, typed: bool) -> Signature
+    ensures { λ a. ⌜ said-line a ≡ signature operands r ir number typed ⌝ }
 {
     Signature {
         operands,
-        reader,
-        indirect,
+        r,
+        ir,
+        c: r & ir,
+        ic: ir,
         number,
         typed,
     }

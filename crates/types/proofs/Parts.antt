@@ -1,19 +1,18 @@
 -- What stands at the front of a slice that starts with a type, and where its sides start.
 use mathlib.Core.Path.{_≡_, refl, ap, sym, _∙_}
-use mathlib.Core.Bool.{Bool, true, false, _&&_}
 use mathlib.Core.List.{_++_, append-assoc}
 use Prim.Native.Nat.{ℕ, _+_, _*_, _-_, _≤_, _<_}
 use native.Mathlib.Omega.{arith}
-use lib.ListN.{length, take, drop, length-append, length-drop, set}
+use lib.ListN.{length, take, drop, length-append, length-drop, length-set}
 use lib.Seq.{take-all, drop-at, drop-drop}
-use Rattle.calculus.specs.Security.{Security}
+use Rattle.calculus.specs.Security.{Property, Indirect, Security}
 use Rattle.calculus.specs.Types.{Ty, one, node, top, raiseT, sizeT}
 use Rattle.rules.specs.Answer.{Bytes, byte}
 use Rattle.rules.specs.Limits.{type-width}
 use Rattle.rules.specs.Types.{encode-type}
 use Rattle.rules.proofs.PrefixLaws.{encode-length, size-positive, unique}
 use Rattle.rules.proofs.TypeCode.{type-code, type-prefix}
-use Rattle.types.specs.Held.{Held, Starts, Sided, Counted, kind-of, left-of, right-of}
+use Rattle.types.specs.Held.{Held, Starts, Sided, Counted, kind-of, left-of, right-of, type-property, with-property}
 
 -- the part of a list from `a` to its end, as the code takes it
 pub to-end : (a : ℕ) (s : Bytes) → take (length s - a) (drop a s) ≡ drop a s
@@ -36,16 +35,6 @@ parts f pre x y =
     let w = pre .1 in
     (omega (arith, pre .0, x .1), (starts-of (x .0 (w .0 .type) (w .0 .held)), starts-of (y .0 (w .1 .type) (w .1 .held))))
 
--- three tests in order
-pub third : (a b c x : Bool) → a ≡ true → b ≡ true → x ≡ c → x ≡ a && (b && c)
-third a b c x p q e = rw (p, q) e
-
-pub second : (a b c : Bool) → a ≡ true → b ≡ false → false ≡ a && (b && c)
-second a b c p q = rw (p, q)
-
-pub first : (a b c : Bool) → a ≡ false → false ≡ a && (b && c)
-first a b c p = rw p
-
 module _ {s : Bytes} where
   pub held-length : {t : Ty} (h : Held s t) → length s ≡ type-width * sizeT t + length (h .rest)
   held-length {t} h = ap length (h .is) ∙ length-append (encode-type t) (h .rest) ∙ omega (arith, type-length t)
@@ -66,10 +55,10 @@ module _ {s : Bytes} where
   reader-is (one k) h = ap (λ l. byte l 1) (h .is)
   reader-is (node f k a b) h = ap (λ l. byte l 1) (h .is)
 
-  pub indirect-is : (t : Ty) → Held s t → byte s 2 ≡ top t .ir
+  pub property-is : (t : Ty) → Held s t → type-property s 0 ≡ top t
   unfolding encode-type
-  indirect-is (one k) h = ap (λ l. byte l 2) (h .is)
-  indirect-is (node f k a b) h = ap (λ l. byte l 2) (h .is)
+  property-is (one k) h = ap (λ (l : Bytes). type-property l 0) (h .is)
+  property-is (node f k a b) h = ap (λ (l : Bytes). type-property l 0) (h .is)
 
   pub left-held : (t : Ty) → (kind-of t ≡ 0 → ⊥) → Held s t → Held (drop type-width s) (left-of t)
   unfolding encode-type
@@ -109,9 +98,13 @@ module _ {s : Bytes} where
   pub counted-fits : {n : ℕ} → Counted s n → 2 * type-width + type-width * n ≤ length s
   counted-fits {n} w = right-fits (w .type) n (w .two) (w .count) (w .held)
 
-  -- the first record with r and ir joined in
-  pub raised : (S : Security) (t : Ty) (m : ℕ) (h : Held s t)
-      → set (set s 1 (S .raise (top t) m .r)) 2 (S .raise (top t) m .ir) ≡ encode-type (raiseT S t m) ++ h .rest
+  -- the first record with another property
+  pub raised : (S : Security) (t : Ty) (m : Indirect) (h : Held s t)
+      → with-property s 0 (S .raise (top t) m) ≡ encode-type (raiseT S t m) ++ h .rest
   unfolding encode-type
-  raised S (one k) m h = ap (λ l. set (set l 1 (S .raise k m .r)) 2 (S .raise k m .ir)) (h .is)
-  raised S (node f k a b) m h = ap (λ l. set (set l 1 (S .raise k m .r)) 2 (S .raise k m .ir)) (h .is)
+  raised S (one k) m h = ap (λ (l : Bytes). with-property l 0 (S .raise k m)) (h .is)
+  raised S (node f k a b) m h = ap (λ (l : Bytes). with-property l 0 (S .raise k m)) (h .is)
+
+-- four stores keep the length
+pub with-property-length : (t : Bytes) (i : ℕ) (k : Property) → length (with-property t i k) ≡ length t
+with-property-length t i k = simp length-set

@@ -1,24 +1,33 @@
 // A type in bytes: the records of a types table or of a lent buffer, a type's sides, and raising.
 
+use lattice::Creator;
 use lattice::Indirect;
+use lattice::IndirectCreator;
+use lattice::Influence;
+use lattice::Property;
 use lattice::Reader;
 ghost use mathlib.Core.Path.{_≡_};
 ghost use mathlib.Core.List.{_++_};
 ghost use Prim.Native.Nat.{_+_, _-_, _≤_, _<_};
 ghost use lib.ListN.{length};
 ghost use Rattle.calculus.specs.Types.{Ty, top, raiseT, sizeT};
-ghost use Rattle.rules.specs.Groups.{readers};
-ghost use Rattle.rules.specs.Types.{type-count, type-kind, type-r, type-ir, sides, encode-type};
-ghost use Rattle.types.specs.Held.{Held, Starts, Sided, Counted, kind-of, left-of, right-of};
+ghost use Rattle.rules.specs.Groups.{properties-of};
+ghost use Rattle.rules.specs.Types.{type-count, type-kind, type-r, sides, encode-type};
+ghost use Rattle.lattice.specs.Said.{said-property, said-influence};
+ghost use Rattle.types.specs.Held.{Held, Starts, Sided, Counted, kind-of, left-of, right-of, type-property, with-property};
 
-pub const TYPE_WIDTH: usize = 4;
+pub const TYPE_WIDTH: usize = 6;
 
-// Where r, ir and the byte that is 0 stand in a record, after its kind.
+// Where r, ir, the byte that is 0, c and ic stand in a record, after its kind.
 pub const R: usize = 1;
 
 pub const IR: usize = 2;
 
 pub const ZERO: usize = 3;
+
+pub const C: usize = 4;
+
+pub const IC: usize = 5;
 
 pub const TYPE_LIMIT: usize = 63;
 
@@ -52,11 +61,26 @@ pub fn reader_at(types: &[u8], i: usize) -> Reader
     Reader(types[TYPE_WIDTH * i + R])
 }
 
-pub fn indirect_at(types: &[u8], i: usize) -> Indirect
+pub fn property_at(types: &[u8], i: usize) -> Property
     requires { ⌜ i < type-count (now types) ⌝ }
-    ensures { λ a. ⌜ a .0 ≡ type-ir (now (types .entry)) i ⌝ }
+    ensures { λ a. ⌜ said-property a ≡ type-property (now (types .entry)) i ⌝ }
 {
-    Indirect(types[TYPE_WIDTH * i + IR])
+    let r = reader_at(types, i);
+    let ir = Indirect(types[TYPE_WIDTH * i + IR]);
+    let c = Creator(types[TYPE_WIDTH * i + C]);
+    let ic = IndirectCreator(types[TYPE_WIDTH * i + IC]);
+    Property { r, ir, c, ic }
+}
+
+// A new property for record i.
+pub fn put_property(types: &mut [u8], i: usize, property: Property)
+    requires { ⌜ i < type-count (now types) ⌝ }
+    ensures { λ _. ⌜ now (types .exit) ≡ with-property (now (types .entry)) i (said-property property) ⌝ }
+{
+    types[TYPE_WIDTH * i + R] = property.r.0;
+    types[TYPE_WIDTH * i + IR] = property.ir.0;
+    types[TYPE_WIDTH * i + C] = property.c.0;
+    types[TYPE_WIDTH * i + IC] = property.ic.0;
 }
 
 // How many sides a kind is followed by.
@@ -93,11 +117,11 @@ pub fn reader(s: &[u8]) -> Reader
     reader_at(s, 0)
 }
 
-pub fn indirect(s: &[u8]) -> Indirect
+pub fn property(s: &[u8]) -> Property
     requires { ⌜ Starts (now s) ⌝ }
-    ensures { λ a. ⌜ ((t : Ty) → Held (now (s .entry)) t → a .0 ≡ top t .ir) ⌝ }
+    ensures { λ a. ⌜ ((t : Ty) → Held (now (s .entry)) t → said-property a ≡ top t) ⌝ }
 {
-    indirect_at(s, 0)
+    property_at(s, 0)
 }
 
 // The record count of the type that s starts with: one pass with a pending count.
@@ -133,15 +157,13 @@ pub fn right_side(s: &[u8], n: usize) -> &[u8]
     &s[at..]
 }
 
-// s • ir: joined into r and ir of the first record, and nowhere deeper.
-pub fn raise(groups: &[u8], s: &mut [u8], by: Indirect)
+// s • (ir, ic): joined into r and ir of the first record and met into its c and ic, and nowhere deeper.
+pub fn raise(groups: &[u8], s: &mut [u8], by: Influence)
     requires { ⌜ Starts (now s) ⌝ }
     ensures { λ _. ⌜ ((t : Ty) (h : Held (now (s .entry)) t)
-        → now (s .exit) ≡ encode-type (raiseT (readers (now (groups .entry))) t (by .0)) ++ h .rest)
+        → now (s .exit) ≡ encode-type (raiseT (properties-of (now (groups .entry))) t (said-influence by)) ++ h .rest)
         × (length (now (s .exit)) ≡ length (now (s .entry))) ⌝ }
 {
-    let r = reader(s).joined(groups, by);
-    let ir = indirect(s).joined(groups, by);
-    s[R] = r.0;
-    s[IR] = ir.0;
+    let raised = property(s).raised(groups, by);
+    put_property(s, 0, raised);
 }
