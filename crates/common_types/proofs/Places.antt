@@ -1,26 +1,37 @@
--- A type that stands at a record of a buffer: its first record's fields, that record written over, and where its sides stand.
-use mathlib.Core.Path.{_≡_, ap, ap₂, sym, _∙_}
-use Prim.Native.Nat.{ℕ, _+_, _*_, _≤_, _<_}
+-- A type that stands at a record of a buffer: its kind and its property, its first record written over, and where its sides stand.
+use mathlib.Core.Path.{_≡_, refl, ap, ap₂, sym, _∙_}
+use mathlib.Core.List.{[], _∷_, _++_}
+use Prim.Native.Nat.{ℕ, zero, suc, _+_, _*_, _≤_, _<_}
 use native.Mathlib.Omega.{arith}
-use lib.ListN.{length, getD, drop, set, length-drop}
-use lib.Seq.{getD-drop, drop-drop, set-getD, getD-set-other}
-use Rattle.calculus.specs.Security.{Security}
+use lib.ListN.{length, take, drop, set, length-drop}
+use lib.Seq.{getD-drop, drop-drop}
+use Rattle.calculus.specs.Security.{Property, Security}
 use Rattle.calculus.specs.Subtyping.{Direction}
 use Rattle.calculus.specs.Common.{bound}
 use Rattle.calculus.specs.Types.{Ty, one, node, top, sizeT}
 use Rattle.rules.specs.Answer.{Bytes, byte}
 use Rattle.rules.specs.Limits.{type-width}
-use Rattle.rules.specs.Types.{type-count, type-kind, type-r, type-ir, type-zero, type-record, encode-type}
+use Rattle.rules.specs.Types.{type-count, type-kind, former-kind, type-record, encode-type}
 use Rattle.memory.specs.Splice.{splice}
-use Rattle.memory.proofs.Laws.{four}
-use Rattle.types.specs.Held.{Held, kind-of, left-of, right-of}
+use Rattle.types.specs.Held.{Held, kind-of, left-of, right-of, type-property, with-property}
 use Rattle.common_types.specs.Walks.{At, Two-types, common-record}
-use Rattle.types.proofs.Parts.{held-length, type-positive, kind-is, reader-is, indirect-is, left-held, right-held}
+use Rattle.types.proofs.Parts.{held-length, type-positive, kind-is, property-is, left-held, right-held}
 
-zero-is : {s : Bytes} (t : Ty) → Held s t → byte s 3 ≡ 0
+-- four stores past the front
+shifted : (n : ℕ) (w : Bytes) (k : Property) → n ≤ length w
+    → set (set (set (set w (suc n) (k .r)) (suc (suc n)) (k .ir)) (suc (suc (suc (suc n)))) (k .c)) (suc (suc (suc (suc (suc n))))) (k .ic)
+    ≡ take n w ++ with-property (drop n w) 0 k
+shifted zero w k l = refl
+shifted (suc n) [] k l = absurd (omega arith)
+shifted (suc n) (x ∷ w) k l = ap (λ (b : Bytes). x ∷ b) (shifted n w k (omega arith))
+
+-- the first record with another property
+over : {s : Bytes} (t : Ty) (k : Property) → Held s t → with-property s 0 k ≡ type-record (kind-of t) k ++ drop type-width s
 unfolding encode-type
-zero-is (one k) h = ap (λ l. byte l 3) (h .is)
-zero-is (node f k a b) h = ap (λ l. byte l 3) (h .is)
+over (one l) k h =
+    ap (λ (b : Bytes). with-property b 0 k) (h .is) ∙ ap (λ (b : Bytes). type-record 0 k ++ drop type-width b) (sym (h .is))
+over (node f l a b) k h =
+    ap (λ (b : Bytes). with-property b 0 k) (h .is) ∙ ap (λ (b : Bytes). type-record (former-kind f) k ++ drop type-width b) (sym (h .is))
 
 -- a type stands where the same bytes stand
 pub at-same : {w w′ : Bytes} {i : ℕ} {t : Ty} → drop (type-width * i) w′ ≡ drop (type-width * i) w → At w i t → At w′ i t
@@ -38,29 +49,21 @@ module _ {w : Bytes} {i : ℕ} {t : Ty} (h : At w i t) where
       let z : type-width * i + 0 ≡ type-width * i = omega arith in
       ap (byte w) (sym z) ∙ sym (getD-drop (type-width * i) w 0 0) ∙ kind-is t (h .held)
 
-  pub reader-here : type-r w i ≡ top t .r
-  reader-here = sym (getD-drop (type-width * i) w 1 0) ∙ reader-is t (h .held)
+  pub property-here : type-property w i ≡ top t
+  property-here =
+      let there : (j : ℕ) → byte w (type-width * i + j) ≡ byte (drop (type-width * i) w) j = λ j. sym (getD-drop (type-width * i) w j 0) in
+      (λ j. record { r = there 1 j; ir = there 2 j; c = there 4 j; ic = there 5 j }) ∙ property-is t (h .held)
 
-  pub indirect-here : type-ir w i ≡ top t .ir
-  indirect-here = sym (getD-drop (type-width * i) w 2 0) ∙ indirect-is t (h .held)
-
-  zero-here : type-zero w i ≡ 0
-  zero-here = sym (getD-drop (type-width * i) w 3 0) ∙ zero-is t (h .held)
-
-  -- r and ir stored: the first record with another property
-  pub record-over : (r ir : ℕ)
-      → set (set w (type-width * i + 1) r) (type-width * i + 2) ir ≡ splice (type-width * i) (type-record (kind-of t) (record { r = r; ir = ir })) w
-  record-over r ir =
-      let k = type-width * i in
-      let w′ = set (set w (k + 1) r) (k + 2) ir in
-      let z : getD w′ (k + 3) 0 ≡ 0 =
-      getD-set-other (set w (k + 1) r) (k + 2) (k + 3) ir 0 (λ e. omega arith)
-      ∙ getD-set-other w (k + 1) (k + 3) r 0 (λ e. omega arith)
-      ∙ zero-here in
-      sym (set-getD w′ (k + 3) 0)
-      ∙ ap (set w′ (k + 3)) z
-      ∙ ap (λ (l : Bytes). set (set (set l (k + 1) r) (k + 2) ir) (k + 3) 0) (sym (set-getD w k 0) ∙ ap (set w k) kind-here)
-      ∙ four k w (kind-of t) r ir (omega (arith, room, type-positive t))
+  -- its first record with another property
+  pub record-over : (k : Property) → with-property w i k ≡ splice (type-width * i) (type-record (kind-of t) k) w
+  record-over k =
+      let n = type-width * i in
+      let a : n + 1 ≡ suc n = omega arith in
+      let b : n + 2 ≡ suc (suc n) = omega arith in
+      let c : n + 4 ≡ suc (suc (suc (suc n))) = omega arith in
+      let d : n + 5 ≡ suc (suc (suc (suc (suc n)))) = omega arith in
+      rw (a, b, c, d) (shifted n w k (omega (arith, room)))
+      ∙ ap (λ (b : Bytes). take n w ++ b) (over t k (h .held) ∙ ap (λ (b : Bytes). type-record (kind-of t) k ++ b) (drop-drop type-width n w))
 
   module _ (two : kind-of t ≡ 0 → ⊥) where
     pub left-at : At w (i + 1) (left-of t)
@@ -77,9 +80,9 @@ pub both-there : {w : Bytes} {at other : ℕ} → Two-types w at other → (at <
 both-there p = (in-range (p .first-at), in-range (p .second-at))
 
 -- two types' first records: the common one, stored over the first
-pub record-wrote : (S : Security) (d : Direction) {w w′ : Bytes} {at other : ℕ} (p : Two-types w at other) {r ir : ℕ}
-    → w′ ≡ set (set w (type-width * at + 1) r) (type-width * at + 2) ir
-    → r ≡ bound S d (top (p .first)) (top (p .second)) .r → ir ≡ bound S d (top (p .first)) (top (p .second)) .ir
-    → w′ ≡ splice (type-width * at) (common-record S d p) w
-record-wrote S d {w} {at = at} p g e f =
-    g ∙ ap₂ (λ (x y : ℕ). set (set w (type-width * at + 1) x) (type-width * at + 2) y) e f ∙ record-over (p .first-at) _ _
+pub record-wrote : (S : Security) (d : Direction) {w : Bytes} {at other : ℕ} (p : Two-types w at other) {k l m : Property}
+    → m ≡ bound S d k l → k ≡ type-property w at → l ≡ type-property w other
+    → with-property w at m ≡ splice (type-width * at) (common-record S d p) w
+record-wrote S d {w} {at = at} p e f g =
+    ap (with-property w at) (e ∙ ap₂ (bound S d) (f ∙ property-here (p .first-at)) (g ∙ property-here (p .second-at)))
+    ∙ record-over (p .first-at) _

@@ -1,21 +1,14 @@
 // The least type at or above two types, and the greatest at or below both: two walks, which call each other at functions. Both
 // types stand in one lent buffer, and the common one is written over the first.
 
-use lattice::Indirect;
-use lattice::Reader;
 use types::FUNCTION;
-use types::IR;
-use types::R;
-use types::TYPE_WIDTH;
 use types::UNIT;
 ghost use mathlib.Core.Path.{_≡_};
-ghost use Prim.Native.Nat.{_+_, _*_, _<_};
-ghost use lib.ListN.{set};
+ghost use Prim.Native.Nat.{_*_};
 ghost use Rattle.calculus.specs.Subtyping.{below, above};
 ghost use Rattle.calculus.specs.Common.{common};
 ghost use Rattle.rules.specs.Limits.{type-width};
-ghost use Rattle.rules.specs.Groups.{readers};
-ghost use Rattle.rules.specs.Types.{type-count};
+ghost use Rattle.rules.specs.Groups.{properties-of};
 ghost use Rattle.memory.specs.Splice.{splice};
 ghost use Rattle.common_types.specs.Walks.{Two-types, common-record, Walked};
 
@@ -25,35 +18,24 @@ pub enum Common {
     Apart,
 }
 
-// A new r and ir for record i.
-fn put(w: &mut [u8], i: usize, r: Reader, ir: Indirect)
-    requires { ⌜ i < type-count (now w) ⌝ }
-    ensures { λ _. ⌜ now (w .exit) ≡ set (set (now (w .entry)) (type-width * i + 1) (r .0)) (type-width * i + 2) (ir .0) ⌝ }
-{
-    w[TYPE_WIDTH * i + R] = r.0;
-    w[TYPE_WIDTH * i + IR] = ir.0;
-}
-
-// The joins of r and of ir, in the first record of the first type.
+// The join of the properties, in the first record of the first type.
 fn join_first(groups: &[u8], w: &mut [u8], at: usize, other: usize)
     requires { ⌜ Two-types (now w) at other ⌝ }
     ensures { λ _. ⌜ ((p : Two-types (now (w .entry)) at other)
-        → now (w .exit) ≡ splice (type-width * at) (common-record (readers (now (groups .entry))) below p) (now (w .entry))) ⌝ }
+        → now (w .exit) ≡ splice (type-width * at) (common-record (properties-of (now (groups .entry))) below p) (now (w .entry))) ⌝ }
 {
-    let r = types::reader_at(w, at).join(groups, types::reader_at(w, other));
-    let ir = types::indirect_at(w, at).joined(groups, types::indirect_at(w, other));
-    put(w, at, r, ir);
+    let own = types::property_at(w, at).join(groups, types::property_at(w, other));
+    types::put_property(w, at, own);
 }
 
-// The meets of r and of ir, in the first record of the first type.
+// The meet of the properties, in the first record of the first type.
 fn meet_first(groups: &[u8], w: &mut [u8], at: usize, other: usize)
     requires { ⌜ Two-types (now w) at other ⌝ }
     ensures { λ _. ⌜ ((p : Two-types (now (w .entry)) at other)
-        → now (w .exit) ≡ splice (type-width * at) (common-record (readers (now (groups .entry))) above p) (now (w .entry))) ⌝ }
+        → now (w .exit) ≡ splice (type-width * at) (common-record (properties-of (now (groups .entry))) above p) (now (w .entry))) ⌝ }
 {
-    let r = types::reader_at(w, at).meet(groups, types::reader_at(w, other));
-    let ir = types::indirect_at(w, at).meet(groups, types::indirect_at(w, other));
-    put(w, at, r, ir);
+    let own = types::property_at(w, at).meet(groups, types::property_at(w, other));
+    types::put_property(w, at, own);
 }
 
 // The least type at or above the types at records `at` and `other`; of a function's left sides, the greatest at or below both. Types
@@ -62,7 +44,7 @@ fn meet_first(groups: &[u8], w: &mut [u8], at: usize, other: usize)
 pub fn least_above(groups: &[u8], w: &mut [u8], at: usize, other: usize) -> Common
     requires { ⌜ Two-types (now w) at other ⌝ }
     ensures { λ a. ⌜ ((p : Two-types (now (w .entry)) at other)
-        → Walked (common (readers (now (groups .entry))) below (p .first) (p .second)) (p .first) at
+        → Walked (common (properties-of (now (groups .entry))) below (p .first) (p .second)) (p .first) at
         (now (w .entry)) a (now (w .exit))) ⌝ }
 {
     let lower_kind = types::kind_at(w, at);
@@ -94,7 +76,7 @@ pub fn least_above(groups: &[u8], w: &mut [u8], at: usize, other: usize) -> Comm
 pub fn greatest_below(groups: &[u8], w: &mut [u8], at: usize, other: usize) -> Common
     requires { ⌜ Two-types (now w) at other ⌝ }
     ensures { λ a. ⌜ ((p : Two-types (now (w .entry)) at other)
-        → Walked (common (readers (now (groups .entry))) above (p .first) (p .second)) (p .first) at
+        → Walked (common (properties-of (now (groups .entry))) above (p .first) (p .second)) (p .first) at
         (now (w .entry)) a (now (w .exit))) ⌝ }
 {
     let upper_kind = types::kind_at(w, at);

@@ -1,29 +1,28 @@
 -- A loop that strips a list from the front, one store a turn.
 use mathlib.Core.Path.{_≡_, sym, ap, _∙_}
-use mathlib.Core.Bool.{cond, _||_}
+use mathlib.Core.Bool.{cond}
 use mathlib.Core.List.{[], _∷_, _++_, append-assoc, append-nil}
 use Prim.Native.Nat.{ℕ, zero, suc, _+_, _%_, _<_}
 use native.Mathlib.Numerals.{add-one}
 use native.Mathlib.Nat.{add-zero, zero-add}
 use native.Mathlib.Omega.{arith}
-use lib.Dec.{eqb}
 use lib.ListN.{length, take, drop, set, getD}
 use lib.Seq.{take-suc, drop-cons, set-at, getD-at, length-take-le, take-all, drop-length}
 use Rattle.rules.specs.Answer.{Bytes}
-use Rattle.rules.specs.Strip.{strip-from}
+use Rattle.rules.specs.Strip.{group-byte, strip-from}
 use Rattle.rules.proofs.Strip.{strip-length}
 
 strip-at-from : (w j : ℕ) (s : Bytes) (i : ℕ) → i < length s
-    → getD (strip-from w j s) i 0 ≡ cond (eqb ((j + i) % w) 1 || eqb ((j + i) % w) 2) 0 (getD s i 0)
+    → getD (strip-from w j s) i 0 ≡ cond (group-byte w ((j + i) % w)) 0 (getD s i 0)
 unfolding strip-from
 strip-at-from w j [] i l = absurd (omega arith)
-strip-at-from w j (b ∷ s) zero l = ap (λ x. cond (eqb (x % w) 1 || eqb (x % w) 2) 0 b) (sym (add-zero j))
+strip-at-from w j (b ∷ s) zero l = ap (λ x. cond (group-byte w (x % w)) 0 b) (sym (add-zero j))
 strip-at-from w j (b ∷ s) (suc i) l =
     let p : suc j + i ≡ j + suc i = omega arith in
-    strip-at-from w (suc j) s i (omega arith) ∙ ap (λ x. cond (eqb (x % w) 1 || eqb (x % w) 2) 0 (getD s i 0)) p
+    strip-at-from w (suc j) s i (omega arith) ∙ ap (λ x. cond (group-byte w (x % w)) 0 (getD s i 0)) p
 
-pub strip-at : (w : ℕ) (s : Bytes) (i : ℕ) → i < length s → getD (strip-from w 0 s) i 0 ≡ cond (eqb (i % w) 1 || eqb (i % w) 2) 0 (getD s i 0)
-strip-at w s i l = strip-at-from w 0 s i l ∙ ap (λ x. cond (eqb (x % w) 1 || eqb (x % w) 2) 0 (getD s i 0)) (zero-add i)
+pub strip-at : (w : ℕ) (s : Bytes) (i : ℕ) → i < length s → getD (strip-from w 0 s) i 0 ≡ cond (group-byte w (i % w)) 0 (getD s i 0)
+strip-at w s i l = strip-at-from w 0 s i l ∙ ap (λ x. cond (group-byte w (x % w)) 0 (getD s i 0)) (zero-add i)
 
 -- the bytes before n are those of t, the others those of d
 abbrev pub stored : ℕ → Bytes → Bytes → Bytes
@@ -41,12 +40,12 @@ store-more n t d e l =
 
 -- one store
 pub strip-more : (w n v : ℕ) (s d : Bytes) → n < length d → s ≡ stored n (strip-from w 0 d) d
-    → v ≡ cond (eqb (n % w) 1 || eqb (n % w) 2) 0 (getD s n 0) → set s n v ≡ stored (n + 1) (strip-from w 0 d) d
+    → v ≡ cond (group-byte w (n % w)) 0 (getD s n 0) → set s n v ≡ stored (n + 1) (strip-from w 0 d) d
 strip-more w n v s d l p q =
     let t = strip-from w 0 d in
     let e = strip-length w 0 d in
     let same : v ≡ getD t n 0 =
-    q ∙ ap (λ x. cond (eqb (n % w) 1 || eqb (n % w) 2) 0 x) (ap (λ x. getD x n 0) p ∙ not-yet n t d e l) ∙ sym (strip-at w d n l)
+    q ∙ ap (λ x. cond (group-byte w (n % w)) 0 x) (ap (λ x. getD x n 0) p ∙ not-yet n t d e l) ∙ sym (strip-at w d n l)
     in
     ap (λ x. set x n v) p ∙ ap (λ x. set (stored n t d) n x) same ∙ store-more n t d e l
 

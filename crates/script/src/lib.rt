@@ -1,4 +1,4 @@
-// Questions 13 to 17 of a script, one function each.
+// Questions 13 to 17 and 36 of a script, one function each.
 
 use answer::Checked;
 use records::Ended;
@@ -12,10 +12,10 @@ ghost use mathlib.Core.Path.{_≡_};
 ghost use mathlib.Core.Bool.{not};
 ghost use mathlib.Core.List.{[], _∷_};
 ghost use Prim.Native.Nat.{_<_};
-ghost use lib.Dec.{eqb};
+ghost use lib.Dec.{eqb, ltb};
 ghost use Rattle.rules.specs.Answer.{_⇒_};
 ghost use Rattle.rules.specs.Types.{type-kind};
-ghost use Rattle.rules.specs.Script.{records, ok14, ok15, ok16, q13, q14, q15, q16, q17};
+ghost use Rattle.rules.specs.Script.{records, is-object, ok14, ok15, ok36-object, ok16, q13, q14, q15, q36-objects, q16, q17};
 ghost use Rattle.answer.specs.Said.{said};
 
 pub const SCRIPT_LIMIT: usize = 8192;
@@ -57,10 +57,13 @@ fn fields_right(script: &[u8], i: usize) -> bool
 {
     let k = records::kind(script, i);
     let f = records::signature_of(k);
-    let r = zero_unless(f.reader, records::word(records::reader(script, i).0));
-    let ir = zero_unless(f.indirect, records::word(records::indirect(script, i).0));
+    let p = records::property(script, i);
+    let r = zero_unless(f.r, records::word(p.r.0));
+    let ir = zero_unless(f.ir, records::word(p.ir.0));
     let n = zero_unless(f.number, records::number(script, i));
-    (k <= RECURSION) & ((records::zero_byte(script, i) == 0) & (r & (ir & n)))
+    let c = zero_unless(f.c, records::word(p.c.0));
+    let ic = zero_unless(f.ic, records::word(p.ic.0));
+    (k <= RECURSION) & ((records::zero_byte(script, i) == 0) & (r & (ir & (n & (c & ic)))))
 }
 
 // 14. Kind at most 11, unnamed fields 0?
@@ -78,20 +81,34 @@ pub fn question_14(script: &[u8]) -> Checked
     Checked::Passed
 }
 
-// Are the named groups of record i in the table, and for kinds 1 to 5 ir ⊑ r?
+// Is a group in a table of this many rows, where it is named?
+fn in_table_if(named: bool, group: u8, count: usize) -> bool
+    ensures { λ a. ⌜ a ≡ (named ⇒ ltb group count) ⌝ }
+{
+    answer::below_if(named, records::wide(group), count)
+}
+
+// Kinds 1 to 5.
+fn is_object(kind: u8) -> bool
+    ensures { λ a. ⌜ a ≡ is-object kind ⌝ }
+{
+    (UNIT <= kind) & (kind <= SECOND_INJECTION)
+}
+
+// Are the named groups of record i in the table, and is ir ⊑ r in an object's?
 fn groups_right(groups: &[u8], script: &[u8], i: usize) -> bool
     requires { ⌜ i < records (now script) ⌝ }
     ensures { λ a. ⌜ a ≡ ok15 (now (groups .entry)) (now (script .entry)) i ⌝ }
 {
     let k = records::kind(script, i);
     let f = records::signature_of(k);
-    let r = records::reader(script, i);
-    let ir = records::indirect(script, i);
+    let p = records::property(script, i);
     let n = lattice::row_count(groups);
-    let secure = ir.within(groups, r);
-    let asked = (UNIT <= k) & (k <= SECOND_INJECTION);
-    answer::below_if(f.reader, records::wide(r.0), n)
-        & (answer::below_if(f.indirect, records::wide(ir.0), n) & (!asked | secure))
+    let r = in_table_if(f.r, p.r.0, n);
+    let ir = in_table_if(f.ir, p.ir.0, n);
+    let c = in_table_if(f.c, p.c.0, n);
+    let ic = in_table_if(f.ic, p.ic.0, n);
+    r & (ir & (c & (ic & (!is_object(k) | p.ir.within(groups, p.r)))))
 }
 
 // 15. Named groups in table, and for kinds 1 to 5 ir ⊑ r?
@@ -103,6 +120,30 @@ pub fn question_15(groups: &[u8], script: &[u8]) -> Checked
     while i < n {
         if !groups_right(groups, script, i) {
             return Checked::Refused(15, i);
+        }
+        i += 1;
+    }
+    Checked::Passed
+}
+
+// Is ic ⊑ c, where record i is an object's?
+fn creators_right(groups: &[u8], script: &[u8], i: usize) -> bool
+    requires { ⌜ i < records (now script) ⌝ }
+    ensures { λ a. ⌜ a ≡ ok36-object (now (groups .entry)) (now (script .entry)) i ⌝ }
+{
+    let p = records::property(script, i);
+    !is_object(records::kind(script, i)) | p.ic.within(groups, p.c)
+}
+
+// 36. For kinds 1 to 5, ic ⊑ c?
+pub fn question_36(groups: &[u8], script: &[u8]) -> Checked
+    ensures { λ a. ⌜ said a ≡ q36-objects (now (groups .entry)) (now (script .entry)) ⌝ }
+{
+    let n = records::record_count(script);
+    let mut i: usize = 0;
+    while i < n {
+        if !creators_right(groups, script, i) {
+            return Checked::Refused(36, i);
         }
         i += 1;
     }

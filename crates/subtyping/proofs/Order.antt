@@ -15,6 +15,7 @@ use Rattle.calculus.specs.Types.{Former, sum, product, function, Ty, one, node,
 use Rattle.calculus.specs.Subtyping.{Direction, below, above, opposite, leftward, le-toward, subtype}
 use Rattle.calculus.proofs.Subtyping.{subtype-sound, subtype-opposite, subtype-size}
 use Rattle.rules.specs.Answer.{Bytes}
+use Rattle.rules.specs.Limits.{type-width}
 use Rattle.rules.specs.Types.{former-kind}
 use Rattle.rules.specs.Comparison.{equal-properties, equal-types}
 use Rattle.subtyping.specs.declared.Compared.{Compared}
@@ -237,7 +238,7 @@ module _ {S : Security} {d : Direction} {a b : Bytes} {f : Bool} {x : Compared} 
         pub all-related : {z : Bool} → z ≡ f && (v && w) → (s t : Ty) → Held a s → Held b t → Related z (1 + (n + m)) ≡ compared S d s t
         all-related k s t p q = ap (λ b. Related b (1 + (n + m))) k ∙ ap₂ (both f) (sym e) (sym g) ∙ answer s t p q (r s t p q)
 
-        pub bounded : 4 * (1 + (n + m)) ≤ length a
+        pub bounded : type-width * (1 + (n + m)) ≤ length a
         bounded =
             let l = h .sided-l in
             let k = h .sided-r in

@@ -1,5 +1,6 @@
 // Same, below or neither: two walks over two types, which call each other at functions.
 
+use lattice::Property;
 use types::FUNCTION;
 use types::UNIT;
 ghost use mathlib.Core.Path.{_≡_};
@@ -7,8 +8,9 @@ ghost use mathlib.Core.Bool.{_&&_};
 ghost use lib.Dec.{eqb};
 ghost use Rattle.calculus.specs.Types.{Ty, top};
 ghost use Rattle.calculus.specs.Subtyping.{subtype, below, above};
-ghost use Rattle.rules.specs.Groups.{readers};
+ghost use Rattle.rules.specs.Groups.{properties-of};
 ghost use Rattle.rules.specs.Comparison.{equal-properties};
+ghost use Rattle.lattice.specs.Said.{said-property};
 ghost use Rattle.types.specs.Held.{Held, Starts, kind-of};
 ghost use Rattle.subtyping.specs.Compared.{compared};
 
@@ -18,25 +20,30 @@ pub enum Compared {
     Neither,
 }
 
-// Are the first records of one kind, with r ⊑ r′ and ir ⊑ ir′?
+// Are the first records of one kind, and is the first one's property at or below the other's?
 fn first_below(groups: &[u8], lower: &[u8], upper: &[u8]) -> bool
     requires { ⌜ Starts (now lower) × Starts (now upper) ⌝ }
     ensures { λ a. ⌜ ((s t : Ty) → Held (now (lower .entry)) s → Held (now (upper .entry)) t
-        → a ≡ (eqb (kind-of s) (kind-of t) && readers (now (groups .entry)) .le (top s) (top t))) ⌝ }
+        → a ≡ (eqb (kind-of s) (kind-of t) && properties-of (now (groups .entry)) .le (top s) (top t))) ⌝ }
 {
     types::kind(lower) == types::kind(upper)
-        && (types::reader(lower).at_or_below(groups, types::reader(upper))
-            && types::indirect(lower).at_or_below(groups, types::indirect(upper)))
+        && types::property(lower).at_or_below(groups, types::property(upper))
 }
 
-// Have the first records, of one kind, the same r and the same ir?
+// Have two properties the same four groups?
+fn same_groups(k: Property, l: Property) -> bool
+    ensures { λ a. ⌜ a ≡ equal-properties (said-property k) (said-property l) ⌝ }
+{
+    k.r.0 == l.r.0 && (k.ir.0 == l.ir.0 && (k.c.0 == l.c.0 && k.ic.0 == l.ic.0))
+}
+
+// Have the first records, of one kind, the same property?
 fn first_same(lower: &[u8], upper: &[u8]) -> bool
     requires { ⌜ Starts (now lower) × Starts (now upper) ⌝ }
     ensures { λ a. ⌜ ((s t : Ty) → Held (now (lower .entry)) s → Held (now (upper .entry)) t
         → a ≡ equal-properties (top s) (top t)) ⌝ }
 {
-    types::reader(lower).0 == types::reader(upper).0
-        && types::indirect(lower).0 == types::indirect(upper).0
+    same_groups(types::property(lower), types::property(upper))
 }
 
 // Is it so of the first records and of both sides?
@@ -51,7 +58,7 @@ fn throughout(first: bool, left: bool, right: bool) -> bool
 pub fn at_or_below(groups: &[u8], lower: &[u8], upper: &[u8]) -> Compared
     requires { ⌜ Starts (now lower) × Starts (now upper) ⌝ }
     ensures { λ a. ⌜ ((s t : Ty) → Held (now (lower .entry)) s → Held (now (upper .entry)) t
-        → a ≡ compared (readers (now (groups .entry))) below s t) ⌝ }
+        → a ≡ compared (properties-of (now (groups .entry))) below s t) ⌝ }
 {
     if !first_below(groups, lower, upper) {
         return Compared::Neither;
@@ -84,7 +91,7 @@ pub fn at_or_below(groups: &[u8], lower: &[u8], upper: &[u8]) -> Compared
 pub fn at_or_above(groups: &[u8], upper: &[u8], lower: &[u8]) -> Compared
     requires { ⌜ Starts (now upper) × Starts (now lower) ⌝ }
     ensures { λ a. ⌜ ((s t : Ty) → Held (now (upper .entry)) s → Held (now (lower .entry)) t
-        → a ≡ compared (readers (now (groups .entry))) above s t) ⌝ }
+        → a ≡ compared (properties-of (now (groups .entry))) above s t) ⌝ }
 {
     if !first_below(groups, lower, upper) {
         return Compared::Neither;
@@ -117,7 +124,7 @@ pub fn at_or_above(groups: &[u8], upper: &[u8], lower: &[u8]) -> Compared
 pub fn is_subtype(groups: &[u8], lower: &[u8], upper: &[u8]) -> bool
     requires { ⌜ Starts (now lower) × Starts (now upper) ⌝ }
     ensures { λ a. ⌜ ((s t : Ty) → Held (now (lower .entry)) s → Held (now (upper .entry)) t
-        → a ≡ subtype (readers (now (groups .entry))) below s t) ⌝ }
+        → a ≡ subtype (properties-of (now (groups .entry))) below s t) ⌝ }
 {
     let x = at_or_below(groups, lower, upper);
     match x {

@@ -1,4 +1,4 @@
-// Questions 2 to 19 in order, and the subterm look-up.
+// Questions 2 to 19 in order, with 36 after 10 and after 15, and the subterm look-up.
 
 use answer::Checked;
 use records::Ended;
@@ -26,7 +26,7 @@ pub fn shape_check(script: &[u8]) -> Checked
     script::question_17(script)
 }
 
-// Questions 14 to 19, in order.
+// Questions 14 to 19, in order, with 36 after 15.
 fn later_check(groups: &[u8], types: &[u8], script: &[u8]) -> Checked
     requires { ⌜ q13 [] (now script) ≡ accepted tt ⌝ }
     ensures { λ a. ⌜ said a ≡ later-check (now (groups .entry)) (now (types .entry)) (now (script .entry)) ⌝ }
@@ -38,6 +38,10 @@ fn later_check(groups: &[u8], types: &[u8], script: &[u8]) -> Checked
     let a15 = script::question_15(groups, script);
     let Checked::Passed = a15 else {
         return a15;
+    };
+    let a36 = script::question_36(groups, script);
+    let Checked::Passed = a36 else {
+        return a36;
     };
     let a16 = script::question_16(types, script);
     let Checked::Passed = a16 else {

@@ -1,4 +1,4 @@
--- Questions 8 to 12 and 25 one after another.
+-- Questions 8 to 12, with 36 after 10, and 25 one after another.
 use mathlib.Core.Path.{_≡_, refl, ap, _∙_}
 use mathlib.Core.Bool.{Bool, true, false, cond}
 use Prim.Native.Nat.{ℕ, _≤_, _<_}
@@ -9,8 +9,8 @@ use Rattle.calculus.specs.Types.{Ty, sizeT}
 use Rattle.calculus.specs.Subtyping.{subtype}
 use Rattle.calculus.specs.Subtyping as directions
 use Rattle.rules.specs.Answer.{Bytes, Answer, accepted, refused, _>>_, first-from}
-use Rattle.rules.specs.Groups.{join, readers}
-use Rattle.rules.specs.Types.{type-count, type-at, ok9, ok10, ok11, ok12, q8, q9, q10, q11, q12}
+use Rattle.rules.specs.Groups.{join, properties-of}
+use Rattle.rules.specs.Types.{type-count, type-at, ok9, ok10, ok36-type, ok11, ok12, q8, q9, q10, q36-types, q11, q12}
 use Rattle.rules.specs.Comparison.{equal-types, Comparison, same, below, neither, comparison}
 use Rattle.rules.specs.Calls.{groups-check, types-check, q25, comparing}
 use Rattle.answer.specs.declared.Checked.{Checked}
@@ -28,10 +28,15 @@ from-11 t = do
   q11 t
   q12 t
 
+abbrev pub from-36 : Bytes → Bytes → Answer (Unit {0})
+from-36 g t = do
+  q36-types g t
+  from-11 t
+
 abbrev pub from-10 : Bytes → Bytes → Answer (Unit {0})
 from-10 g t = do
   q10 g t
-  from-11 t
+  from-36 g t
 
 abbrev pub from-9 : Bytes → Bytes → Answer (Unit {0})
 from-9 g t = do
@@ -48,7 +53,7 @@ pub past : {A : Type 0} (a : Answer (Unit {0})) (b : Answer A) {o : Answer A} �
 past a b p e = rw p e
 
 pub types-check-is : (g t : Bytes) → _>>_ (groups-check g) (from-8 g t) ≡ types-check g t
-unfolding types-check groups-check first-from ok9 ok10 ok11 ok12
+unfolding types-check groups-check first-from ok9 ok10 ok36-type ok11 ok12
 types-check-is g t = refl
 
 pub record Yes (g t : Bytes) : Type 0 where
@@ -56,6 +61,7 @@ pub record Yes (g t : Bytes) : Type 0 where
   pub to-8 : q8 t ≡ accepted tt
   pub to-9 : q9 g t ≡ accepted tt
   pub to-10 : q10 g t ≡ accepted tt
+  pub to-36 : q36-types g t ≡ accepted tt
   pub to-11 : q11 t ≡ accepted tt
   pub to-12 : q12 t ≡ accepted tt
 
@@ -64,13 +70,14 @@ all-yes g t e =
     let a = and-then (groups-check g) (from-8 g t) (types-check-is g t ∙ e) in
     let b = and-then (q8 t) (from-9 g t) (a .1) in
     let c = and-then (q9 g t) (from-10 g t) (b .1) in
-    let d = and-then (q10 g t) (from-11 t) (c .1) in
-    let f = and-then (q11 t) (q12 t) (d .1) in
-    record { to-7 = a .0; to-8 = b .0; to-9 = c .0; to-10 = d .0; to-11 = f .0; to-12 = f .1 }
+    let d = and-then (q10 g t) (from-36 g t) (c .1) in
+    let f = and-then (q36-types g t) (from-11 t) (d .1) in
+    let h = and-then (q11 t) (q12 t) (f .1) in
+    record { to-7 = a .0; to-8 = b .0; to-9 = c .0; to-10 = d .0; to-36 = f .0; to-11 = h .0; to-12 = h .1 }
 
 -- The comparison after question 12.
 abbrev pub found : Bytes → Bytes → ℕ → ℕ → Answer Comparison
-found g t i j = accepted (comparison (readers g) (type-at t i) (type-at t j))
+found g t i j = accepted (comparison (properties-of g) (type-at t i) (type-at t j))
 
 abbrev pub second-index : Bytes → Bytes → ℕ → ℕ → Answer Comparison
 second-index g t i j = do

@@ -1,6 +1,7 @@
-// A types table: questions 8 to 12, and the comparison of two of its types.
+// A types table: questions 8 to 12 and 36, and the comparison of two of its types.
 
 use answer::Checked;
+use lattice::Property;
 use subtyping::Compared;
 use types::FUNCTION;
 use types::TYPE_LIMIT;
@@ -10,7 +11,7 @@ ghost use mathlib.Core.Bool.{cond, _&&_};
 ghost use Prim.Native.Nat.{_-_, _≤_, _<_};
 ghost use lib.Dec.{eqb, ltb};
 ghost use Rattle.calculus.specs.Types.{type-limit};
-ghost use Rattle.rules.specs.Types.{type-count, ok9, ok10, q8, q9, q10, q11, q12};
+ghost use Rattle.rules.specs.Types.{type-count, ok9, ok10, ok36-type, q8, q9, q10, q36-types, q11, q12};
 ghost use Rattle.rules.specs.Calls.{types-check, comparing};
 ghost use Rattle.answer.specs.Said.{said};
 ghost use Rattle.types_table.specs.Answered.{answered, told, refusal};
@@ -38,14 +39,20 @@ pub fn question_8(types: &[u8]) -> Checked
     answer::ask(8, 0, answer::whole(types.len(), TYPE_WIDTH, TABLE_LIMIT))
 }
 
-// Has record i a kind that there is, a 0 in its last byte, and groups of the table, which has n?
+// Are the groups of a property in the table, which has n?
+fn in_table(n: usize, k: Property) -> bool
+    ensures { λ a. ⌜ a ≡ (ltb (k .r .0) n && (ltb (k .ir .0) n && (ltb (k .c .0) n && ltb (k .ic .0) n))) ⌝ }
+{
+    wide(k.r.0) < n && (wide(k.ir.0) < n && (wide(k.c.0) < n && wide(k.ic.0) < n))
+}
+
+// Has record i a kind that there is, a 0 in byte 3, and groups of the table, which has n?
 fn well_formed(n: usize, types: &[u8], i: usize) -> bool
     requires { ⌜ i < type-count (now types) ⌝ }
     ensures { λ a. ⌜ a ≡ ok9 n (now (types .entry)) i ⌝ }
 {
     types::kind_at(types, i) <= FUNCTION
-        && (types[TYPE_WIDTH * i + types::ZERO] == 0
-            && (wide(types::reader_at(types, i).0) < n && wide(types::indirect_at(types, i).0) < n))
+        && (types[TYPE_WIDTH * i + types::ZERO] == 0 && in_table(n, types::property_at(types, i)))
 }
 
 // 9. Kind at most 3, byte 3 equal to 0, groups in table?
@@ -65,11 +72,12 @@ pub fn question_9(groups: &[u8], types: &[u8]) -> Checked
 }
 
 // Is ir ⊑ r in record i?
-fn secure(groups: &[u8], types: &[u8], i: usize) -> bool
+fn readers_secure(groups: &[u8], types: &[u8], i: usize) -> bool
     requires { ⌜ i < type-count (now types) ⌝ }
     ensures { λ a. ⌜ a ≡ ok10 (now (groups .entry)) (now (types .entry)) i ⌝ }
 {
-    types::indirect_at(types, i).within(groups, types::reader_at(types, i))
+    let k = types::property_at(types, i);
+    k.ir.within(groups, k.r)
 }
 
 // 10. ir ⊑ r?
@@ -79,8 +87,32 @@ pub fn question_10(groups: &[u8], types: &[u8]) -> Checked
     let m = types::type_count(types);
     let mut i: usize = 0;
     while i < m {
-        if !secure(groups, types, i) {
+        if !readers_secure(groups, types, i) {
             return Checked::Refused(10, i);
+        }
+        i += 1;
+    }
+    Checked::Passed
+}
+
+// Is ic ⊑ c in record i?
+fn creators_secure(groups: &[u8], types: &[u8], i: usize) -> bool
+    requires { ⌜ i < type-count (now types) ⌝ }
+    ensures { λ a. ⌜ a ≡ ok36-type (now (groups .entry)) (now (types .entry)) i ⌝ }
+{
+    let k = types::property_at(types, i);
+    k.ic.within(groups, k.c)
+}
+
+// 36. ic ⊑ c? A pass of its own: a later record's 10 comes before an earlier one's 36.
+pub fn question_36(groups: &[u8], types: &[u8]) -> Checked
+    ensures { λ a. ⌜ said a ≡ q36-types (now (groups .entry)) (now (types .entry)) ⌝ }
+{
+    let m = types::type_count(types);
+    let mut i: usize = 0;
+    while i < m {
+        if !creators_secure(groups, types, i) {
+            return Checked::Refused(36, i);
         }
         i += 1;
     }
@@ -140,7 +172,7 @@ pub fn question_12(types: &[u8]) -> Checked
     Checked::Passed
 }
 
-// Questions 2 to 12, in order.
+// Questions 2 to 12 in order, with 36 directly after 10.
 pub fn types_check(groups: &[u8], types: &[u8]) -> Checked
     ensures { λ a. ⌜ said a ≡ types-check (now (groups .entry)) (now (types .entry)) ⌝ }
 {
@@ -159,6 +191,10 @@ pub fn types_check(groups: &[u8], types: &[u8]) -> Checked
     let a10 = question_10(groups, types);
     let Checked::Passed = a10 else {
         return a10;
+    };
+    let a36 = question_36(groups, types);
+    let Checked::Passed = a36 else {
+        return a36;
     };
     let a11 = question_11(types);
     let Checked::Passed = a11 else {
@@ -190,7 +226,7 @@ fn told(found: Compared) -> CompareAnswer
     CompareAnswer::Below
 }
 
-// Same, below or neither, of two type indexes: questions 2 to 12 and 25, and the walk. The indexes are compared as they come,
+// Same, below or neither, of two type indexes: questions 2 to 12, 36 and 25, and the walk. The indexes are compared as they come,
 // before they are narrowed.
 pub fn compare(groups: &[u8], types: &[u8], i: u64, j: u64) -> CompareAnswer
     ensures { λ a. ⌜ answered a ≡ comparing (now (groups .entry)) (now (types .entry)) i j ⌝ }

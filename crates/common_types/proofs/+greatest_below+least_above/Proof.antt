@@ -12,7 +12,7 @@ use Rattle.calculus.specs.Security.{Security}
 use Rattle.calculus.specs.Subtyping.{below, above}
 use Rattle.rules.specs.Answer.{Bytes}
 use Rattle.rules.specs.Limits.{type-width}
-use Rattle.rules.specs.Groups.{readers}
+use Rattle.rules.specs.Groups.{properties-of}
 use Rattle.types.specs.Held.{kind-of, left-of, right-of}
 use Rattle.common_types.specs.Walks.{Two-types, Walked}
 use Rattle.common_types.proofs.Places.{room, in-range, kind-here}
@@ -103,7 +103,7 @@ module _ (t : ℕ) where
 
   -- the call: the order, and the two types
   abbrev greatest-S : greatest-Start → Security
-  greatest-S s = readers (s .args .groups .now)
+  greatest-S s = properties-of (s .args .groups .now)
 
   abbrev greatest-Types : greatest-Start → Type 0
   greatest-Types s = Two-types (s .args .w .now) (s .args .at) (s .args .other)
@@ -354,7 +354,7 @@ module _ (t : ℕ) where
 
   -- the call: the order, and the two types
   abbrev least-S : least-Start → Security
-  least-S s = readers (s .args .groups .now)
+  least-S s = properties-of (s .args .groups .now)
 
   abbrev least-Types : least-Start → Type 0
   least-Types s = Two-types (s .args .w .now) (s .args .at) (s .args .other)

@@ -1,64 +1,43 @@
 -- `common_types::join_first` meets its contract.
-use mathlib.Core.Path.{ap₂, _∙_}
+use mathlib.Core.Path.{_∙_}
 use native.Mathlib.Omega.{arith}
 use Rattle.calculus.specs.Subtyping.{below}
-use Rattle.rules.specs.Groups.{join, readers}
-use Rattle.common_types.proofs.Places.{both-there, reader-here, indirect-here, record-wrote}
+use Rattle.rules.specs.Groups.{properties-of}
+use Rattle.common_types.proofs.Places.{both-there, record-wrote}
 use borrow.Author.Needs.{needs}
 use Rattle.common_types.proofs.join_first.Statement.{statement}
 use Rattle.common_types.proofs.join_first.Tie as tie
 
-reader-at-requires : tie.Need-reader-at-requires
-reader-at-requires c κs = omega (arith, both-there (c .before .before .before .pre))
+property-at-requires : tie.Need-property-at-requires
+property-at-requires c κs = omega (arith, both-there (c .before .before .before .pre))
 
-reader-at-requires-2 : tie.Need-reader-at-requires-2
-reader-at-requires-2 c κs = omega (arith, both-there (c .before .before .before .before .before .pre))
+property-at-requires-2 : tie.Need-property-at-requires-2
+property-at-requires-2 c κs = omega (arith, both-there (c .before .before .before .before .before .pre))
 
 join-requires : tie.Need-join-requires
 join-requires c κs = search needs
 
-indirect-at-requires : tie.Need-indirect-at-requires
-indirect-at-requires c κs = omega (arith, both-there (c .before .before .before .before .before .before .before .before .pre))
-
-indirect-at-requires-2 : tie.Need-indirect-at-requires-2
-indirect-at-requires-2 c κs = omega (arith, both-there (c .before .before .before .before .before .before .before .before .before .before .pre))
-
-joined-requires : tie.Need-joined-requires
-joined-requires c κs = search needs
-
-put-requires : tie.Need-put-requires
-put-requires c κs = omega (arith, both-there (c .before .before .before .before .before .before .before .before .before .before .before .before .before .pre))
-
--- the call
-abbrev start : tie.After-slice-known2 → tie.Start
-start c = c .before .before .before .before .before .before .before .before .before .before .before .before .before .before .before .before
+put-property-requires : tie.Need-put-property-requires
+put-property-requires c κs = omega (arith, both-there (c .before .before .before .before .before .before .before .before .pre))
 
 same-length : tie.Need-same-length
 same-length c = search needs
 
 returns : tie.Need-returns
 returns c p =
-    let o = c .before .before in
-    let i = o .before .before in
-    let r = i .before .before .before .before .before in
-    let g = start c .args .groups .now in
-    record-wrote (readers g) below p (o .put .ensures)
-    (r .join .ensures
-    ∙ ap₂ (join g) (r .before .before .before .reader-at .ensures ∙ reader-here (p .first-at)) (r .before .reader-at2 .ensures ∙ reader-here (p .second-at)))
-    (i .joined .ensures
-    ∙ ap₂ (join g) (i .before .before .before .indirect-at .ensures ∙ indirect-here (p .first-at))
-    (i .before .indirect-at2 .ensures ∙ indirect-here (p .second-at)))
+    let own = c .before .before .before .before in
+    let second = own .before in
+    let first = second .before .before in
+    c .before .before .put-property .ensures
+    ∙ record-wrote (properties-of (first .before .before .before .before .args .groups .now)) below p (own .join .ensures) (first .property-at .ensures) (second .property-at2 .ensures)
 
 pub join-first-spec : {M : Type 1} → statement M
 join-first-spec =
     tie.close
     (tie.spec
-    reader-at-requires
-    reader-at-requires-2
+    property-at-requires
+    property-at-requires-2
     join-requires
-    indirect-at-requires
-    indirect-at-requires-2
-    joined-requires
-    put-requires
+    put-property-requires
     same-length
     returns)

@@ -1,8 +1,8 @@
 -- `erasure::strip` meets its contract. The invariant: the bytes before i are stripped, the others are as they were.
 use mathlib.Core.Path.{_≡_, refl}
+use native.Mathlib.Nat.{mod-lt}
 use native.Mathlib.Omega.{arith}
 use Prim.Native.Nat.{_≤_, _-_}
-use borrow.Author.Needs.{needs}
 use lib.ListN.{length, length-set}
 use Rattle.rules.specs.Strip.{strip-from}
 use Rattle.erasure.proofs.Stripped.{stored, strip-more, all-stored}
@@ -25,7 +25,7 @@ slice-read-kept : tie.Need-slice-read-kept Inv-loop μ-loop
 slice-read-kept c = omega arith
 
 kept-requires : tie.Need-kept-requires Inv-loop μ-loop
-kept-requires c κs = search needs
+kept-requires c κs = let s = c .before .before .before .before in omega (arith, mod-lt (c .before .before .loop .i) (s .pre .0), s .pre .1)
 
 slice-write-bytes : tie.Need-slice-write-bytes Inv-loop μ-loop
 slice-write-bytes c = omega arith

@@ -11,7 +11,8 @@ use lib.ListN.{length}
 use Rattle.calculus.specs.Security.{Security}
 use Rattle.calculus.specs.Subtyping.{Direction, below, above, opposite}
 use Rattle.rules.specs.Answer.{Bytes}
-use Rattle.rules.specs.Groups.{readers}
+use Rattle.rules.specs.Limits.{type-width}
+use Rattle.rules.specs.Groups.{properties-of}
 use Rattle.calculus.specs.Types.{Ty}
 use Rattle.subtyping.specs.declared.Compared.{Compared}
 use Rattle.types.specs.Held.{Held, kind-of, left-of, right-of}
@@ -134,7 +135,7 @@ module _ (t : ℕ) where
 
   -- the call: the order, and the two parts
   abbrev above-S : above-Start → Security
-  above-S s = readers (s .args .groups .now)
+  above-S s = properties-of (s .args .groups .now)
 
   abbrev above-a : above-Start → Bytes
   above-a s = s .args .upper .now
@@ -183,7 +184,7 @@ module _ (t : ℕ) where
 
   -- the count of all the records is within the first part
   above-few : (c : above-Done)
-      → 4 * (1 + (above-half (above-right c .before) .left .given .0 .1 .0 + c .before .right .given .0 .1 .0))
+      → type-width * (1 + (above-half (above-right c .before) .left .given .0 .1 .0 + c .before .right .given .0 .1 .0))
       ≤ length (above-a (above-entry (above-left (above-right c))))
   above-few c =
       let r = above-right c in
@@ -355,7 +356,7 @@ module _ (t : ℕ) where
 
   -- the call: the order, and the two parts
   abbrev below-S : below-Start → Security
-  below-S s = readers (s .args .groups .now)
+  below-S s = properties-of (s .args .groups .now)
 
   abbrev below-a : below-Start → Bytes
   below-a s = s .args .lower .now
@@ -404,7 +405,7 @@ module _ (t : ℕ) where
 
   -- the count of all the records is within the first part
   below-few : (c : below-Done)
-      → 4 * (1 + (below-half (below-right c .before) .left .given .0 .1 .0 + c .before .right .given .0 .1 .0))
+      → type-width * (1 + (below-half (below-right c .before) .left .given .0 .1 .0 + c .before .right .given .0 .1 .0))
       ≤ length (below-a (below-entry (below-left (below-right c))))
   below-few c =
       let r = below-right c in

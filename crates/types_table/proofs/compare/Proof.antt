@@ -6,7 +6,7 @@ use lib.ListN.{drop}
 use Rattle.rules.specs.Answer.{Bytes, Answer, accepted}
 use Rattle.rules.specs.Limits.{type-width}
 use Rattle.rules.specs.Comparison.{Comparison}
-use Rattle.rules.specs.Groups.{readers}
+use Rattle.rules.specs.Groups.{properties-of}
 use Rattle.rules.specs.Types.{type-count, type-at}
 use Rattle.rules.specs.Calls.{types-check, comparing}
 use Rattle.answer.proofs.Passed.{accepts}
@@ -123,7 +123,7 @@ returns-4 c =
     let w = c .before in
     let d = w .before .before .before in
     let s = start-25 d in
-    let S = readers (groups-of s) in
+    let S = properties-of (groups-of s) in
     let lower = type-at (types-of s) (s .args .i) in
     let upper = type-at (types-of s) (s .args .j) in
     ap answered (c .told .ensures ∙ ap told (w .at-or-below .ensures lower upper (rw to-end (held-i d)) (rw to-end (held-j d))))

@@ -23,13 +23,13 @@ type-count-requires c κs = search needs
 loop-holds : tie.Need-loop-holds Inv-loop μ-loop
 loop-holds c = (omega arith, λ k l. absurd (omega arith))
 
-secure-requires : tie.Need-secure-requires Inv-loop μ-loop
-secure-requires c κs = omega arith
+readers-secure-requires : tie.Need-readers-secure-requires Inv-loop μ-loop
+readers-secure-requires c κs = omega arith
 
 returns : tie.Need-returns Inv-loop μ-loop
 returns c =
     sym
-    (each-refused 10 _ _ _ (omega arith) (c .before .before .before .loop .inv .1) (sym (c .before .secure .ensures) ∙ not-true _ (c .if1 .taken)))
+    (each-refused 10 _ _ _ (omega arith) (c .before .before .before .loop .inv .1) (sym (c .before .readers-secure .ensures) ∙ not-true _ (c .if1 .taken)))
 
 add-i : tie.Need-add-i Inv-loop μ-loop
 add-i c = omega arith
@@ -38,7 +38,7 @@ loop-less : tie.Need-loop-less Inv-loop μ-loop
 loop-less c = omega arith
 
 loop-again : tie.Need-loop-again Inv-loop μ-loop
-loop-again c = (omega arith, below-more _ _ (c .before .before .before .loop .inv .1) (sym (c .before .secure .ensures) ∙ not-false _ (c .if1 .left)))
+loop-again c = (omega arith, below-more _ _ (c .before .before .before .loop .inv .1) (sym (c .before .readers-secure .ensures) ∙ not-false _ (c .if1 .left)))
 
 returns-2 : tie.Need-returns-2 Inv-loop μ-loop
 returns-2 c = sym (each-accepted 10 _ _ (λ k l. c .before .loop .inv .1 k (omega arith)))
@@ -51,7 +51,7 @@ question-10-spec =
     μ-loop
     type-count-requires
     loop-holds
-    secure-requires
+    readers-secure-requires
     returns
     add-i
     loop-less

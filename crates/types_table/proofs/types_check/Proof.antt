@@ -1,10 +1,10 @@
 -- `types_table::types_check` meets its contract: the questions in order, each asked after a yes to those before it.
 use mathlib.Core.Path.{_≡_, _∙_}
 use Rattle.rules.specs.Answer.{Bytes, Answer}
-use Rattle.rules.specs.Types.{q8, q9, q10, q11, q12}
+use Rattle.rules.specs.Types.{q8, q9, q10, q36-types, q11, q12}
 use Rattle.rules.specs.Calls.{groups-check, types-check}
 use Rattle.answer.proofs.Passed.{accepts, stops}
-use Rattle.types_table.proofs.Questions.{from-8, from-9, from-10, from-11, past, types-check-is}
+use Rattle.types_table.proofs.Questions.{from-8, from-9, from-10, from-36, from-11, past, types-check-is}
 use borrow.Author.Needs.{needs}
 use Rattle.types_table.proofs.types_check.Statement.{statement}
 use Rattle.types_table.proofs.types_check.Tie as tie
@@ -27,8 +27,11 @@ start-9 c = start-8 (c .before .before .before)
 abbrev start-10 : tie.After-enum-told7 → tie.Start
 start-10 c = start-9 (c .before .before .before)
 
-abbrev start-11 : tie.After-enum-told9 → tie.Start
-start-11 c = start-10 (c .before .before .before)
+abbrev start-36 : tie.After-enum-told9 → tie.Start
+start-36 c = start-10 (c .before .before .before)
+
+abbrev start-11 : tie.After-enum-told11 → tie.Start
+start-11 c = start-36 (c .before .before .before)
 
 -- after a yes to a question, the answer to the later ones is the answer
 past-7 : (c : tie.After-enum-told) {o : Answer (Unit {0})} → o ≡ from-8 (groups-of (start-7 c)) (types-of (start-7 c)) → o ≡ types-check (groups-of (start-7 c)) (types-of (start-7 c))
@@ -40,11 +43,14 @@ past-8 c e = past-7 (c .before .before .before) (past (q8 (types-of (start-8 c))
 past-9 : (c : tie.After-enum-told5) {o : Answer (Unit {0})} → o ≡ from-10 (groups-of (start-9 c)) (types-of (start-9 c)) → o ≡ types-check (groups-of (start-9 c)) (types-of (start-9 c))
 past-9 c e = past-8 (c .before .before .before) (past (q9 (groups-of (start-9 c)) (types-of (start-9 c))) (from-10 (groups-of (start-9 c)) (types-of (start-9 c))) (accepts (c .before .before .question-9 .result) _ (c .before .match3 .keys1) (c .before .before .question-9 .ensures)) e)
 
-past-10 : (c : tie.After-enum-told7) {o : Answer (Unit {0})} → o ≡ from-11 (types-of (start-10 c)) → o ≡ types-check (groups-of (start-10 c)) (types-of (start-10 c))
-past-10 c e = past-9 (c .before .before .before) (past (q10 (groups-of (start-10 c)) (types-of (start-10 c))) (from-11 (types-of (start-10 c))) (accepts (c .before .before .question-10 .result) _ (c .before .match4 .keys1) (c .before .before .question-10 .ensures)) e)
+past-10 : (c : tie.After-enum-told7) {o : Answer (Unit {0})} → o ≡ from-36 (groups-of (start-10 c)) (types-of (start-10 c)) → o ≡ types-check (groups-of (start-10 c)) (types-of (start-10 c))
+past-10 c e = past-9 (c .before .before .before) (past (q10 (groups-of (start-10 c)) (types-of (start-10 c))) (from-36 (groups-of (start-10 c)) (types-of (start-10 c))) (accepts (c .before .before .question-10 .result) _ (c .before .match4 .keys1) (c .before .before .question-10 .ensures)) e)
 
-past-11 : (c : tie.After-enum-told9) {o : Answer (Unit {0})} → o ≡ q12 (types-of (start-11 c)) → o ≡ types-check (groups-of (start-11 c)) (types-of (start-11 c))
-past-11 c e = past-10 (c .before .before .before) (past (q11 (types-of (start-11 c))) (q12 (types-of (start-11 c))) (accepts (c .before .before .question-11 .result) _ (c .before .match5 .keys1) (c .before .before .question-11 .ensures)) e)
+past-36 : (c : tie.After-enum-told9) {o : Answer (Unit {0})} → o ≡ from-11 (types-of (start-36 c)) → o ≡ types-check (groups-of (start-36 c)) (types-of (start-36 c))
+past-36 c e = past-10 (c .before .before .before) (past (q36-types (groups-of (start-36 c)) (types-of (start-36 c))) (from-11 (types-of (start-36 c))) (accepts (c .before .before .question-36 .result) _ (c .before .match5 .keys1) (c .before .before .question-36 .ensures)) e)
+
+past-11 : (c : tie.After-enum-told11) {o : Answer (Unit {0})} → o ≡ q12 (types-of (start-11 c)) → o ≡ types-check (groups-of (start-11 c)) (types-of (start-11 c))
+past-11 c e = past-36 (c .before .before .before) (past (q11 (types-of (start-11 c))) (q12 (types-of (start-11 c))) (accepts (c .before .before .question-11 .result) _ (c .before .match6 .keys1) (c .before .before .question-11 .ensures)) e)
 
 groups-check-requires : tie.Need-groups-check-requires
 groups-check-requires c κs = search needs
@@ -92,10 +98,10 @@ enum-told-8 : tie.Need-enum-told-8
 enum-told-8 c = search needs
 
 returns-4 : tie.Need-returns-4
-returns-4 c = past-9 (c .before .before .before) (stops (c .before .before .question-10 .result) (q10 (groups-of (start-9 (c .before .before .before))) (types-of (start-9 (c .before .before .before)))) (from-11 (types-of (start-9 (c .before .before .before)))) (c .before .match4 .keys2) (c .before .before .question-10 .ensures))
+returns-4 c = past-9 (c .before .before .before) (stops (c .before .before .question-10 .result) (q10 (groups-of (start-9 (c .before .before .before))) (types-of (start-9 (c .before .before .before)))) (from-36 (groups-of (start-9 (c .before .before .before))) (types-of (start-9 (c .before .before .before)))) (c .before .match4 .keys2) (c .before .before .question-10 .ensures))
 
-question-11-requires : tie.Need-question-11-requires
-question-11-requires c κs = search needs
+question-36-requires : tie.Need-question-36-requires
+question-36-requires c κs = search needs
 
 enum-told-9 : tie.Need-enum-told-9
 enum-told-9 c = search needs
@@ -104,13 +110,25 @@ enum-told-10 : tie.Need-enum-told-10
 enum-told-10 c = search needs
 
 returns-5 : tie.Need-returns-5
-returns-5 c = past-10 (c .before .before .before) (stops (c .before .before .question-11 .result) (q11 (types-of (start-10 (c .before .before .before)))) (q12 (types-of (start-10 (c .before .before .before)))) (c .before .match5 .keys2) (c .before .before .question-11 .ensures))
+returns-5 c = past-10 (c .before .before .before) (stops (c .before .before .question-36 .result) (q36-types (groups-of (start-10 (c .before .before .before))) (types-of (start-10 (c .before .before .before)))) (from-11 (types-of (start-10 (c .before .before .before)))) (c .before .match5 .keys2) (c .before .before .question-36 .ensures))
+
+question-11-requires : tie.Need-question-11-requires
+question-11-requires c κs = search needs
+
+enum-told-11 : tie.Need-enum-told-11
+enum-told-11 c = search needs
+
+enum-told-12 : tie.Need-enum-told-12
+enum-told-12 c = search needs
+
+returns-6 : tie.Need-returns-6
+returns-6 c = past-36 (c .before .before .before) (stops (c .before .before .question-11 .result) (q11 (types-of (start-36 (c .before .before .before)))) (q12 (types-of (start-36 (c .before .before .before)))) (c .before .match6 .keys2) (c .before .before .question-11 .ensures))
 
 question-12-requires : tie.Need-question-12-requires
 question-12-requires c κs = search needs
 
-returns-6 : tie.Need-returns-6
-returns-6 c = past-11 (c .before) (c .question-12 .ensures)
+returns-7 : tie.Need-returns-7
+returns-7 c = past-11 (c .before) (c .question-12 .ensures)
 
 pub types-check-spec : {M : Type 1} → statement M
 types-check-spec =
@@ -132,9 +150,13 @@ types-check-spec =
     enum-told-7
     enum-told-8
     returns-4
-    question-11-requires
+    question-36-requires
     enum-told-9
     enum-told-10
     returns-5
+    question-11-requires
+    enum-told-11
+    enum-told-12
+    returns-6
     question-12-requires
-    returns-6)
+    returns-7)

@@ -1,6 +1,9 @@
--- `types_table::well_formed` meets its contract: the four tests in order.
-use borrow.Author.Tests.{le-leb, lt-leb, eq-eqb, ne-eqb, lt-ltb, le-ltb}
-use mathlib.Core.Path.{_∙_}
+-- `types_table::well_formed` meets its contract: the kind, byte 3 and the groups in order.
+use mathlib.Core.Path.{ap, _∙_}
+use mathlib.Core.Bool.{_&&_}
+use borrow.Author.Tests.{le-leb, lt-leb, eq-eqb, ne-eqb}
+use lib.Dec.{ltb}
+use Rattle.calculus.specs.Security.{Property}
 use Rattle.rules.specs.Types.{ok9}
 use borrow.Author.Needs.{needs}
 use Rattle.types_table.proofs.well_formed.Statement.{statement}
@@ -18,38 +21,31 @@ add-if2 c = search needs
 shared-slice-read-if2 : tie.Need-shared-slice-read-if2
 shared-slice-read-if2 c = search needs
 
-reader-at-requires : tie.Need-reader-at-requires
-reader-at-requires c κs = search needs
+property-at-requires : tie.Need-property-at-requires
+property-at-requires c κs = search needs
 
-wide-requires : tie.Need-wide-requires
-wide-requires c κs = search needs
-
-indirect-at-requires : tie.Need-indirect-at-requires
-indirect-at-requires c κs = search needs
-
-wide-requires-2 : tie.Need-wide-requires-2
-wide-requires-2 c κs = search needs
+in-table-requires : tie.Need-in-table-requires
+in-table-requires c κs = search needs
 
 returns : tie.Need-returns
 unfolding ok9
 returns c =
-    let r = c .before .before .before .wide .ensures ∙ c .before .before .before .before .reader-at .ensures in
-    let ir = c .wide2 .ensures ∙ c .before .indirect-at .ensures in
-    rw (← c .before .before .before .before .before .before .before .before .kind-at .ensures, le-leb _ _ (c .before .before .before .before .before .before .before .if1 .taken), eq-eqb _ _ (c .before .before .before .before .before .if2 .taken), ← r, lt-ltb _ _ (c .before .before .if3 .taken), ← ir)
+    let zero = c .before .before in
+    let kind = zero .before .before in
+    let n = kind .before .before .before .args .n in
+    rw (← kind .before .kind-at .ensures, le-leb _ _ (kind .if1 .taken), eq-eqb _ _ (zero .if2 .taken))
+    (c .in-table .ensures
+    ∙ ap (λ (k : Property). ltb (k .r) n && (ltb (k .ir) n && (ltb (k .c) n && ltb (k .ic) n))) (c .before .property-at .ensures))
 
 returns-2 : tie.Need-returns-2
 unfolding ok9
 returns-2 c =
-    let r = c .before .wide .ensures ∙ c .before .before .reader-at .ensures in
-    rw (← c .before .before .before .before .before .before .kind-at .ensures, le-leb _ _ (c .before .before .before .before .before .if1 .taken), eq-eqb _ _ (c .before .before .before .if2 .taken), ← r, le-ltb _ _ (c .if3 .left))
+    let kind = c .before .before in
+    rw (← kind .before .kind-at .ensures, le-leb _ _ (kind .if1 .taken), ne-eqb _ _ (c .if2 .left))
 
 returns-3 : tie.Need-returns-3
 unfolding ok9
-returns-3 c = rw (← c .before .before .before .kind-at .ensures, le-leb _ _ (c .before .before .if1 .taken), ne-eqb _ _ (c .if2 .left))
-
-returns-4 : tie.Need-returns-4
-unfolding ok9
-returns-4 c = rw (← c .before .kind-at .ensures, lt-leb _ _ (c .if1 .left))
+returns-3 c = rw (← c .before .kind-at .ensures, lt-leb _ _ (c .if1 .left))
 
 pub well-formed-spec : {M : Type 1} → statement M
 well-formed-spec =
@@ -59,11 +55,8 @@ well-formed-spec =
     mul-if2
     add-if2
     shared-slice-read-if2
-    reader-at-requires
-    wide-requires
-    indirect-at-requires
-    wide-requires-2
+    property-at-requires
+    in-table-requires
     returns
     returns-2
-    returns-3
-    returns-4)
+    returns-3)
