@@ -15,19 +15,21 @@ use Rattle.calculus.specs.Terms.{first, second, Term, var, unit, lam, pair, inj
 use Rattle.calculus.specs.Reduction.{unrolled}
 use Rattle.rules.specs.Answer.{Bytes}
 use Rattle.rules.specs.Limits.{script-width, script-limit}
-use Rattle.rules.specs.Groups.{join, readers}
-use Rattle.rules.specs.Types.{type-r, type-ir, type-at}
-use Rattle.rules.specs.Script.{records, kind, r, ir, number, script-record, encode, size, depth}
+use Rattle.rules.specs.Groups.{properties-of}
+use Rattle.rules.specs.Types.{type-at}
+use Rattle.rules.specs.Script.{records, kind, number, object-record, encode, size, depth}
 use Rattle.rules.proofs.Prefix.{joined}
 use Rattle.rules.proofs.PrefixLaws.{after-head}
 use Rattle.rules.proofs.TermCode.{term-code, term-head, term-head-length, term-operands, term-encode-is, two-bytes}
 use Rattle.records.specs.Kinds as kinds
 use Rattle.records.specs.Place.{At}
+use Rattle.records.specs.Labels.{property-at}
 use Rattle.records.specs.Operands.{first-operand}
 use Rattle.records.proofs.Stands.{kind-of, operands, there, stands-kind, at-first}
 use Rattle.redex.specs.Fates.{property-of, is-function, goes, wrong-kind, fate, contractum}
-use Rattle.records.proofs.Made.{number-of, number-at}
-use Rattle.redex.proofs.Places.{reader-at, indirect-at}
+use Rattle.records.proofs.Made.{number-of, number-at, influence-of}
+use Rattle.types.specs.Held.{type-property}
+use Rattle.redex.proofs.Places.{groups-at}
 use Rattle.redex.proofs.Answers.{function-top}
 use Rattle.memory.specs.Splice.{splice}
 use Rattle.substitution.specs.Substituted.{value-limit}
@@ -38,11 +40,11 @@ use Rattle.contraction.specs.declared.Plan.{Plan}
 use Rattle.contraction.specs.declared.Plan.the-variants.{Part, Body, Raised, Unrolled}
 use Rattle.contraction.specs.declared.Size.{Size}
 use Rattle.contraction.proofs.Plan.{the-type}
-use Rattle.contraction.specs.Plans.{Planned, applied, projected, branched, lifted, unrolled-one, Measures}
+use Rattle.contraction.specs.Plans.{Planned, applied, projected, branched, lifted, unrolled-one, protect-record, Measures}
 
 -- what the protection of a destructor's contractum is
-abbrev pub influence-of : Security → Term → Indirect
-influence-of S e = S .influence (property-of (first-operand e)) (property-of e .r)
+abbrev pub protection-of : Security → Term → Indirect
+protection-of S e = S .influence (property-of (first-operand e)) (property-of e .r)
 
 pub record PartPlan (s : Bytes) (e : Term) (x : ℕ) : Type 0 where
   pub part : Term
@@ -50,7 +52,7 @@ pub record PartPlan (s : Bytes) (e : Term) (x : ℕ) : Type 0 where
   pub small : size part ≤ size e
   pub shallow : depth part ≤ depth e
   pub operand : 1 ≤ operands e
-  pub is : (S : Security) (tab : ℕ → Ty) → contractum S tab e ≡ protect (influence-of S e) part
+  pub is : (S : Security) (tab : ℕ → Ty) → contractum S tab e ≡ protect (protection-of S e) part
 
 pub part-plan : {s : Bytes} {e : Term} {x : ℕ} → Planned s e (Part x) → PartPlan s e x
 unfolding contractum size depth
@@ -68,7 +70,7 @@ pub record BodyPlan (s : Bytes) (e : Term) (x y : ℕ) : Type 0 where
   pub shallow-body : depth body ≤ depth e
   pub shallow-value : depth value ≤ depth e
   pub operand : 1 ≤ operands e
-  pub is : (S : Security) (tab : ℕ → Ty) → contractum S tab e ≡ protect (influence-of S e) (subst 0 value body)
+  pub is : (S : Security) (tab : ℕ → Ty) → contractum S tab e ≡ protect (protection-of S e) (subst 0 value body)
 
 pub body-plan : {s : Bytes} {e : Term} {x y : ℕ} → Planned s e (Body x y) → BodyPlan s e x y
 unfolding contractum size depth
@@ -115,7 +117,7 @@ pub record LiftPlan (s : Bytes) (at : ℕ) (e : Term) : Type 0 where
   pub is-one : So (is-value value)
   pub small : size value ≤ size e
   pub shallow : depth value ≤ depth e
-  pub is : (S : Security) (tab : ℕ → Ty) → contractum S tab e ≡ raise-value S value (property-of e .ir)
+  pub is : (S : Security) (tab : ℕ → Ty) → contractum S tab e ≡ raise-value S value (influence-of e)
 
 pub lift-plan : {s : Bytes} {at : ℕ} {e : Term} → At s at e → Planned s e Raised → LiftPlan s at e
 unfolding contractum size depth
@@ -189,42 +191,43 @@ module _ {s : Bytes} {x : ℕ} {e : Term} (a : At s x e) where
       head-and-rest = simp (length-append, term-head-length)
 
 -- a raised value: its own record with other groups, and its operands as they are
-pub raised-bytes : (g : Bytes) (v : Term) (m : Indirect) → So (is-value v)
-    → script-record (kind-of v) (join g (property-of v .r) m) (join g (property-of v .ir) m) (number-of v) ++ joined encode (term-operands v)
-    ≡ encode (raise-value (readers g) v m)
+pub raised-bytes : (S : Security) (v : Term) (m : Indirect) → So (is-value v)
+    → object-record (kind-of v) (S .raise (property-of v) m) (number-of v) ++ joined encode (term-operands v) ≡ encode (raise-value S v m)
 unfolding raise-value is-value
-raised-bytes g (var n) m h = absurd (false≢true h)
-raised-bytes g (unit k) m h = sym (term-encode-is (unit _))
-raised-bytes g (lam k i e) m h = rw (two-bytes i) (sym (term-encode-is (lam _ i e)))
-raised-bytes g (pair k a b) m h = sym (term-encode-is (pair _ a b))
-raised-bytes g (inj first k i e) m h = rw (two-bytes i) (sym (term-encode-is (inj first _ i e)))
-raised-bytes g (inj second k i e) m h = rw (two-bytes i) (sym (term-encode-is (inj second _ i e)))
-raised-bytes g (app w f a) m h = absurd (false≢true h)
-raised-bytes g (proj d w e) m h = absurd (false≢true h)
-raised-bytes g (case w i e a b) m h = absurd (false≢true h)
-raised-bytes g (protect n e) m h = absurd (false≢true h)
-raised-bytes g (mu w i e) m h = absurd (false≢true h)
+raised-bytes S (var n) m h = absurd (false≢true h)
+raised-bytes S (unit k) m h = sym (term-encode-is (unit _))
+raised-bytes S (lam k i e) m h = rw (two-bytes i) (sym (term-encode-is (lam _ i e)))
+raised-bytes S (pair k a b) m h = sym (term-encode-is (pair _ a b))
+raised-bytes S (inj first k i e) m h = rw (two-bytes i) (sym (term-encode-is (inj first _ i e)))
+raised-bytes S (inj second k i e) m h = rw (two-bytes i) (sym (term-encode-is (inj second _ i e)))
+raised-bytes S (app w f a) m h = absurd (false≢true h)
+raised-bytes S (proj d w e) m h = absurd (false≢true h)
+raised-bytes S (case w i e a b) m h = absurd (false≢true h)
+raised-bytes S (protect n e) m h = absurd (false≢true h)
+raised-bytes S (mu w i e) m h = absurd (false≢true h)
 
 -- the unrolled function: two records, the recursion, a variable
-pub rolled-bytes : (g : Bytes) (w : Reader) (i : ℕ) (k : Property) (b : Term) (w₁ r₁ ir₁ lo hi : ℕ) (mid : Bytes) → w₁ ≡ w → r₁ ≡ k .r → ir₁ ≡ k .ir
+pub rolled-bytes : (g : Bytes) (w : Reader) (i : ℕ) (k : Property) (b : Term) (w₁ : Reader) (k₁ : Property) (lo hi : ℕ) (mid : Bytes) → w₁ ≡ w → k₁ ≡ k
     → lo ≡ (i + 1) % 256 → hi ≡ (i + 1) / 256 → mid ≡ encode (mu w i b)
-    → (kinds.function ∷ r₁ ∷ ir₁ ∷ 0 ∷ lo ∷ hi ∷ kinds.application ∷ w₁ ∷ 0 ∷ 0 ∷ 0 ∷ 0 ∷ []) ++ (mid ++ (kinds.variable ∷ 0 ∷ 0 ∷ 0 ∷ 0 ∷ 0 ∷ []))
-    ≡ encode (unrolled (readers g) w i k b)
+    → (kinds.function ∷ k₁ .r ∷ k₁ .ir ∷ 0 ∷ lo ∷ hi ∷ k₁ .c ∷ k₁ .ic ∷ kinds.application ∷ w₁ ∷ 0 ∷ 0 ∷ 0 ∷ 0 ∷ 0 ∷ 0 ∷ [])
+    ++ (mid ++ (kinds.variable ∷ 0 ∷ 0 ∷ 0 ∷ 0 ∷ 0 ∷ 0 ∷ 0 ∷ []))
+    ≡ encode (unrolled (properties-of g) w i k b)
 unfolding encode
-rolled-bytes g w i k b w₁ r₁ ir₁ lo hi mid e1 e2 e3 e4 e5 e6 = let z : i + 1 ≡ suc i = omega arith in rw (e1, e2, e3, e4, e5, e6, z)
+rolled-bytes g w i k b w₁ k₁ lo hi mid e1 e2 e3 e4 e5 = let z : i + 1 ≡ suc i = omega arith in rw (e1, e2, e3, e4, e5, z)
 
 -- one record, as it is copied from an array
-pub record-placed : (k r₁ ir₁ n lo hi start : ℕ) (w w′ : Bytes) → lo ≡ n % 256 → hi ≡ n / 256
-    → w′ ≡ splice start (k ∷ r₁ ∷ ir₁ ∷ 0 ∷ lo ∷ hi ∷ []) w → w′ ≡ splice start (script-record k r₁ ir₁ n) w
-record-placed k r₁ ir₁ n lo hi start w w′ e1 e2 e = e ∙ ap₂ (λ a b. splice start (k ∷ r₁ ∷ ir₁ ∷ 0 ∷ a ∷ b ∷ []) w) e1 e2
+pub record-placed : (x : ℕ) (k : Property) (n lo hi start : ℕ) (w w′ : Bytes) → lo ≡ n % 256 → hi ≡ n / 256
+    → w′ ≡ splice start (x ∷ k .r ∷ k .ir ∷ 0 ∷ lo ∷ hi ∷ k .c ∷ k .ic ∷ []) w → w′ ≡ splice start (object-record x k n) w
+record-placed x k n lo hi start w w′ e1 e2 e =
+    e ∙ ap₂ (λ a b. splice start (x ∷ k .r ∷ k .ir ∷ 0 ∷ a ∷ b ∷ k .c ∷ k .ic ∷ []) w) e1 e2
 
 -- a record and what follows it
-pub record-then : (k r₁ ir₁ n start : ℕ) (b w w1 w2 : Bytes) → start + script-width ≤ length w → w1 ≡ splice start (script-record k r₁ ir₁ n) w
-    → w2 ≡ splice (start + script-width) b w1 → w2 ≡ splice start (script-record k r₁ ir₁ n ++ b) w
-record-then k r₁ ir₁ n start b w w1 w2 l e1 e2 =
-    e2 ∙ ap (splice (start + script-width) b) e1 ∙ join-after start (start + script-width) (script-record k r₁ ir₁ n) b w refl l
+pub record-then : (x : ℕ) (k : Property) (n start : ℕ) (b w w1 w2 : Bytes) → start + script-width ≤ length w → w1 ≡ splice start (object-record x k n) w
+    → w2 ≡ splice (start + script-width) b w1 → w2 ≡ splice start (object-record x k n ++ b) w
+record-then x k n start b w w1 w2 l e1 e2 =
+    e2 ∙ ap (splice (start + script-width) b) e1 ∙ join-after start (start + script-width) (object-record x k n) b w refl l
 
-pub protect-bytes : (m : Indirect) (e : Term) → script-record kinds.protect 0 m 0 ++ encode e ≡ encode (protect m e)
+pub protect-bytes : (m : Indirect) (e : Term) → protect-record m ++ encode e ≡ encode (protect m e)
 unfolding encode
 protect-bytes m e = refl
 
@@ -257,36 +260,35 @@ is-unrolled (Body x y) k = absurd (omega arith)
 is-unrolled Raised k = absurd (omega arith)
 is-unrolled Unrolled k = refl
 
+-- a protect record of an influence that is also told otherwise
+pub protect-told : {m m′ : Indirect} (start : ℕ) (w w′ : Bytes) → m ≡ m′ → w′ ≡ splice start (protect-record m) w → w′ ≡ splice start (protect-record m′) w
+protect-told start w w′ h e = e ∙ ap (λ (m : Indirect). splice start (protect-record m) w) h
+
 -- a protect record, and a term after it
-pub protect-placed : (m m′ start : ℕ) (e : Term) (b w w1 w2 : Bytes) → m ≡ m′ → b ≡ encode e → start + script-width ≤ length w
-    → w1 ≡ splice start (script-record kinds.protect 0 m 0) w → w2 ≡ splice (start + script-width) b w1 → w2 ≡ splice start (encode (protect m′ e)) w
-protect-placed m m′ start e b w w1 w2 p h l e1 e2 =
-    record-then kinds.protect 0 m 0 start b w w1 w2 l e1 e2
-    ∙ ap (λ x. splice start x w) (ap₂ (λ n x. script-record kinds.protect 0 n 0 ++ x) p h ∙ protect-bytes m′ e)
+pub protect-placed : (m : Indirect) (start : ℕ) (e : Term) (b w w1 w2 : Bytes) → b ≡ encode e → start + script-width ≤ length w
+    → w1 ≡ splice start (protect-record m) w → w2 ≡ splice (start + script-width) b w1 → w2 ≡ splice start (encode (protect m e)) w
+protect-placed m start e b w w1 w2 h l e1 e2 =
+    record-then kinds.protect (property-of (protect m e)) 0 start b w w1 w2 l e1 e2
+    ∙ ap (λ x. splice start x w) (ap (λ x. protect-record m ++ x) h ∙ protect-bytes m e)
 
 -- a raised record, and the operands after it
-pub raise-placed : (g : Bytes) {s : Bytes} {x : ℕ} {v : Term} (a : At s x v) (m k₁ r₁ ir₁ n₁ start : ℕ) (b w w1 w2 : Bytes) → So (is-value v)
-    → k₁ ≡ kind s x → r₁ ≡ join g (r s x) m → ir₁ ≡ join g (ir s x) m → n₁ ≡ number s x → b ≡ joined encode (term-operands v)
-    → start + script-width ≤ length w → w1 ≡ splice start (script-record k₁ r₁ ir₁ n₁) w → w2 ≡ splice (start + script-width) b w1
-    → w2 ≡ splice start (encode (raise-value (readers g) v m)) w
-raise-placed g {s} {x} {v} a m k₁ r₁ ir₁ n₁ start b w w1 w2 h ek er ei en eb l e1 e2 =
+pub raise-placed : (S : Security) {s : Bytes} {x : ℕ} {v : Term} (a : At s x v) (m : Indirect) (k₁ : ℕ) (p : Property) (n₁ start : ℕ) (b w w1 w2 : Bytes)
+    → So (is-value v) → k₁ ≡ kind s x → p ≡ S .raise (property-at s x) m → n₁ ≡ number s x → b ≡ joined encode (term-operands v)
+    → start + script-width ≤ length w → w1 ≡ splice start (object-record k₁ p n₁) w → w2 ≡ splice (start + script-width) b w1
+    → w2 ≡ splice start (encode (raise-value S v m)) w
+raise-placed S {s} {x} {v} a m k₁ p n₁ start b w w1 w2 h ek ep en eb l e1 e2 =
     let pk : k₁ ≡ kind-of v = ek ∙ stands-kind s x v a in
-    let pr : r₁ ≡ join g (property-of v .r) m = er ∙ ap (λ y. join g y m) (reader-at a) in
-    let pi : ir₁ ≡ join g (property-of v .ir) m = ei ∙ ap (λ y. join g y m) (indirect-at a) in
+    let pp : p ≡ S .raise (property-of v) m = ep ∙ ap (λ (k : Property). S .raise k m) (groups-at a) in
     let pn : n₁ ≡ number-of v = en ∙ number-at a in
-    record-then k₁ r₁ ir₁ n₁ start b w w1 w2 l e1 e2
+    record-then k₁ p n₁ start b w w1 w2 l e1 e2
     ∙ ap (λ y. splice start y w)
-    (ap₂ (λ y z. script-record y z ir₁ n₁ ++ b) pk pr
-    ∙ ap₂ (λ y z. script-record (kind-of v) (join g (property-of v .r) m) y z ++ b) pi pn
-    ∙ ap (λ y. script-record (kind-of v) (join g (property-of v .r) m) (join g (property-of v .ir) m) (number-of v) ++ y) eb
-    ∙ raised-bytes g v m h)
+    (ap₂ (λ (y : ℕ) (k : Property). object-record y k n₁ ++ b) pk pp
+    ∙ ap₂ (λ (n : ℕ) (y : Bytes). object-record (kind-of v) (S .raise (property-of v) m) n ++ y) pn eb
+    ∙ raised-bytes S v m h)
 
 -- the groups of a recursion's type, as they stand in its first record
-pub type-groups : (t : Bytes) (i n : ℕ) → So (is-function (type-at t i)) → n ≡ i
-    → (type-r t n ≡ top (type-at t i) .r) × (type-ir t n ≡ top (type-at t i) .ir)
-type-groups t i n h e =
-    let z = function-top t i h in
-    (ap (type-r t) e ∙ sym (ap (λ k. k .r) z), ap (type-ir t) e ∙ sym (ap (λ k. k .ir) z))
+pub type-groups : (t : Bytes) (i n : ℕ) → So (is-function (type-at t i)) → n ≡ i → type-property t n ≡ top (type-at t i)
+type-groups t i n h e = ap (type-property t) e ∙ sym (function-top t i h)
 
 pub recursion-number : {s : Bytes} {at : ℕ} {w : Reader} {i : ℕ} {b : Term} → At s at (mu w i b) → number s at ≡ i
 recursion-number {i = i} a = number-at a ∙ two-bytes i

@@ -1,5 +1,5 @@
 -- A planned redex whose contractum has room: the room that its plan's writer asks for, and what that writer leaves in the buffer.
-use mathlib.Core.Path.{_≡_, sym, ap, _∙_}
+use mathlib.Core.Path.{_≡_, sym, ap, ap₂, _∙_}
 use mathlib.Core.Path.{subst as transport}
 use Prim.Native.Nat.{ℕ, _+_, _≤_}
 use native.Mathlib.Omega.{arith}
@@ -8,18 +8,20 @@ use Rattle.calculus.specs.Types.{Ty, top}
 use Rattle.calculus.specs.Terms.{Term, protect, subst, raise-value}
 use Rattle.calculus.specs.Reduction.{unrolled}
 use Rattle.rules.specs.Answer.{Bytes}
-use Rattle.rules.specs.Groups.{readers}
+use Rattle.rules.specs.Groups.{properties-of}
 use Rattle.rules.specs.Types.{type-at}
-use Rattle.rules.specs.Script.{ir, encode, size, depth}
+use Rattle.rules.specs.Script.{encode, size, depth}
 use Rattle.records.specs.Place.{At}
+use Rattle.records.specs.Labels.{influence-at}
 use Rattle.records.proofs.Stands.{operands, at-first}
-use Rattle.redex.specs.Fates.{property-of, fate, contractum}
-use Rattle.redex.proofs.Places.{indirect-at}
+use Rattle.records.proofs.Made.{influence-of, influence-stands}
+use Rattle.redex.specs.Fates.{fate, contractum}
+use Rattle.redex.proofs.Places.{groups-at, reader-at}
 use Rattle.memory.specs.Splice.{splice}
 use Rattle.contraction.specs.declared.Plan.{Plan}
 use Rattle.contraction.specs.declared.Plan.the-variants.{Part, Body, Raised, Unrolled}
-use Rattle.contraction.specs.Plans.{Planned, Ready, Fit, PartRoom, BodyRoom, RaisedRoom, UnrolledRoom}
-use Rattle.contraction.proofs.Plans.{PartPlan, part-plan, BodyPlan, body-plan, LiftPlan, lift-plan, RollPlan, roll-plan, raise-size, protect-size, body-size, unrolled-size, few, operand-there, contractum-limit, goes-function, unroll-is, influence-of}
+use Rattle.contraction.specs.Plans.{Planned, Ready, Fit, protection, PartRoom, BodyRoom, RaisedRoom, UnrolledRoom}
+use Rattle.contraction.proofs.Plans.{PartPlan, part-plan, BodyPlan, body-plan, LiftPlan, lift-plan, RollPlan, roll-plan, raise-size, protect-size, body-size, unrolled-size, few, operand-there, contractum-limit, goes-function, unroll-is, protection-of}
 
 pub planned-as : {s : Bytes} {e : Term} {p p′ : Plan} → p ≡ p′ → Planned s e p → Planned s e p′
 planned-as {s} {e} h q = transport (λ (x : Plan). Planned s e x) h q
@@ -30,7 +32,7 @@ renamed start w w′ h p = p ∙ ap (λ (x : Term). splice start (encode x) w) (
 
 module _ {g t s : Bytes} {at : ℕ} {p : Plan} {w : Bytes} {start : ℕ} (q : Fit g t s at p w start) where
   abbrev S : Security
-  S = readers g
+  S = properties-of g
 
   abbrev tab : ℕ → Ty
   tab = type-at t
@@ -46,18 +48,18 @@ module _ {g t s : Bytes} {at : ℕ} {p : Plan} {w : Bytes} {start : ℕ} (q : Fi
     part = part-of h .part;
     stands = part-of h .stands;
     operand = operand-there (q .ready .stands) (part-of h .operand);
-    fits = omega (arith, q .fits, ap size (part-of h .is S tab), protect-size (influence-of S e) (part-of h .part) .0);
+    fits = omega (arith, q .fits, ap size (part-of h .is S tab), protect-size (protection-of S e) (part-of h .part) .0);
   }
 
-  -- the protection, as it stands in the record of what the destructor takes apart
-  influence-at : 1 ≤ operands e → ir s (at + 1) ≡ influence-of S e
-  influence-at h = indirect-at (at-first s at e (q .ready .stands) h)
+  -- the protection, as the records of the destructor and of what it takes apart tell it
+  protection-at : 1 ≤ operands e → protection g s at ≡ protection-of S e
+  protection-at h = ap₂ (S .influence) (groups-at (at-first s at e (q .ready .stands) h)) (reader-at (q .ready .stands))
 
-  pub part-written : {x : ℕ} (h : p ≡ Part x) (w′ : Bytes) → w′ ≡ splice start (encode (protect (ir s (at + 1)) (part-room h .part))) w
+  pub part-written : {x : ℕ} (h : p ≡ Part x) (w′ : Bytes) → w′ ≡ splice start (encode (protect (protection g s at) (part-room h .part))) w
       → w′ ≡ splice start (encode (contractum S tab e)) w
   part-written h w′ k =
       renamed start w w′
-      (part-of h .is S tab ∙ ap (λ m. protect m (part-of h .part)) (sym (influence-at (part-of h .operand)))) k
+      (part-of h .is S tab ∙ ap (λ m. protect m (part-of h .part)) (sym (protection-at (part-of h .operand)))) k
 
   abbrev body-of : {x y : ℕ} → p ≡ Body x y → BodyPlan s (q .ready .tree) x y
   body-of h = body-plan (planned-as h (q .ready .planned))
@@ -74,16 +76,16 @@ module _ {g t s : Bytes} {at : ℕ} {p : Plan} {w : Bytes} {start : ℕ} (q : Fi
       arith,
       q .fits,
       ap size (body-of h .is S tab),
-      protect-size (influence-of S e) (subst 0 (body-of h .value) (body-of h .body)) .0,
+      protect-size (protection-of S e) (subst 0 (body-of h .value) (body-of h .body)) .0,
     );
   }
 
   pub body-written : {x y : ℕ} (h : p ≡ Body x y) (w′ : Bytes)
-      → w′ ≡ splice start (encode (protect (ir s (at + 1)) (subst 0 (body-room h .value) (body-room h .body)))) w
+      → w′ ≡ splice start (encode (protect (protection g s at) (subst 0 (body-room h .value) (body-room h .body)))) w
       → w′ ≡ splice start (encode (contractum S tab e)) w
   body-written h w′ k =
       renamed start w w′
-      (body-of h .is S tab ∙ ap (λ m. protect m (subst 0 (body-of h .value) (body-of h .body))) (sym (influence-at (body-of h .operand)))) k
+      (body-of h .is S tab ∙ ap (λ m. protect m (subst 0 (body-of h .value) (body-of h .body))) (sym (protection-at (body-of h .operand)))) k
 
   abbrev lift-of : p ≡ Raised → LiftPlan s at (q .ready .tree)
   lift-of h = lift-plan (q .ready .stands) (planned-as h (q .ready .planned))
@@ -93,14 +95,14 @@ module _ {g t s : Bytes} {at : ℕ} {p : Plan} {w : Bytes} {start : ℕ} (q : Fi
     value = lift-of h .value;
     stands = lift-of h .stands;
     is-one = lift-of h .is-one;
-    fits = omega (arith, q .fits, ap size (lift-of h .is S tab), raise-size S (lift-of h .value) (property-of e .ir) .0);
+    fits = omega (arith, q .fits, ap size (lift-of h .is S tab), raise-size S (lift-of h .value) (influence-of e) .0);
   }
 
-  pub raised-written : (h : p ≡ Raised) (w′ : Bytes) → w′ ≡ splice start (encode (raise-value S (raised-room h .value) (ir s at))) w
+  pub raised-written : (h : p ≡ Raised) (w′ : Bytes) → w′ ≡ splice start (encode (raise-value S (raised-room h .value) (influence-at s at))) w
       → w′ ≡ splice start (encode (contractum S tab e)) w
   raised-written h w′ k =
       renamed start w w′
-      (lift-of h .is S tab ∙ ap (raise-value S (lift-of h .value)) (sym (indirect-at (q .ready .stands)))) k
+      (lift-of h .is S tab ∙ ap (raise-value S (lift-of h .value)) (sym (influence-stands (q .ready .stands)))) k
 
   abbrev roll-of : p ≡ Unrolled → RollPlan (q .ready .tree)
   roll-of h = roll-plan (planned-as h (q .ready .planned))
@@ -133,18 +135,18 @@ module _ {g t s : Bytes} {at : ℕ} {p : Plan} {w : Bytes} {start : ℕ} (q : Fi
 pub contractum-few : (S : Security) (tab : ℕ → Ty) {s : Bytes} {at : ℕ} (p : Plan) (q : Ready s at p) → size (contractum S tab (q .tree)) ≤ contractum-limit + 1
 contractum-few S tab (Part x) q =
     let z = part-plan (q .planned) in
-    omega (arith, ap size (z .is S tab), protect-size (influence-of S (q .tree)) (z .part) .0, z .small, q .small)
+    omega (arith, ap size (z .is S tab), protect-size (protection-of S (q .tree)) (z .part) .0, z .small, q .small)
 contractum-few S tab (Body x y) q =
     let z = body-plan (q .planned) in
     omega (
       arith,
       ap size (z .is S tab),
-      protect-size (influence-of S (q .tree)) (subst 0 (z .value) (z .body)) .0,
+      protect-size (protection-of S (q .tree)) (subst 0 (z .value) (z .body)) .0,
       few (z .value) (z .body) (omega (arith, z .small, q .small)) (omega (arith, z .small, q .small)),
     )
 contractum-few S tab Raised q =
     let z = lift-plan (q .stands) (q .planned) in
-    omega (arith, ap size (z .is S tab), raise-size S (z .value) (property-of (q .tree) .ir) .0, z .small, q .small)
+    omega (arith, ap size (z .is S tab), raise-size S (z .value) (influence-of (q .tree)) .0, z .small, q .small)
 contractum-few S tab Unrolled q =
     let z = roll-plan (q .planned) in
     let k = top (tab (z .type)) in

@@ -9,10 +9,12 @@ use Rattle.calculus.specs.Terms.{Side, choose, Term, lam, pair, inj, app, proj,
 use Rattle.calculus.specs.Reduction.{unrolled}
 use Rattle.rules.specs.Answer.{Bytes}
 use Rattle.rules.specs.Limits.{script-width, script-limit, depth-limit, table-limit}
-use Rattle.rules.specs.Groups.{readers}
+use Rattle.rules.specs.Groups.{properties-of}
 use Rattle.rules.specs.Types.{type-count, type-at}
-use Rattle.rules.specs.Script.{records as record-count, size, depth}
+use Rattle.rules.specs.Script.{records as record-count, r, full-record, size, depth}
+use Rattle.records.specs.Kinds as kinds
 use Rattle.records.specs.Place.{At}
+use Rattle.records.specs.Labels.{property-at}
 use Rattle.redex.specs.Fates.{is-function, goes, fate, contractum}
 use Rattle.contraction.specs.declared.Plan.{Plan}
 use Rattle.contraction.specs.declared.Plan.the-variants.{Part, Body, Raised, Unrolled}
@@ -48,6 +50,14 @@ pub record Ready (s : Bytes) (at : ℕ) (p : Plan) : Type 0 where
   pub planned : Planned s tree p
   pub small : size tree ≤ script-limit
   pub shallow : depth tree ≤ depth-limit
+
+-- what a step's protect carries: "Application, projection and case raise by ir and by ic ⊓ the node's group". The object that the
+-- destructor at record `at` reads stands at the next record.
+abbrev pub protection : Bytes → Bytes → ℕ → Indirect
+protection g s at = properties-of g .influence (property-at s (at + 1)) (r s at)
+
+abbrev pub protect-record : Indirect → Bytes
+protect-record m = full-record kinds.protect 0 (m .ir) 0 0 (m .ic)
 
 -- m tells the records and the depth of e
 pub record Measures (e : Term) (m : Size) : Type 0 where
@@ -106,11 +116,11 @@ pub record UnrolledRoom (t s : Bytes) (at : ℕ) (w : Bytes) (start : ℕ) : Typ
   pub table : type-count t ≤ table-limit
   -- no group is joined, so the groups table doesn't matter
   pub groups : Bytes
-  pub fits : start + script-width * size (subst 0 (unrolled (readers groups) label type (top (type-at t type)) body) body) ≤ length w
+  pub fits : start + script-width * size (subst 0 (unrolled (properties-of groups) label type (top (type-at t type)) body) body) ≤ length w
 
 -- a redex with its plan stands at record `at`, and w has room for its contractum from byte `start` on
 pub record Fit (g t s : Bytes) (at : ℕ) (p : Plan) (w : Bytes) (start : ℕ) : Type 0 where
   pub ready : Ready s at p
-  pub contracts : fate (readers g) (type-at t) (ready .tree) ≡ goes
+  pub contracts : fate (properties-of g) (type-at t) (ready .tree) ≡ goes
   pub table : type-count t ≤ table-limit
-  pub fits : start + script-width * size (contractum (readers g) (type-at t) (ready .tree)) ≤ length w
+  pub fits : start + script-width * size (contractum (properties-of g) (type-at t) (ready .tree)) ≤ length w

@@ -1,6 +1,7 @@
 // A redex's contractum: how it is made, its measure, and its records written.
 
-use lattice::Indirect;
+use lattice::Creator;
+use lattice::Property;
 use lattice::Reader;
 use records::APPLICATION;
 use records::FIRST_INJECTION;
@@ -12,22 +13,24 @@ use records::SCRIPT_WIDTH;
 use records::SECOND_PROJECTION;
 use records::VARIABLE;
 ghost use mathlib.Core.Path.{_≡_};
-ghost use Prim.Native.Nat.{ℕ, _+_, _-_, _/_, _%_, _≤_};
+ghost use Prim.Native.Nat.{ℕ, _+_, _-_, _/_, _%_, _≤_, _<_};
 ghost use lib.ListN.{length};
-ghost use Rattle.calculus.specs.Security.{Security};
+ghost use Rattle.calculus.specs.Security.{Indirect, Security};
 ghost use Rattle.calculus.specs.Types.{Ty, top};
 ghost use Rattle.calculus.specs.Terms.{protect, mu, subst, raise-value};
 ghost use Rattle.calculus.specs.Reduction.{unrolled};
 ghost use Rattle.rules.specs.Answer.{Bytes};
 ghost use Rattle.rules.specs.Limits.{script-width};
-ghost use Rattle.rules.specs.Groups.{readers};
+ghost use Rattle.rules.specs.Groups.{properties-of};
 ghost use Rattle.rules.specs.Types.{type-at};
-ghost use Rattle.rules.specs.Script.{ir, script-record, encode};
+ghost use Rattle.rules.specs.Script.{records as record-count, object-record, encode};
+ghost use Rattle.lattice.specs.Said.{said-property};
+ghost use Rattle.records.specs.Labels.{influence-at};
 ghost use Rattle.redex.specs.Fates.{contractum};
 ghost use Rattle.memory.specs.Splice.{splice};
 ghost use Rattle.substitution.specs.Substituted.{Within};
 ghost use Rattle.contraction.specs.Plans.{Fires, Planned, Ready, Measures, Both, Recursive, PartRoom, BodyRoom, RaisedRoom};
-ghost use Rattle.contraction.specs.Plans.{UnrolledRoom, Fit};
+ghost use Rattle.contraction.specs.Plans.{protection, protect-record, UnrolledRoom, Fit};
 
 // How a redex's contractum is made: a protected part of the script; a protected body with a value put in for its variable; the
 // operand raised; a recursion's body with the recursion put in. Places are records.
@@ -89,7 +92,7 @@ pub fn plan_of(script: &[u8], at: usize) -> Plan
 // A protected part, counted.
 fn measure_part(script: &[u8], x: usize) -> Size
     requires { ⌜ Within (now script) x ⌝ }
-    ensures { λ a. ⌜ ((q : Within (now (script .entry)) x) (m : ℕ) → Measures (protect m (q .tree)) a) ⌝ }
+    ensures { λ a. ⌜ ((q : Within (now (script .entry)) x) (m : Indirect) → Measures (protect m (q .tree)) a) ⌝ }
 {
     let e = substitution::extent_at(script, x);
     Size {
@@ -101,7 +104,8 @@ fn measure_part(script: &[u8], x: usize) -> Size
 // A protected body with a value put in, counted.
 fn measure_body(script: &[u8], x: usize, y: usize) -> Size
     requires { ⌜ Both (now script) x y ⌝ }
-    ensures { λ a. ⌜ ((q : Both (now (script .entry)) x y) (m : ℕ) → Measures (protect m (subst 0 (q .value) (q .body))) a) ⌝ }
+    ensures { λ a. ⌜ ((q : Both (now (script .entry)) x y) (m : Indirect)
+        → Measures (protect m (subst 0 (q .value) (q .body))) a) ⌝ }
 {
     let v = substitution::extent_at(script, y);
     let e = substitution::measure(script, x, 0, v.records, v.depth);
@@ -152,24 +156,50 @@ pub fn measure(script: &[u8], at: usize, plan: Plan) -> Size
 }
 
 // One record, over `written` from byte `start` on.
-fn write_record(kind: u8, r: Reader, ir: Indirect, number: u16, written: &mut [u8], start: usize)
+fn write_record(kind: u8, property: Property, number: u16, written: &mut [u8], start: usize)
     requires { ⌜ start + script-width ≤ length (now written) ⌝ }
-    ensures { λ _. ⌜ now (written .exit) ≡ splice start (script-record kind (r .0) (ir .0) number) (now (written .entry)) ⌝ }
+    ensures { λ _. ⌜ now (written .exit) ≡ splice start (object-record kind (said-property property) number)
+        (now (written .entry)) ⌝ }
 {
-    let record = [kind, r.0, ir.0, 0, low(number), high(number)];
+    let record = [
+        kind,
+        property.r.0,
+        property.ir.0,
+        0,
+        low(number),
+        high(number),
+        property.c.0,
+        property.ic.0,
+    ];
     memory::copy_part(&record, 0, SCRIPT_WIDTH, written, start);
 }
 
-// A protected part. The protection is the indirect readers of what the destructor at record `at` takes apart.
-fn write_part(script: &[u8], at: usize, x: usize, written: &mut [u8], start: usize)
+// The protect that a step leaves: what the destructor at record `at` leaves on its result when it reads the object after it.
+fn write_protect(groups: &[u8], script: &[u8], at: usize, written: &mut [u8], start: usize)
+    requires { ⌜ (at + 1 < record-count (now script)) × (start + script-width ≤ length (now written)) ⌝ }
+    ensures { λ _. ⌜ now (written .exit)
+        ≡ splice start (protect-record (protection (now (groups .entry)) (now (script .entry)) at)) (now (written .entry)) ⌝ }
+{
+    let read = records::property(script, at + 1);
+    let left = read.influence(groups, records::reader(script, at));
+    let r = Reader(0);
+    let ir = left.ir;
+    let c = Creator(0);
+    let ic = left.ic;
+    let property = Property { r, ir, c, ic };
+    write_record(PROTECT, property, 0, written, start);
+}
+
+// A protected part of what the destructor at record `at` takes apart.
+fn write_part(groups: &[u8], script: &[u8], at: usize, x: usize, written: &mut [u8], start: usize)
     requires { ⌜ PartRoom (now script) at x (now written) start ⌝ }
     ensures { λ _. ⌜ ((q : PartRoom (now (script .entry)) at x (now (written .entry)) start)
-        → now (written .exit) ≡ splice start (encode (protect (ir (now (script .entry)) (at + 1)) (q .part)))
+        → now (written .exit)
+        ≡ splice start (encode (protect (protection (now (groups .entry)) (now (script .entry)) at) (q .part)))
         (now (written .entry))) ⌝ }
 {
     let end = records::end_of(script, x);
-    let influence = records::indirect(script, at + 1);
-    write_record(PROTECT, Reader(0), influence, 0, written, start);
+    write_protect(groups, script, at, written, start);
     memory::copy_part(
         script,
         SCRIPT_WIDTH * x,
@@ -180,16 +210,24 @@ fn write_part(script: &[u8], at: usize, x: usize, written: &mut [u8], start: usi
 }
 
 // A protected body with a value put in. The value is put in as it stands: it isn't raised.
-fn write_body(script: &[u8], at: usize, x: usize, y: usize, written: &mut [u8], start: usize)
+fn write_body(
+    groups: &[u8],
+    script: &[u8],
+    at: usize,
+    x: usize,
+    y: usize,
+    written: &mut [u8],
+    start: usize,
+)
     requires { ⌜ BodyRoom (now script) at x y (now written) start ⌝ }
     ensures { λ _. ⌜ ((q : BodyRoom (now (script .entry)) at x y (now (written .entry)) start)
         → now (written .exit)
-        ≡ splice start (encode (protect (ir (now (script .entry)) (at + 1)) (subst 0 (q .value) (q .body))))
+        ≡ splice start
+        (encode (protect (protection (now (groups .entry)) (now (script .entry)) at) (subst 0 (q .value) (q .body))))
         (now (written .entry))) ⌝ }
 {
     let end = records::end_of(script, y);
-    let influence = records::indirect(script, at + 1);
-    write_record(PROTECT, Reader(0), influence, 0, written, start);
+    write_protect(groups, script, at, written, start);
     let from = SCRIPT_WIDTH * y;
     let to = SCRIPT_WIDTH * end;
     substitution::write(
@@ -204,23 +242,21 @@ fn write_body(script: &[u8], at: usize, x: usize, y: usize, written: &mut [u8], 
     );
 }
 
-// The value at record `at` + 1, raised by the protect at record `at`: joined into the groups of its own record, nowhere deeper.
+// The value at record `at` + 1, raised by the protect at record `at`: the groups of its own record, and none deeper.
 fn write_raised(groups: &[u8], script: &[u8], at: usize, written: &mut [u8], start: usize)
     requires { ⌜ RaisedRoom (now script) at (now written) start ⌝ }
     ensures { λ _. ⌜ ((q : RaisedRoom (now (script .entry)) at (now (written .entry)) start)
         → now (written .exit)
-        ≡ splice start (encode (raise-value (readers (now (groups .entry))) (q .value) (ir (now (script .entry)) at)))
+        ≡ splice start (encode (raise-value (properties-of (now (groups .entry))) (q .value) (influence-at (now (script .entry)) at)))
         (now (written .entry))) ⌝ }
 {
     let x = at + 1;
     let end = records::end_of(script, x);
-    let by = records::indirect(script, at);
-    let r = records::reader(script, x).joined(groups, by);
-    let ir = records::indirect(script, x).joined(groups, by);
+    let by = records::influence(script, at);
+    let raised = records::property(script, x).raised(groups, by);
     write_record(
         records::kind(script, x),
-        r,
-        ir,
+        raised,
         records::number(script, x),
         written,
         start,
@@ -237,30 +273,33 @@ fn write_unrolled(types: &[u8], script: &[u8], at: usize, written: &mut [u8], st
     ensures { λ _. ⌜ ((q : UnrolledRoom (now (types .entry)) (now (script .entry)) at (now (written .entry)) start)
         (g : Bytes) → now (written .exit)
         ≡ splice start (encode
-        (subst 0 (unrolled (readers g) (q .label) (q .type) (top (type-at (now (types .entry)) (q .type))) (q .body)) (q .body)))
+        (subst 0 (unrolled (properties-of g) (q .label) (q .type) (top (type-at (now (types .entry)) (q .type))) (q .body)) (q .body)))
         (now (written .entry))) ⌝ }
 {
     let end = records::end_of(script, at);
     let named = records::number(script, at);
     let caller = records::reader(script, at);
-    let r = types::reader_at(types, records::index(named));
-    let ir = types::indirect_at(types, records::index(named));
+    let function = types::property_at(types, records::index(named));
     let parameter = named + 1;
     let front = [
         FUNCTION,
-        r.0,
-        ir.0,
+        function.r.0,
+        function.ir.0,
         0,
         low(parameter),
         high(parameter),
+        function.c.0,
+        function.ic.0,
         APPLICATION,
         caller.0,
         0,
         0,
         0,
         0,
+        0,
+        0,
     ];
-    let back = [VARIABLE, 0, 0, 0, 0, 0];
+    let back = [VARIABLE, 0, 0, 0, 0, 0, 0, 0];
     let from = SCRIPT_WIDTH * at;
     let to = SCRIPT_WIDTH * end;
     substitution::write(
@@ -288,12 +327,12 @@ pub fn write_contractum(
     requires { ⌜ Fit (now groups) (now types) (now script) at plan (now written) start ⌝ }
     ensures { λ _. ⌜ ((q : Fit (now (groups .entry)) (now (types .entry)) (now (script .entry)) at plan (now (written .entry))
         start) → now (written .exit)
-        ≡ splice start (encode (contractum (readers (now (groups .entry))) (type-at (now (types .entry))) (q .ready .tree)))
+        ≡ splice start (encode (contractum (properties-of (now (groups .entry))) (type-at (now (types .entry))) (q .ready .tree)))
         (now (written .entry))) ⌝ }
 {
     match plan {
-        Plan::Part(x) => write_part(script, at, x, written, start),
-        Plan::Body(x, y) => write_body(script, at, x, y, written, start),
+        Plan::Part(x) => write_part(groups, script, at, x, written, start),
+        Plan::Body(x, y) => write_body(groups, script, at, x, y, written, start),
         Plan::Raised => write_raised(groups, script, at, written, start),
         Plan::Unrolled => write_unrolled(types, script, at, written, start),
     }

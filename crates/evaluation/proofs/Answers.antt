@@ -8,7 +8,7 @@ use lib.ListN.{length}
 use Rattle.calculus.specs.Types.{Ty}
 use Rattle.calculus.specs.Terms.{Term}
 use Rattle.rules.specs.Answer.{Bytes, Octets, Answer, accepted, _>>_}
-use Rattle.rules.specs.Groups.{readers}
+use Rattle.rules.specs.Groups.{properties-of}
 use Rattle.rules.specs.Types.{type-at}
 use Rattle.rules.specs.Script.{term, encode, size}
 use Rattle.rules.specs.Run.{Ran, run}
@@ -38,7 +38,7 @@ module _ (g t s : Bytes) (budget : ℕ) (first scratch : Bytes) where
   answered = running g t s budget (length first) (length scratch)
 
   abbrev pub ran : Ran
-  ran = run (readers g) (type-at t) (min (length first) (length scratch)) budget (term s)
+  ran = run (properties-of g) (type-at t) (min (length first) (length scratch)) budget (term s)
 
   -- "A refusal leaves all lent memory unchanged."
   pub refused-keeps : (x : Checked) → No x → said x ≡ script-check rooms g t s → Says first scratch answered (refused-run x) first scratch
@@ -49,13 +49,13 @@ module _ (g t s : Bytes) (budget : ℕ) (first scratch : Bytes) where
 
   -- the run of the script's term, where it stands in the first buffer
   pub ran-so : script-check rooms g t s ≡ accepted tt → (first₁ first′ scratch′ : Bytes) (e : Term) (a : Halt) → length first₁ ≡ length first → e ≡ term s
-      → Ends (run (readers g) (type-at t) (min (length first₁) (length scratch)) budget e) first₁ scratch a first′ scratch′
+      → Ends (run (properties-of g) (type-at t) (min (length first₁) (length scratch)) budget e) first₁ scratch a first′ scratch′
       → Says first scratch answered (answer.Ended (a .end) (a .steps) (a .records)) first′ scratch′
   unfolding running run-report
   ran-so h first₁ first′ scratch′ e a l m q =
-      let z : run (readers g) (type-at t) (min (length first₁) (length scratch)) budget e ≡ ran =
-      ap (λ (n : ℕ). run (readers g) (type-at t) (min n (length scratch)) budget e) l
-      ∙ ap (run (readers g) (type-at t) (min (length first) (length scratch)) budget) m in
+      let z : run (properties-of g) (type-at t) (min (length first₁) (length scratch)) budget e ≡ ran =
+      ap (λ (n : ℕ). run (properties-of g) (type-at t) (min n (length scratch)) budget e) l
+      ∙ ap (run (properties-of g) (type-at t) (min (length first) (length scratch)) budget) m in
       let o : answered ≡ accepted ran = ap (λ (c : Answer (Unit {0})). _>>_ c (accepted ran)) h in
       transport (λ (c : Answer Ran). Says first scratch c (answer.Ended (a .end) (a .steps) (a .records)) first′ scratch′) (sym o) (
         same-report a ran (transport (λ (x : Ran). Told x a) z (q .told)),

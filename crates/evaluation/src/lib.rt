@@ -8,7 +8,7 @@ ghost use mathlib.Core.Path.{_≡_};
 ghost use Prim.Native.Nat.{_-_, _≤_, min};
 ghost use lib.ListN.{length};
 ghost use Rattle.calculus.specs.Types.{Ty};
-ghost use Rattle.rules.specs.Groups.{readers};
+ghost use Rattle.rules.specs.Groups.{properties-of};
 ghost use Rattle.rules.specs.Types.{type-at};
 ghost use Rattle.rules.specs.Run.{run};
 ghost use Rattle.rules.specs.Reach.{Accepted};
@@ -72,7 +72,7 @@ fn walk(
 ) -> Halt
     requires { ⌜ Loaded (now types) (now first) records room × (room ≤ length (now first)) × (room ≤ length (now scratch)) ⌝ }
     ensures { λ a. ⌜ Halted
-        (run (readers (now (groups .entry))) (type-at (now (types .entry))) room budget (front (now (first .entry)) records))
+        (run (properties-of (now (groups .entry))) (type-at (now (types .entry))) room budget (front (now (first .entry)) records))
         room a (now (first .exit)) ⌝ }
 {
     let mut n = records;
@@ -112,7 +112,7 @@ pub fn run_term(
 ) -> Halt
     requires { ⌜ Loaded (now types) (now first) records (min (length (now first)) (length (now scratch))) ⌝ }
     ensures { λ a. ⌜ Ends
-        (run (readers (now (groups .entry))) (type-at (now (types .entry)))
+        (run (properties-of (now (groups .entry))) (type-at (now (types .entry)))
         (min (length (now (first .entry))) (length (now (scratch .entry)))) budget (front (now (first .entry)) records))
         (now (first .entry)) (now (scratch .entry)) a (now (first .exit)) (now (scratch .exit)) ⌝ }
 {
@@ -134,7 +134,7 @@ fn refused_run(a: Checked) -> RunAnswer
     }
 }
 
-// A run: questions 2 to 19, in order, and then the run of the script's term. The last clause is demand 3.
+// A run: questions 2 to 19 and 36, in order, and then the run of the script's term. The last clause is demand 3.
 pub fn run(
     groups: &[u8],
     types: &[u8],

@@ -6,7 +6,7 @@ use Prim.Native.Nat.{ℕ, _+_, _-_, _*_, _≤_}
 use native.Mathlib.Omega.{arith}
 use lib.ListN.{length, take, drop, length-append, length-drop}
 use lib.Seq.{take-at}
-use Rattle.calculus.specs.Security.{Security}
+use Rattle.calculus.specs.Security.{Indirect, Security}
 use Rattle.calculus.specs.Types.{Ty, one, node, sizeT, raiseT}
 use Rattle.rules.specs.Limits.{type-width}
 use Rattle.rules.specs.Answer.{Bytes}
@@ -66,7 +66,7 @@ sides-bytes w (node c k a b) h n =
     ap (λ x. take (type-width * ((1 + (sizeT a + sizeT b)) - 1)) (drop type-width x)) (h .is) ∙ take-at (encode-type a ++ encode-type b) (h .rest) (type-width * ((1 + (sizeT a + sizeT b)) - 1)) l
 
 -- a raised type has as many records
-pub size-raised : (S : Security) (t : Ty) (m : ℕ) → sizeT (raiseT S t m) ≡ sizeT t
+pub size-raised : (S : Security) (t : Ty) (m : Indirect) → sizeT (raiseT S t m) ≡ sizeT t
 unfolding sizeT
 size-raised S (one k) m = refl
 size-raised S (node c k a b) m = refl

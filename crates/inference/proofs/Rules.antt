@@ -1,21 +1,21 @@
 -- What the rule functions ask, and what they leave in the work buffer.
 use mathlib.Core.Path.{_≡_, refl, sym, ap, _∙_, subst}
 use mathlib.Core.Bool.{Bool, true, false, cond}
-use mathlib.Core.List.{List, [], _∷_, _++_}
+use mathlib.Core.List.{List, _++_}
 use Prim.Native.Nat.{ℕ, _+_, _*_, _≤_, _<_}
 use native.Mathlib.Omega.{arith}
 use borrow.Author.Tests.{le-leb, lt-leb}
 use denote.Enum.Declared.{tagOf}
 use lib.ListN.{length, drop, length-append}
 use lib.Seq.{drop-at}
-use Rattle.calculus.specs.Security.{Property, Security}
+use Rattle.calculus.specs.Security.{Property, Indirect, Security}
 use Rattle.calculus.specs.Types.{Former, sum, product, function, Ty, one, node, sizeT, same, top, raiseT, type-limit}
 use Rattle.calculus.specs.Subtyping.{subtype, below}
 use Rattle.calculus.specs.Common.{common}
 use Rattle.calculus.specs.Typing.{finds-own}
 use Rattle.rules.specs.Limits.{answer-length, type-width}
 use Rattle.rules.specs.Answer.{Bytes, Answer, accepted, refused, _>>=_, _>>_, ask}
-use Rattle.rules.specs.Types.{former-kind, encode-type}
+use Rattle.rules.specs.Types.{former-kind, type-record, encode-type}
 use Rattle.rules.specs.Typing.{has-form, left, right, q21, q22, q23, q24, q22-of-branch, found-or, branch-type}
 use Rattle.types.specs.Held.{kind-of}
 use Rattle.memory.specs.Splice.{splice}
@@ -58,7 +58,7 @@ module _ (S : Security) (p : ℕ) (tab : ℕ → Ty) (i : ℕ) (t u : Ty) where
   pub result-named : finds-own i ≡ false → result-type S tab p i t u ≡ wanting S p u (tab i) (tab i)
   result-named e = result-as false e
 
-  pub case-raises : (by : ℕ) → case-type S tab p i t u by ≡ _>>=_ (result-type S tab p i t u) (λ r. accepted (raiseT S r by))
+  pub case-raises : (by : Indirect) → case-type S tab p i t u by ≡ _>>=_ (result-type S tab p i t u) (λ r. accepted (raiseT S r by))
   case-raises by = go (q22-of-branch S p tab i u)
     where
       go : (a : Answer (Unit {0}))
@@ -138,10 +138,10 @@ module _ (S : Security) (p : ℕ) (f : Former) (t : Ty) (w : ℕ) where
 -- questions 21 and 23 of a recursion
 module _ (S : Security) (p : ℕ) (t : Ty) (w : ℕ) where
   pub recurs-21 : S .permits (top t) (S .caller (top t) w) ≡ false → may-recur S p t w ≡ refused 21 p
-  recurs-21 e = ap (λ x. _>>_ (ask 21 p x) (q23 S p t)) e
+  recurs-21 e = ap (λ x. _>>_ (ask 21 p x) (q23 S p t (S .caller (top t) w))) e
 
-  pub recurs-23 : S .permits (top t) (S .caller (top t) w) ≡ true → may-recur S p t w ≡ q23 S p t
-  recurs-23 e = ap (λ x. _>>_ (ask 21 p x) (q23 S p t)) e
+  pub recurs-23 : S .permits (top t) (S .caller (top t) w) ≡ true → may-recur S p t w ≡ q23 S p t (S .caller (top t) w)
+  recurs-23 e = ap (λ x. _>>_ (ask 21 p x) (q23 S p t (S .caller (top t) w))) e
 
 pub meets-of : {o o′ : Answer Ty} {b : ℕ} {w : Bytes} {x : Found} {v : Bytes} → o ≡ o′ → Meets o′ b w x v → Meets o b w x v
 meets-of {b = b} {w = w} {x = x} {v = v} e m = subst (λ y. Meets y b w x v) (sym e) m
@@ -159,26 +159,25 @@ pub fits-no : (p : ℕ) (f : Former) (k : Property) (s t : Ty) → type-limit �
 fits-no p f k s t l = ap (λ q. _>>_ (ask 24 p q) (accepted (node f k s t))) (lt-leb (sizeT (node f k s t)) type-limit (omega (arith, node-size f k s t)))
 
 -- a record before two types
-node-front : (f : Former) (k r ir : ℕ) (s t : Ty) (w w₂ w₃ : Bytes) → k ≡ former-kind f → type-width + (type-width * sizeT s + type-width * sizeT t) ≤ length w
-    → w₂ ≡ splice type-width (encode-type s ++ encode-type t) w → w₃ ≡ splice 0 (k ∷ r ∷ ir ∷ 0 ∷ []) w₂
-    → w₃ ≡ splice 0 (encode-type (node f (record { r = r; ir = ir }) s t)) w
+node-front : (f : Former) (k : Property) (s t : Ty) (w w₂ w₃ : Bytes) → type-width + (type-width * sizeT s + type-width * sizeT t) ≤ length w
+    → w₂ ≡ splice type-width (encode-type s ++ encode-type t) w → w₃ ≡ splice 0 (type-record (former-kind f) k) w₂
+    → w₃ ≡ splice 0 (encode-type (node f k s t)) w
 unfolding encode-type
-node-front f k r ir s t w w₂ w₃ ek l e₂ e₃ =
+node-front f k s t w w₂ w₃ l e₂ e₃ =
     let m : length (encode-type s ++ encode-type t) ≡ type-width * sizeT s + type-width * sizeT t = length-append (encode-type s) (encode-type t) ∙ omega (arith, type-length s, type-length t) in
-    e₃ ∙ ap (splice 0 (k ∷ r ∷ ir ∷ 0 ∷ [])) e₂ ∙ join-before 0 (k ∷ r ∷ ir ∷ 0 ∷ []) (encode-type s ++ encode-type t) w (omega (arith, m))
-    ∙ ap (λ j. splice 0 (j ∷ r ∷ ir ∷ 0 ∷ (encode-type s ++ encode-type t)) w) ek
+    e₃ ∙ ap (splice 0 (type-record (former-kind f) k)) e₂ ∙ join-before 0 (type-record (former-kind f) k) (encode-type s ++ encode-type t) w (omega (arith, m))
 
-module _ (p r ir m n : ℕ) (s t : Ty) {b : ℕ} {w y x : Bytes} (f : sizeT s + sizeT t < type-limit) (em : m ≡ sizeT s) (en : n ≡ sizeT t)
+module _ (p : ℕ) (k : Property) (m n : ℕ) (s t : Ty) {b : ℕ} {w y x : Bytes} (f : sizeT s + sizeT t < type-limit) (em : m ≡ sizeT s) (en : n ≡ sizeT t)
     (ex : x ≡ encode-type s) (ey : y ≡ encode-type t) (l : answer-length * (b + 1) ≤ length w) where
-  placed : {w₂ w₃ : Bytes} (c : Former) → w₂ ≡ splice type-width (encode-type s ++ encode-type t) w → w₃ ≡ splice 0 (former-kind c ∷ r ∷ ir ∷ 0 ∷ []) w₂
-      → Wrote (node c (record { r = r; ir = ir }) s t) b w (m + n + 1) w₃
+  placed : {w₂ w₃ : Bytes} (c : Former) → w₂ ≡ splice type-width (encode-type s ++ encode-type t) w → w₃ ≡ splice 0 (type-record (former-kind c) k) w₂
+      → Wrote (node c k s t) b w (m + n + 1) w₃
   placed {w₂} {w₃} c z₂ e₃ =
-      let ns = node-size c (record { r = r; ir = ir }) s t in
-      wrote-first (omega (arith, ns)) (omega (arith, ns)) refl l (node-front c (former-kind c) r ir s t w w₂ w₃ refl (omega arith) z₂ e₃)
+      let ns = node-size c k s t in
+      wrote-first (omega (arith, ns)) (omega (arith, ns)) refl l (node-front c k s t w w₂ w₃ (omega arith) z₂ e₃)
 
   -- the second type is moved first
-  pub function-meets : {w₁ w₂ w₃ : Bytes} → w₁ ≡ splice (type-width + type-width * m) y w → w₂ ≡ splice type-width x w₁ → w₃ ≡ splice 0 (former-kind function ∷ r ∷ ir ∷ 0 ∷ []) w₂
-      → Meets (function-type p (record { r = r; ir = ir }) s t) b w (Typed (m + n + 1)) w₃
+  pub function-meets : {w₁ w₂ w₃ : Bytes} → w₁ ≡ splice (type-width + type-width * m) y w → w₂ ≡ splice type-width x w₁ → w₃ ≡ splice 0 (type-record (former-kind function) k) w₂
+      → Meets (function-type p k s t) b w (Typed (m + n + 1)) w₃
   function-meets {w₁} {w₂} {w₃} e₁ e₂ e₃ =
       let ls : length (encode-type s) ≡ type-width * sizeT s = type-length s in
       let lt : length (encode-type t) ≡ type-width * sizeT t = type-length t in
@@ -187,11 +186,11 @@ module _ (p r ir m n : ℕ) (s t : Ty) {b : ℕ} {w y x : Bytes} (f : sizeT s + 
       e₂ ∙ ap (λ u. splice type-width u w₁) ex
       ∙ ap (splice type-width (encode-type s)) (e₁ ∙ ap (λ u. splice (type-width + type-width * m) u w) ey ∙ ap (λ j. splice j (encode-type t) w) a)
       ∙ join-before type-width (encode-type s) (encode-type t) w (omega arith) in
-      meets-of (fits-yes p function (record { r = r; ir = ir }) s t f) (finds (placed function z₂ e₃))
+      meets-of (fits-yes p function k s t f) (finds (placed function z₂ e₃))
 
   -- the first one is
-  pub pair-meets : {w₁ w₂ w₃ : Bytes} → w₁ ≡ splice type-width x w → w₂ ≡ splice (type-width + type-width * m) y w₁ → w₃ ≡ splice 0 (former-kind product ∷ r ∷ ir ∷ 0 ∷ []) w₂
-      → Meets (pair-type p (record { r = r; ir = ir }) s t) b w (Typed (m + n + 1)) w₃
+  pub pair-meets : {w₁ w₂ w₃ : Bytes} → w₁ ≡ splice type-width x w → w₂ ≡ splice (type-width + type-width * m) y w₁ → w₃ ≡ splice 0 (type-record (former-kind product) k) w₂
+      → Meets (pair-type p k s t) b w (Typed (m + n + 1)) w₃
   pair-meets {w₁} {w₂} {w₃} e₁ e₂ e₃ =
       let ls : length (encode-type s) ≡ type-width * sizeT s = type-length s in
       let lt : length (encode-type t) ≡ type-width * sizeT t = type-length t in
@@ -200,14 +199,14 @@ module _ (p r ir m n : ℕ) (s t : Ty) {b : ℕ} {w y x : Bytes} (f : sizeT s + 
       e₂ ∙ ap (λ u. splice (type-width + type-width * m) u w₁) ey ∙ ap (λ j. splice j (encode-type t) w₁) a
       ∙ ap (splice (type-width + length (encode-type s)) (encode-type t)) (e₁ ∙ ap (λ u. splice type-width u w) ex)
       ∙ join-after type-width (type-width + length (encode-type s)) (encode-type s) (encode-type t) w refl (omega arith) in
-      meets-of (fits-yes p product (record { r = r; ir = ir }) s t f) (finds (placed product z₂ e₃))
+      meets-of (fits-yes p product k s t f) (finds (placed product z₂ e₃))
 
 -- another record before the sides of a type
-pub other-record : (u : Ty) (r ir : ℕ) (w : Bytes) → (kind-of u ≡ 0 → ⊥)
-    → splice 0 (former-kind sum ∷ r ∷ ir ∷ 0 ∷ []) (splice 0 (encode-type u) w) ≡ splice 0 (encode-type (node sum (record { r = r; ir = ir }) (left u) (right u))) w
+pub other-record : (u : Ty) (k : Property) (w : Bytes) → (kind-of u ≡ 0 → ⊥)
+    → splice 0 (type-record (former-kind sum) k) (splice 0 (encode-type u) w) ≡ splice 0 (encode-type (node sum k (left u) (right u))) w
 unfolding encode-type
-other-record (one k) r ir w n = absurd (n refl)
-other-record (node f k a b) r ir w n = refl
+other-record (one j) k w n = absurd (n refl)
+other-record (node f j a b) k w n = refl
 
 pub other-size : (u : Ty) (k : Property) → (kind-of u ≡ 0 → ⊥) → sizeT (node sum k (left u) (right u)) ≡ sizeT u
 unfolding sizeT
@@ -215,7 +214,7 @@ other-size (one j) k n = absurd (n refl)
 other-size (node f j a b) k n = refl
 
 -- the front, raised in place
-pub raise-wrote : (S : Security) (g : ℕ) {t : Ty} {b n : ℕ} {w w₁ w₂ : Bytes} (h : Wrote t b w n w₁) → w₂ ≡ encode-type (raiseT S t g) ++ h .sized .held .rest
+pub raise-wrote : (S : Security) (g : Indirect) {t : Ty} {b n : ℕ} {w w₁ w₂ : Bytes} (h : Wrote t b w n w₁) → w₂ ≡ encode-type (raiseT S t g) ++ h .sized .held .rest
     → length w₂ ≡ length w₁ → answer-length * (b + 1) ≤ length w₁ → Wrote (raiseT S t g) b w n w₂
 raise-wrote S g {t} {b} {n} {w} {w₁} {w₂} h e m l =
     let rest = h .sized .held .rest in

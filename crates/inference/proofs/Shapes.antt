@@ -1,20 +1,24 @@
 -- A node's record tells its kind, its fields and its operands.
 use mathlib.Core.Path.{_≡_, refl, sym, ap, _∙_}
-use mathlib.Core.List.{List}
+use mathlib.Core.List.{List, [], append-nil}
 use Prim.Native.Nat.{ℕ, _≤_}
 use native.Mathlib.Omega.{arith}
 use lib.ListN.{length}
-use Rattle.calculus.specs.Security.{Property, Security}
+use Rattle.calculus.specs.Security.{Property, Indirect, Security}
 use Rattle.calculus.specs.Types.{Ty}
 use Rattle.calculus.specs.Terms.{first, second, Term, var, unit, lam, pair, inj, app, proj, case, protect, mu}
 use Rattle.rules.specs.Limits.{script-width}
 use Rattle.rules.specs.Answer.{Bytes, accepted}
-use Rattle.rules.specs.Script.{kind, r, ir, number, arity, encode, depth, make}
+use Rattle.rules.specs.Script.{kind, r, ir, number, c, ic, arity, encode, depth, make}
 use Rattle.rules.proofs.PrefixLaws.{encode-length, size-positive}
-use Rattle.rules.proofs.TermCode.{term-code, two-bytes}
+use Rattle.rules.proofs.TermCode.{term-code}
 use Rattle.inference.specs.Operands.{operand-count}
-use Rattle.records.proofs.Weights.{weights}
+use Rattle.records.specs.Place.{At}
+use Rattle.records.specs.Labels.{property-at}
 use Rattle.records.specs.Operands.{first-operand, second-operand, third-operand}
+use Rattle.records.proofs.Weights.{weights}
+use Rattle.records.proofs.Stands.{stands-kind}
+use Rattle.records.proofs.Made.{form, by-kind, number-of, number-at, property-stands}
 use Rattle.inference.specs.Stages.{before-first, first-context, kept-front}
 
 -- the kinds of the table, by name
@@ -57,28 +61,29 @@ kind-recursion = 11
 pub long : {s : Bytes} (e : Term) → s ≡ encode e → script-width ≤ length s
 long {s} e p = omega (arith, ap length p, encode-length term-code e, size-positive term-code e)
 
--- a term from its record and its operands
-pub made : (e : Term) → e ≡ make (kind (encode e) 0) (r (encode e) 0) (ir (encode e) 0) (number (encode e) 0) (first-operand e) (second-operand e) (third-operand e)
-unfolding encode
-made (var n) = ap var (sym (two-bytes n))
-made (unit k) = refl
-made (lam k i e) = ap (λ n. lam k n e) (sym (two-bytes i))
-made (pair k a b) = refl
-made (inj first k i e) = ap (λ n. inj first k n e) (sym (two-bytes i))
-made (inj second k i e) = ap (λ n. inj second k n e) (sym (two-bytes i))
-made (app w f a) = refl
-made (proj first w e) = refl
-made (proj second w e) = refl
-made (case w i e a b) = ap (λ n. case w n e a b) (sym (two-bytes i))
-made (protect m e) = refl
-made (mu w i e) = ap (λ n. mu w n e) (sym (two-bytes i))
+-- a term of kind k with these groups and this number, and the operands of e
+abbrev pub labelled : ℕ → Property → ℕ → Term → Term
+labelled k p n e = make k (p .r) (p .ir) n (p .c) (p .ic) (first-operand e) (second-operand e) (third-operand e)
+
+-- the form of a term, with the fields as they were read
+pub of-fields : (s : Bytes) (e : Term) (k : ℕ) {p : Property} {n : ℕ} → s ≡ encode e → kind s 0 ≡ k → p ≡ property-at s 0 → n ≡ number s 0
+    → e ≡ labelled k p n e
+of-fields s e k {p} {n} q i ep en =
+    let at : At s 0 e = record { rest = []; stands = q ∙ sym (append-nil (encode e)) } in
+    by-kind (λ x. x ≡ form k e) k e (sym (stands-kind s 0 e at) ∙ i) refl
+    ∙ ap (λ (x : Property). labelled k x (number-of e) e) (sym (ep ∙ property-stands at))
+    ∙ ap (λ j. labelled k p j e) (sym (en ∙ number-at at))
 
 -- of a known kind
-pub of-kind : (s : Bytes) (e : Term) (k : ℕ) → s ≡ encode e → kind s 0 ≡ k
-    → e ≡ make k (r s 0) (ir s 0) (number s 0) (first-operand e) (second-operand e) (third-operand e)
-of-kind s e k p q =
-    made e ∙ ap (λ b. make (kind b 0) (r b 0) (ir b 0) (number b 0) (first-operand e) (second-operand e) (third-operand e)) (sym p)
-    ∙ ap (λ n. make n (r s 0) (ir s 0) (number s 0) (first-operand e) (second-operand e) (third-operand e)) q
+pub of-kind : (s : Bytes) (e : Term) (k : ℕ) → s ≡ encode e → kind s 0 ≡ k → e ≡ labelled k (property-at s 0) (number s 0) e
+of-kind s e k q i = of-fields s e k q i refl refl
+
+-- the groups of a record of which only the reader was read, or only a protect's
+abbrev pub read-by : Bytes → ℕ → Property
+read-by s w = record { r = w; ir = ir s 0; c = c s 0; ic = ic s 0 }
+
+abbrev pub left-by : Bytes → Indirect → Property
+left-by s m = record { r = r s 0; ir = m .ir; c = c s 0; ic = m .ic }
 
 pub counted : (e : Term) → arity (kind (encode e) 0) ≡ operand-count e
 unfolding arity encode operand-count
@@ -211,15 +216,6 @@ front-left (mu w i e) a b = refl
 
 pub front-plain : (s : Bytes) (e : Term) → s ≡ encode e → (kind s 0 ≡ kind-first-injection → ⊥) → (kind s 0 ≡ kind-second-injection → ⊥) → 0 ≡ kept-front e
 front-plain s e p a b = let q = ap (λ x. kind x 0) p in front-left e (λ z. a (q ∙ z)) (λ z. b (q ∙ z))
-
--- with the fields as they were read
-pub of-fields : (s : Bytes) (e : Term) (k : ℕ) {a b n : ℕ} → s ≡ encode e → kind s 0 ≡ k → a ≡ r s 0 → b ≡ ir s 0 → n ≡ number s 0
-    → e ≡ make k a b n (first-operand e) (second-operand e) (third-operand e)
-of-fields s e k {a} {b} {n} p q ea eb en =
-    of-kind s e k p q
-    ∙ ap (λ x. make k x (ir s 0) (number s 0) (first-operand e) (second-operand e) (third-operand e)) (sym ea)
-    ∙ ap (λ x. make k a x (number s 0) (first-operand e) (second-operand e) (third-operand e)) (sym eb)
-    ∙ ap (λ x. make k a b x (first-operand e) (second-operand e) (third-operand e)) (sym en)
 
 pub depth-positive : (e : Term) → 1 ≤ depth e
 unfolding depth

@@ -4,7 +4,7 @@ use mathlib.Core.Bool.{Bool, true, false, cond}
 use mathlib.Core.List.{List, _∷_}
 use Prim.Native.Nat.{ℕ, _+_, _*_, _≤_, _<_}
 use lib.ListN.{length, getD, drop}
-use Rattle.calculus.specs.Security.{Property, Security}
+use Rattle.calculus.specs.Security.{Property, Indirect, Security}
 use Rattle.calculus.specs.Types.{Former, sum, product, function, Ty, one, node, top, raiseT}
 use Rattle.calculus.specs.Typing.{finds-own}
 use Rattle.calculus.specs.Terms.{first, second, Term, var, unit, lam, pair, inj, app, proj, case, protect, mu}
@@ -12,7 +12,7 @@ use Rattle.rules.specs.Answer.{Bytes, Answer, accepted, refused, _>>=_, _>>_}
 use Rattle.rules.specs.Limits.{type-width, script-width, answer-length}
 use Rattle.rules.specs.Types.{no-type, type-count}
 use Rattle.rules.specs.Script.{kind, number, own-at, encode}
-use Rattle.rules.specs.Groups.{readers}
+use Rattle.rules.specs.Groups.{properties-of}
 use Rattle.rules.specs.Typing.{left, right, q20, q21, q22, q23, q24, q22-of-branch, branch-type}
 use Rattle.types.specs.Held.{Held}
 use Rattle.records.specs.Kinds as kinds
@@ -36,7 +36,7 @@ leaf-type Γ (mu w i e) = accepted no-type
 abbrev pub may-recur : Security → ℕ → Ty → ℕ → Answer (Unit {0})
 may-recur S p s w = do
   q21 S p s (S .caller (top s) w)
-  q23 S p s
+  q23 S p s (S .caller (top s) w)
 
 -- before the first operand: a recursion's questions
 unfoldable pub before-first : Security → (ℕ → Ty) → ℕ → Term → Answer (Unit {0})
@@ -184,8 +184,8 @@ result-type S tab p i t u = do
   q22-of-branch S p tab i u
   branch-type S p tab i t u
 
--- the type of a case, raised by the tested type's indirect readers
-abbrev pub case-type : Security → (ℕ → Ty) → ℕ → ℕ → Ty → Ty → ℕ → Answer Ty
+-- the type of a case, raised by what testing left
+abbrev pub case-type : Security → (ℕ → Ty) → ℕ → ℕ → Ty → Ty → Indirect → Answer Ty
 case-type S tab p i t u by = do
   q22-of-branch S p tab i u
   r ← branch-type S p tab i t u
@@ -241,7 +241,7 @@ pub record Two (g s : Bytes) (place : ℕ) (w : Bytes) (n m : ℕ) : Type 0 wher
   pub second : Ty
   pub sized : Sized w n first
   pub other : Sized (drop answer-length w) m second
-  pub asked : between (readers g) place tree first ≡ accepted tt
+  pub asked : between (properties-of g) place tree first ≡ accepted tt
   pub room : answer-length * 2 ≤ length w
 
 -- a case, whose type is in the table where it names one

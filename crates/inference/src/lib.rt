@@ -3,7 +3,8 @@
 
 use answer::Checked;
 use common_types::Common;
-use lattice::Indirect;
+use lattice::Influence;
+use lattice::Property;
 use lattice::Reader;
 use records::APPLICATION;
 use records::FIRST_INJECTION;
@@ -18,7 +19,7 @@ use records::VARIABLE;
 use types::TYPE_LIMIT;
 use types::TYPE_WIDTH;
 ghost use mathlib.Core.Path.{_≡_};
-ghost use mathlib.Core.List.{List, [], _∷_};
+ghost use mathlib.Core.List.{List, _∷_};
 ghost use Prim.Native.Nat.{ℕ, _+_, _*_, _≤_};
 ghost use lib.ListN.{length, drop, getD};
 ghost use Rattle.calculus.specs.Types.{Former, sum, Ty, top, raiseT, sizeT};
@@ -28,17 +29,18 @@ ghost use Rattle.calculus.specs.Terms.{Term};
 ghost use Rattle.rules.specs.Answer.{accepted, ask};
 ghost use Rattle.answer.specs.Said.{said};
 ghost use Rattle.rules.specs.Limits.{type-width, script-width, answer-length};
-ghost use Rattle.rules.specs.Groups.{readers};
-ghost use Rattle.rules.specs.Types.{former-kind, no-type, type-at, encode-type};
+ghost use Rattle.rules.specs.Groups.{properties-of};
+ghost use Rattle.rules.specs.Types.{former-kind, type-record, no-type, type-at, encode-type};
 ghost use Rattle.rules.specs.Script.{kind, number, encode};
 ghost use Rattle.rules.specs.Typing.{left, right, q22-of-branch, found-or};
 ghost use Rattle.memory.specs.Splice.{splice};
+ghost use Rattle.lattice.specs.Said.{said-property, said-influence};
 ghost use Rattle.types.specs.Held.{Held, Starts, Sided};
 ghost use Rattle.inference.specs.Memory.{high, Slot, Sized, Holds, Meets, Ready, Enters, Named, Named-sided, Beside, refusal};
 ghost use Rattle.inference.specs.Memory.{In-scope, Typed-front, Both, Entered};
 ghost use Rattle.inference.specs.Stages.{leaf-type, may-recur, before-first, first-context, kept-front, function-type, pair-type};
 ghost use Rattle.inference.specs.Stages.{injection-type, may-read, after-one, between, second-context, after-two, Leaf, One, Aside};
-ghost use Rattle.inference.specs.Stages.{Some, Two, side-of, wanting, projection-type};
+ghost use Rattle.inference.specs.Stages.{Some, Two, side-of, reads, wanting, projection-type};
 ghost use Rattle.inference.specs.Stages.{kept-branch, result-type, case-type, Case, Branch, Branches};
 
 // What typing finds: the record count of the type that it has written in front, or the number of the first question answered
@@ -75,14 +77,13 @@ fn index(s: &[u8]) -> usize
 }
 
 // A type record, to the front of the work buffer.
-fn put(w: &mut [u8], kind: u8, r: Reader, ir: Indirect)
+fn put(w: &mut [u8], kind: u8, property: Property)
     requires { ⌜ type-width ≤ length (now w) ⌝ }
-    ensures { λ _. ⌜ now (w .exit) ≡ splice 0 (kind ∷ r .0 ∷ ir .0 ∷ 0 ∷ []) (now (w .entry)) ⌝ }
+    ensures { λ _. ⌜ now (w .exit) ≡ splice 0 (type-record kind (said-property property)) (now (w .entry)) ⌝ }
 {
     w[0] = kind;
-    w[1] = r.0;
-    w[2] = ir.0;
-    w[3] = 0;
+    w[types::ZERO] = 0;
+    types::put_property(w, 0, property);
 }
 
 // The part of the types table that starts with the type of record i.
@@ -141,7 +142,7 @@ fn side(s: &[u8], second: bool) -> &[u8]
 fn wanted(groups: &[u8], types: &[u8], i: usize, w: &[u8]) -> bool
     requires { ⌜ Named (now types) i × Starts (now w) ⌝ }
     ensures { λ x. ⌜ ((s t : Ty) → Held (now (w .entry)) s → Held (drop (type-width * i) (now (types .entry))) t
-        → x ≡ subtype (readers (now (groups .entry))) below s t) ⌝ }
+        → x ≡ subtype (properties-of (now (groups .entry))) below s t) ⌝ }
 {
     subtyping::is_subtype(groups, w, named(types, i))
 }
@@ -150,7 +151,7 @@ fn wanted(groups: &[u8], types: &[u8], i: usize, w: &[u8]) -> bool
 fn may_read(groups: &[u8], former: u8, r: Reader, place: usize, w: &[u8]) -> Checked
     requires { ⌜ Starts (now w) ⌝ }
     ensures { λ x. ⌜ ((f : Former) (t : Ty) → former ≡ former-kind f → Held (now (w .entry)) t
-        → said x ≡ may-read (readers (now (groups .entry))) place f t (r .0)) ⌝ }
+        → said x ≡ may-read (properties-of (now (groups .entry))) place f t (r .0)) ⌝ }
 {
     if types::kind(w) != former {
         return Checked::Refused(20, place);
@@ -159,14 +160,14 @@ fn may_read(groups: &[u8], former: u8, r: Reader, place: usize, w: &[u8]) -> Che
     answer::ask(21, place, own.at_or_below(groups, r))
 }
 
-// What reading the object in front gives: a side of its type, raised by its indirect readers.
-fn read_side(groups: &[u8], w: &mut [u8], second: bool) -> Found
+// What reading the object in front as r gives: a side of its type, raised by what the reading leaves.
+fn read_side(groups: &[u8], r: Reader, second: bool, w: &mut [u8]) -> Found
     requires { ⌜ Sided (now w) × (answer-length ≤ length (now w)) ⌝ }
     ensures { λ x. ⌜ ((t : Ty) (b : ℕ) → Slot (now (w .entry)) t → answer-length * (b + 1) ≤ length (now (w .entry))
-        → Meets (accepted (raiseT (readers (now (groups .entry))) (side-of second t) (top t .ir))) b
+        → Meets (accepted (reads (properties-of (now (groups .entry))) t (r .0) (side-of second t))) b
         (now (w .entry)) x (now (w .exit))) ⌝ }
 {
-    let by = types::indirect(w);
+    let by = types::property(w).influence(groups, r);
     let from = side_at(w, second);
     let n = move_type(w, from, 0);
     types::raise(groups, w, by);
@@ -193,12 +194,7 @@ pub fn leaf(s: &[u8], b: usize, w: &mut [u8]) -> Found
     if records::kind(s, 0) == VARIABLE {
         return variable(index(s), b, w);
     }
-    put(
-        w,
-        types::UNIT,
-        records::reader(s, 0),
-        records::indirect(s, 0),
-    );
+    put(w, types::UNIT, records::property(s, 0));
     Found::Typed(1)
 }
 
@@ -212,26 +208,26 @@ fn bind(types: &[u8], i: usize, b: usize, w: &mut [u8])
     copy_named(types, i, w, at);
 }
 
-// Question 23: ir of the function type that t starts with against that of its result.
-fn absorbs(groups: &[u8], t: &[u8]) -> bool
+// Question 23 of the function type that t starts with: may its result be read through it, called as this group?
+fn absorbs(groups: &[u8], t: &[u8], caller: Reader) -> bool
     requires { ⌜ Sided (now t) ⌝ }
     ensures { λ x. ⌜ ((s : Ty) → Held (now (t .entry)) s
-        → x ≡ readers (now (groups .entry)) .absorbs (top s) (top (right s))) ⌝ }
+        → x ≡ properties-of (now (groups .entry)) .absorbs (top s) (caller .0) (top (right s))) ⌝ }
 {
-    let own = types::indirect(t);
-    let result = types::indirect(side(t, true));
-    own.at_or_below(groups, result)
+    let own = types::property(t);
+    let result = types::property(side(t, true));
+    result.absorbed_by(groups, own, caller)
 }
 
-// Questions 21 and 23 of a recursion of the named type: may its group call it, and is ir of its type at or below its result's?
+// Questions 21 and 23 of a recursion of the named type: may its group call it, and may its result be read through it?
 fn may_recur(groups: &[u8], types: &[u8], i: usize, caller: Reader, place: usize) -> Checked
     requires { ⌜ Named-sided (now types) i ⌝ }
     ensures { λ x. ⌜ ((t : Ty) → Held (drop (type-width * i) (now (types .entry))) t
-        → said x ≡ may-recur (readers (now (groups .entry))) place t (caller .0)) ⌝ }
+        → said x ≡ may-recur (properties-of (now (groups .entry))) place t (caller .0)) ⌝ }
 {
     let t = named(types, i);
     let called = types::reader(t).at_or_below(groups, caller);
-    let absorbed = absorbs(groups, t);
+    let absorbed = absorbs(groups, t, caller);
     if !called {
         return Checked::Refused(21, place);
     }
@@ -249,7 +245,7 @@ pub fn before_operands(
 ) -> Checked
     requires { ⌜ Ready (now types) (now s) place b (now w) ⌝ }
     ensures { λ x. ⌜ ((v : Ready (now (types .entry)) (now (s .entry)) place b (now (w .entry)))
-        → Enters (before-first (readers (now (groups .entry))) (type-at (now (types .entry))) place (v .tree))
+        → Enters (before-first (properties-of (now (groups .entry))) (type-at (now (types .entry))) place (v .tree))
         (first-context (type-at (now (types .entry))) (v .ctx) (v .tree)) b (now (w .entry)) x (now (w .exit))) ⌝ }
 {
     let k = records::kind(s, 0);
@@ -285,8 +281,7 @@ pub fn kept_front(s: &[u8]) -> usize
 fn function(
     types: &[u8],
     i: usize,
-    r: Reader,
-    ir: Indirect,
+    property: Property,
     place: usize,
     w: &mut [u8],
     n: usize,
@@ -294,7 +289,7 @@ fn function(
     requires { ⌜ Named (now types) i × (Typed-front (now w) n × (answer-length ≤ length (now w))) ⌝ }
     ensures { λ x. ⌜ ((s t : Ty) (b : ℕ) → Slot (drop (type-width * i) (now (types .entry))) s → Sized (now (w .entry)) n t
         → answer-length * (b + 1) ≤ length (now (w .entry))
-        → Meets (function-type place (record { r = r .0; ir = ir .0 }) s t) b (now (w .entry)) x (now (w .exit))) ⌝ }
+        → Meets (function-type place (said-property property) s t) b (now (w .entry)) x (now (w .exit))) ⌝ }
 {
     let t = named(types, i);
     let m = types::type_records(t);
@@ -304,7 +299,7 @@ fn function(
     let at = TYPE_WIDTH + TYPE_WIDTH * m;
     memory::up(w, 0, at, TYPE_WIDTH * n);
     memory::copy(t, TYPE_WIDTH * m, w, TYPE_WIDTH);
-    put(w, types::FUNCTION, r, ir);
+    put(w, types::FUNCTION, property);
     Found::Typed(m + n + 1)
 }
 
@@ -314,8 +309,7 @@ fn inject(
     types: &[u8],
     second: bool,
     i: usize,
-    r: Reader,
-    ir: Indirect,
+    property: Property,
     place: usize,
     w: &mut [u8],
 ) -> Found
@@ -323,13 +317,13 @@ fn inject(
     ensures { λ x. ⌜ ((u t : Ty) (b : ℕ) → Slot (drop (type-width * i) (now (types .entry))) u
         → Held (drop type-width (now (w .entry))) t
         → answer-length * (b + 1) ≤ length (now (w .entry))
-        → Meets (injection-type (readers (now (groups .entry))) place (record { r = r .0; ir = ir .0 }) u (side-of second u) t) b
+        → Meets (injection-type (properties-of (now (groups .entry))) place (said-property property) u (side-of second u) t) b
         (now (w .entry)) x (now (w .exit))) ⌝ }
 {
     let own = side(named(types, i), second);
     if subtyping::is_subtype(groups, &w[TYPE_WIDTH..], own) {
         let n = copy_named(types, i, w, 0);
-        put(w, types::SUM, r, ir);
+        put(w, types::SUM, property);
         return Found::Typed(n);
     }
     Found::Refused(22, place)
@@ -339,22 +333,22 @@ fn inject(
 fn project(groups: &[u8], second: bool, r: Reader, place: usize, w: &mut [u8]) -> Found
     requires { ⌜ Starts (now w) × (answer-length ≤ length (now w)) ⌝ }
     ensures { λ x. ⌜ ((t : Ty) (b : ℕ) → Slot (now (w .entry)) t → answer-length * (b + 1) ≤ length (now (w .entry))
-        → Meets (projection-type (readers (now (groups .entry))) place (r .0) second t) b (now (w .entry)) x (now (w .exit))) ⌝ }
+        → Meets (projection-type (properties-of (now (groups .entry))) place (r .0) second t) b (now (w .entry)) x (now (w .exit))) ⌝ }
 {
     let asked = may_read(groups, types::PAIR, r, place, w);
     let Checked::Passed = asked else {
         return refused(asked);
     };
-    read_side(groups, w, second)
+    read_side(groups, r, second, w)
 }
 
 // A protect: the type in front, raised.
-fn protect(groups: &[u8], ir: Indirect, w: &mut [u8], n: usize) -> Found
+fn protect(groups: &[u8], by: Influence, w: &mut [u8], n: usize) -> Found
     requires { ⌜ Typed-front (now w) n ⌝ }
     ensures { λ x. ⌜ ((t : Ty) (b : ℕ) → Sized (now (w .entry)) n t → answer-length * (b + 1) ≤ length (now (w .entry))
-        → Meets (accepted (raiseT (readers (now (groups .entry))) t (ir .0))) b (now (w .entry)) x (now (w .exit))) ⌝ }
+        → Meets (accepted (raiseT (properties-of (now (groups .entry))) t (said-influence by))) b (now (w .entry)) x (now (w .exit))) ⌝ }
 {
-    types::raise(groups, w, ir);
+    types::raise(groups, w, by);
     Found::Typed(n)
 }
 
@@ -363,7 +357,7 @@ fn adopt(groups: &[u8], types: &[u8], i: usize, place: usize, w: &mut [u8]) -> F
     requires { ⌜ Named (now types) i × (Starts (now w) × (answer-length ≤ length (now w))) ⌝ }
     ensures { λ x. ⌜ ((t u : Ty) (b : ℕ) → Held (now (w .entry)) t → Slot (drop (type-width * i) (now (types .entry))) u
         → answer-length * (b + 1) ≤ length (now (w .entry))
-        → Meets (wanting (readers (now (groups .entry))) place t u u) b (now (w .entry)) x (now (w .exit))) ⌝ }
+        → Meets (wanting (properties-of (now (groups .entry))) place t u u) b (now (w .entry)) x (now (w .exit))) ⌝ }
 {
     if wanted(groups, types, i, w) {
         let n = copy_named(types, i, w, 0);
@@ -384,30 +378,28 @@ pub fn after_one(
     requires { ⌜ One (now types) (now s) (now w) n ⌝ }
     ensures { λ x. ⌜ ((v : One (now (types .entry)) (now (s .entry)) (now (w .entry)) n) (b : ℕ)
         → answer-length * (b + 1) ≤ length (now (w .entry))
-        → Meets (after-one (readers (now (groups .entry))) (type-at (now (types .entry))) place (v .tree) (v .type)) b
+        → Meets (after-one (properties-of (now (groups .entry))) (type-at (now (types .entry))) place (v .tree) (v .type)) b
         (now (w .entry)) x (now (w .exit))) ⌝ }
 {
     let k = records::kind(s, 0);
-    let r = records::reader(s, 0);
-    let ir = records::indirect(s, 0);
     let i = index(s);
     if k == FUNCTION {
-        return function(types, i, r, ir, place, w, n);
+        return function(types, i, records::property(s, 0), place, w, n);
     }
     if k == FIRST_INJECTION {
-        return inject(groups, types, false, i, r, ir, place, w);
+        return inject(groups, types, false, i, records::property(s, 0), place, w);
     }
     if k == SECOND_INJECTION {
-        return inject(groups, types, true, i, r, ir, place, w);
+        return inject(groups, types, true, i, records::property(s, 0), place, w);
     }
     if k == FIRST_PROJECTION {
-        return project(groups, false, r, place, w);
+        return project(groups, false, records::reader(s, 0), place, w);
     }
     if k == SECOND_PROJECTION {
-        return project(groups, true, r, place, w);
+        return project(groups, true, records::reader(s, 0), place, w);
     }
     if k == PROTECT {
-        return protect(groups, ir, w, n);
+        return protect(groups, records::influence(s, 0), w, n);
     }
     adopt(groups, types, i, place, w)
 }
@@ -416,8 +408,8 @@ pub fn after_one(
 fn test(groups: &[u8], r: Reader, place: usize, b: usize, w: &mut [u8], n: usize) -> Checked
     requires { ⌜ Typed-front (now w) n × (answer-length * (b + 2) ≤ length (now w)) ⌝ }
     ensures { λ x. ⌜ ((Γ : List Ty) (t : Ty) → Sized (now (w .entry)) n t → length Γ ≡ b → Holds Γ (high b (now (w .entry)))
-        → Enters (may-read (readers (now (groups .entry))) place sum t (r .0)) (left t ∷ Γ) b (now (w .entry)) x (now (w .exit))
-        × (may-read (readers (now (groups .entry))) place sum t (r .0) ≡ accepted tt → Beside t b (now (w .exit)))) ⌝ }
+        → Enters (may-read (properties-of (now (groups .entry))) place sum t (r .0)) (left t ∷ Γ) b (now (w .entry)) x (now (w .exit))
+        × (may-read (properties-of (now (groups .entry))) place sum t (r .0) ≡ accepted tt → Beside t b (now (w .exit)))) ⌝ }
 {
     let asked = may_read(groups, types::SUM, r, place, w);
     let Checked::Passed = asked else {
@@ -433,9 +425,9 @@ fn test(groups: &[u8], r: Reader, place: usize, b: usize, w: &mut [u8], n: usize
 pub fn between(groups: &[u8], s: &[u8], place: usize, b: usize, w: &mut [u8], n: usize) -> Checked
     requires { ⌜ Some (now s) b (now w) n ⌝ }
     ensures { λ x. ⌜ ((v : Some (now (s .entry)) b (now (w .entry)) n)
-        → Enters (between (readers (now (groups .entry))) place (v .tree) (v .type))
+        → Enters (between (properties-of (now (groups .entry))) place (v .tree) (v .type))
         (second-context (v .ctx) (v .tree) (v .type)) b (now (w .entry)) x (now (w .exit))
-        × (between (readers (now (groups .entry))) place (v .tree) (v .type) ≡ accepted tt
+        × (between (properties-of (now (groups .entry))) place (v .tree) (v .type) ≡ accepted tt
         → Aside (v .tree) (v .type) b (now (w .exit)) n)) ⌝ }
 {
     let k = records::kind(s, 0);
@@ -450,11 +442,11 @@ pub fn between(groups: &[u8], s: &[u8], place: usize, b: usize, w: &mut [u8], n:
 }
 
 // A pair: its first type is in front, the second from the next slot's length on. Question 24.
-fn pair(r: Reader, ir: Indirect, place: usize, w: &mut [u8], n: usize, m: usize) -> Found
+fn pair(property: Property, place: usize, w: &mut [u8], n: usize, m: usize) -> Found
     requires { ⌜ Typed-front (now w) n × (Typed-front (drop answer-length (now w)) m × (answer-length * 2 ≤ length (now w))) ⌝ }
     ensures { λ x. ⌜ ((s t : Ty) (b : ℕ) → Sized (now (w .entry)) n s → Sized (drop answer-length (now (w .entry))) m t
         → answer-length * (b + 1) ≤ length (now (w .entry))
-        → Meets (pair-type place (record { r = r .0; ir = ir .0 }) s t) b (now (w .entry)) x (now (w .exit))) ⌝ }
+        → Meets (pair-type place (said-property property) s t) b (now (w .entry)) x (now (w .exit))) ⌝ }
 {
     if TYPE_LIMIT <= n + m {
         return Found::Refused(24, place);
@@ -462,7 +454,7 @@ fn pair(r: Reader, ir: Indirect, place: usize, w: &mut [u8], n: usize, m: usize)
     memory::up(w, 0, TYPE_WIDTH, TYPE_WIDTH * n);
     let at = TYPE_WIDTH + TYPE_WIDTH * n;
     memory::down(w, SECOND_PART, at, TYPE_WIDTH * m);
-    put(w, types::PAIR, r, ir);
+    put(w, types::PAIR, property);
     Found::Typed(n + m + 1)
 }
 
@@ -470,21 +462,21 @@ fn pair(r: Reader, ir: Indirect, place: usize, w: &mut [u8], n: usize, m: usize)
 fn argument_fits(groups: &[u8], w: &[u8]) -> bool
     requires { ⌜ Sided (now w) × (Starts (drop answer-length (now w)) × (answer-length ≤ length (now w))) ⌝ }
     ensures { λ x. ⌜ ((s t : Ty) → Held (now (w .entry)) s → Held (drop answer-length (now (w .entry))) t
-        → x ≡ subtype (readers (now (groups .entry))) below t (left s)) ⌝ }
+        → x ≡ subtype (properties-of (now (groups .entry))) below t (left s)) ⌝ }
 {
     subtyping::is_subtype(groups, &w[SECOND_PART..], side(w, false))
 }
 
 // An application: the function's type is in front, the argument's from the next slot's length on. Question 22, and the result.
-fn apply(groups: &[u8], place: usize, w: &mut [u8]) -> Found
+fn apply(groups: &[u8], r: Reader, place: usize, w: &mut [u8]) -> Found
     requires { ⌜ Sided (now w) × (Starts (drop answer-length (now w)) × (answer-length * 2 ≤ length (now w))) ⌝ }
     ensures { λ x. ⌜ ((s t : Ty) (b : ℕ) → Slot (now (w .entry)) s
         → Held (drop answer-length (now (w .entry))) t → answer-length * (b + 1) ≤ length (now (w .entry))
-        → Meets (wanting (readers (now (groups .entry))) place t (left s)
-        (raiseT (readers (now (groups .entry))) (right s) (top s .ir))) b (now (w .entry)) x (now (w .exit))) ⌝ }
+        → Meets (wanting (properties-of (now (groups .entry))) place t (left s)
+        (reads (properties-of (now (groups .entry))) s (r .0) (right s))) b (now (w .entry)) x (now (w .exit))) ⌝ }
 {
     if argument_fits(groups, w) {
-        return read_side(groups, w, true);
+        return read_side(groups, r, true, w);
     }
     Found::Refused(22, place)
 }
@@ -494,20 +486,13 @@ pub fn after_two(groups: &[u8], s: &[u8], place: usize, w: &mut [u8], n: usize, 
     requires { ⌜ Two (now groups) (now s) place (now w) n m ⌝ }
     ensures { λ x. ⌜ ((v : Two (now (groups .entry)) (now (s .entry)) place (now (w .entry)) n m) (b : ℕ)
         → answer-length * (b + 1) ≤ length (now (w .entry))
-        → Meets (after-two (readers (now (groups .entry))) place (v .tree) (v .first) (v .second)) b (now (w .entry)) x
+        → Meets (after-two (properties-of (now (groups .entry))) place (v .tree) (v .first) (v .second)) b (now (w .entry)) x
         (now (w .exit))) ⌝ }
 {
     if records::kind(s, 0) == PAIR {
-        return pair(
-            records::reader(s, 0),
-            records::indirect(s, 0),
-            place,
-            w,
-            n,
-            m,
-        );
+        return pair(records::property(s, 0), place, w, n, m);
     }
-    apply(groups, place, w)
+    apply(groups, records::reader(s, 0), place, w)
 }
 
 // Question 22 of a case's first branch, whose type is in front. Where the case finds its own type, any will do.
@@ -515,7 +500,7 @@ fn branch_fits(groups: &[u8], types: &[u8], s: &[u8], w: &[u8]) -> bool
     requires { ⌜ Case (now types) (now s) × Starts (now w) ⌝ }
     ensures { λ x. ⌜ ((t : Ty) (place : ℕ) → Held (now (w .entry)) t
         → ask 22 place x
-        ≡ q22-of-branch (readers (now (groups .entry))) place (type-at (now (types .entry))) (number (now (s .entry)) 0) t) ⌝ }
+        ≡ q22-of-branch (properties-of (now (groups .entry))) place (type-at (now (types .entry))) (number (now (s .entry)) 0) t) ⌝ }
 {
     if records::finds_own(s, 0) {
         return true;
@@ -535,7 +520,7 @@ pub fn after_first_branch(
 ) -> Checked
     requires { ⌜ Branch (now types) (now s) b (now w) ⌝ }
     ensures { λ x. ⌜ ((v : Branch (now (types .entry)) (now (s .entry)) b (now (w .entry)))
-        → Enters (q22-of-branch (readers (now (groups .entry))) place (type-at (now (types .entry))) (number (now (s .entry)) 0) (v .type))
+        → Enters (q22-of-branch (properties-of (now (groups .entry))) place (type-at (now (types .entry))) (number (now (s .entry)) 0) (v .type))
         (right (v .tested) ∷ v .ctx) b (now (w .entry)) x (now (w .exit)) × Slot (now (w .exit)) (v .type)) ⌝ }
 {
     let asked = answer::ask(22, place, branch_fits(groups, types, s, w));
@@ -560,7 +545,7 @@ pub fn kept_branch(s: &[u8]) -> usize
 fn common_type(groups: &[u8], place: usize, w: &mut [u8]) -> Found
     requires { ⌜ Both (now w) ⌝ }
     ensures { λ x. ⌜ ((v : Both (now (w .entry))) (b : ℕ) → answer-length * (b + 1) ≤ length (now (w .entry))
-        → Meets (found-or place (common (readers (now (groups .entry))) below (v .first) (v .second))) b
+        → Meets (found-or place (common (properties-of (now (groups .entry))) below (v .first) (v .second))) b
         (now (w .entry)) x (now (w .exit))) ⌝ }
 {
     let walked = common_types::least_above(groups, w, 0, SECOND_RECORD);
@@ -575,7 +560,7 @@ fn result_type(groups: &[u8], types: &[u8], s: &[u8], place: usize, w: &mut [u8]
     requires { ⌜ Branches (now types) (now s) (now w) ⌝ }
     ensures { λ x. ⌜ ((v : Branches (now (types .entry)) (now (s .entry)) (now (w .entry))) (b : ℕ)
         → answer-length * (b + 1) ≤ length (now (w .entry))
-        → Meets (result-type (readers (now (groups .entry))) (type-at (now (types .entry))) place (number (now (s .entry)) 0)
+        → Meets (result-type (properties-of (now (groups .entry))) (type-at (now (types .entry))) place (number (now (s .entry)) 0)
         (v .first) (v .second)) b (now (w .entry)) x (now (w .exit))) ⌝ }
 {
     if records::finds_own(s, 0) {
@@ -584,20 +569,20 @@ fn result_type(groups: &[u8], types: &[u8], s: &[u8], place: usize, w: &mut [u8]
     adopt(groups, types, index(s), place, w)
 }
 
-// After a case's second branch: the case's type, raised by the tested type's indirect readers.
+// After a case's second branch: the case's type, raised by what testing left.
 pub fn after_second_branch(
     groups: &[u8],
     types: &[u8],
     s: &[u8],
     place: usize,
-    by: Indirect,
+    by: Influence,
     w: &mut [u8],
 ) -> Found
     requires { ⌜ Branches (now types) (now s) (now w) ⌝ }
     ensures { λ x. ⌜ ((v : Branches (now (types .entry)) (now (s .entry)) (now (w .entry))) (b : ℕ)
         → answer-length * (b + 1) ≤ length (now (w .entry))
-        → Meets (case-type (readers (now (groups .entry))) (type-at (now (types .entry))) place (number (now (s .entry)) 0)
-        (v .first) (v .second) (by .0)) b (now (w .entry)) x (now (w .exit))) ⌝ }
+        → Meets (case-type (properties-of (now (groups .entry))) (type-at (now (types .entry))) place (number (now (s .entry)) 0)
+        (v .first) (v .second) (said-influence by)) b (now (w .entry)) x (now (w .exit))) ⌝ }
 {
     let x = result_type(groups, types, s, place, w);
     let Found::Typed(n) = x else {

@@ -14,13 +14,14 @@ use Rattle.calculus.specs.Types.{Ty, top}
 use Rattle.calculus.specs.Terms.{Term}
 use Rattle.rules.specs.Answer.{Bytes, byte}
 use Rattle.rules.specs.Limits.{type-width}
-use Rattle.rules.specs.Groups.{leq, readers}
-use Rattle.rules.specs.Types.{type-count, type-kind, type-r, type-ir, type-at, parse-types, make-type, no-type}
+use Rattle.rules.specs.Groups.{leq, properties-of}
+use Rattle.rules.specs.Types.{type-count, type-kind, type-at, parse-types, make-type, no-type}
 use Rattle.rules.specs.Script.{kind, r, number}
 use Rattle.records.specs.Kinds as kinds
 use Rattle.records.specs.Place.{At}
 use Rattle.records.proofs.Stands.{kind-of, stands-kind, at-first}
 use Rattle.rules.proofs.TypePlaces.{type-at-outside}
+use Rattle.types.specs.Held.{type-property}
 use Rattle.redex.specs.Fates.{goes, wrong-kind, is-function, reading-fate, fate}
 use Rattle.records.specs.Operands.{first-operand}
 use Rattle.redex.specs.Found.{answer, is-destructor, takes-apart}
@@ -42,7 +43,9 @@ first-function [] l = absurd (omega arith)
 first-function (k ∷ []) l = absurd (omega arith)
 first-function (k ∷ r ∷ []) l = absurd (omega arith)
 first-function (k ∷ r ∷ ir ∷ []) l = absurd (omega arith)
-first-function (k ∷ r ∷ ir ∷ z ∷ b) l = made-function k _ _ _
+first-function (k ∷ r ∷ ir ∷ z ∷ []) l = absurd (omega arith)
+first-function (k ∷ r ∷ ir ∷ z ∷ c ∷ []) l = absurd (omega arith)
+first-function (k ∷ r ∷ ir ∷ z ∷ c ∷ ic ∷ b) l = made-function k _ _ _
 
 pub function-at : (t : Bytes) (i : ℕ) → i < type-count t → eqb (type-kind t i) 3 ≡ is-function (type-at t i)
 unfolding type-at
@@ -67,19 +70,22 @@ made-top (suc (suc (suc zero))) p s t h = refl
 made-top (suc (suc (suc (suc k)))) p s t h = absurd (false≢true h)
 
 first-top : (b : Bytes) → So (is-function (getD (parse-types b) 0 no-type))
-    → top (getD (parse-types b) 0 no-type) ≡ record { r = byte b 1; ir = byte b 2 }
+    → top (getD (parse-types b) 0 no-type) ≡ type-property b 0
 unfolding parse-types
 first-top [] h = absurd (false≢true h)
 first-top (k ∷ []) h = absurd (false≢true h)
 first-top (k ∷ r ∷ []) h = absurd (false≢true h)
 first-top (k ∷ r ∷ ir ∷ []) h = absurd (false≢true h)
-first-top (k ∷ r ∷ ir ∷ z ∷ b) h = made-top k _ _ _ h
+first-top (k ∷ r ∷ ir ∷ z ∷ []) h = absurd (false≢true h)
+first-top (k ∷ r ∷ ir ∷ z ∷ c ∷ []) h = absurd (false≢true h)
+first-top (k ∷ r ∷ ir ∷ z ∷ c ∷ ic ∷ b) h = made-top k _ _ _ h
 
-pub function-top : (t : Bytes) (i : ℕ) → So (is-function (type-at t i)) → top (type-at t i) ≡ record { r = type-r t i; ir = type-ir t i }
+pub function-top : (t : Bytes) (i : ℕ) → So (is-function (type-at t i)) → top (type-at t i) ≡ type-property t i
 unfolding type-at
 function-top t i h =
     let b = drop (type-width * i) t in
-    first-top b h ∙ ap₂ (λ x y. record { r = x; ir = y }) (getD-drop (type-width * i) t 1 0) (getD-drop (type-width * i) t 2 0)
+    let past : (n : ℕ) → byte b n ≡ byte t (type-width * i + n) = λ n. getD-drop (type-width * i) t n 0 in
+    first-top b h ∙ (λ j. record { r = past 1 j; ir = past 2 j; c = past 4 j; ic = past 5 j })
 
 module _ {s : Bytes} {i : ℕ} {e : Term} (a : At s i e) where
   -- of a recursion, by the kind of the type that it names
@@ -93,11 +99,11 @@ module _ {s : Bytes} {i : ℕ} {e : Term} (a : At s i e) where
   -- of a destructor, by its own record and that of the operand after it
   pub reading-answer : (g : Bytes) (tab : ℕ → Ty) (d : ℕ) (fits may : Bool) → So (is-destructor (kind s i))
       → takes-apart (kind s i) (kind s (i + 1)) ≡ fits → leq g (r s (i + 1)) (r s i) ≡ may
-      → answer (reading-fate fits may) i d ≡ answer (fate (readers g) tab e) i d
+      → answer (reading-fate fits may) i d ≡ answer (fate (properties-of g) tab e) i d
   reading-answer g tab d fits may h p q =
       let k = stands-kind s i e a in
       let x : So (is-destructor (kind-of e)) = subst (λ n. So (is-destructor n)) k h in
-      let z = reading-is (readers g) tab e x in
+      let z = reading-is (properties-of g) tab e x in
       let o = at-first s i e a (z .0) in
       ap (λ x. answer x i d)
       (ap₂ reading-fate (sym p) (sym q)

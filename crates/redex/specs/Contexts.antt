@@ -15,7 +15,7 @@ use Rattle.calculus.specs.Reduction.{
   in-case,
 }
 use Rattle.rules.specs.Answer.{Bytes}
-use Rattle.rules.specs.Script.{script-record, encode, size, weight, depth}
+use Rattle.rules.specs.Script.{full-record, script-record, object-record, encode, size, weight, depth}
 use Rattle.records.specs.Kinds as kinds
 
 -- the bytes before the hole
@@ -25,10 +25,10 @@ before hole = []
 before (app-left w E a) = script-record kinds.application w 0 0 ++ before E
 before (app-right w v h E) = script-record kinds.application w 0 0 ++ (encode v ++ before E)
 before (in-proj d w E) = script-record (choose d kinds.first-projection kinds.second-projection) w 0 0 ++ before E
-before (in-inj d k i E) = script-record (choose d kinds.first-injection kinds.second-injection) (k .r) (k .ir) i ++ before E
-before (pair-left k E b) = script-record kinds.pair (k .r) (k .ir) 0 ++ before E
-before (pair-right k v h E) = script-record kinds.pair (k .r) (k .ir) 0 ++ (encode v ++ before E)
-before (in-protect m E) = script-record kinds.protect 0 m 0 ++ before E
+before (in-inj d k i E) = object-record (choose d kinds.first-injection kinds.second-injection) k i ++ before E
+before (pair-left k E b) = object-record kinds.pair k 0 ++ before E
+before (pair-right k v h E) = object-record kinds.pair k 0 ++ (encode v ++ before E)
+before (in-protect m E) = full-record kinds.protect 0 (m .ir) 0 0 (m .ic) ++ before E
 before (in-case w i E a b) = script-record kinds.case w 0 i ++ before E
 
 -- the bytes after the hole

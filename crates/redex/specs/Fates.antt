@@ -1,25 +1,29 @@
 -- What becomes of a node once its evaluated operands are values, apart from what it contracts to.
 use mathlib.Core.Bool.{Bool, true, false, cond, _&&_}
 use Prim.Native.Nat.{ℕ, zero}
-use Rattle.calculus.specs.Security.{Property, Security}
+use Rattle.calculus.specs.Security.{Property, Reader, Security}
 use Rattle.calculus.specs.Types.{sum, product, function, Ty, one, node, same, top}
 use Rattle.calculus.specs.Terms.{Side, first, choose, Term, var, unit, lam, pair, inj, app, proj, case, protect, mu, is-value, subst, raise-value}
 use Rattle.calculus.specs.Reduction.{unrolled, Outcome, moved, denied, stuck}
 use Rattle.calculus.specs.Stuck.{built-by}
 use Rattle.records.specs.Operands.{first-operand, second-operand}
 
--- the groups of a term's own record: "unnamed fields are 0"
+-- the groups of a record that names a reader only: "unnamed fields are 0"
+abbrev only-reader : Reader → Property
+only-reader w = record { r = w; ir = 0; c = 0; ic = 0 }
+
+-- the groups of a term's own record
 abbrev pub property-of : Term → Property
-property-of (var n) = record { r = 0; ir = 0 }
+property-of (var n) = only-reader 0
 property-of (unit k) = k
 property-of (lam k i e) = k
 property-of (pair k a b) = k
 property-of (inj d k i e) = k
-property-of (app w f a) = record { r = w; ir = 0 }
-property-of (proj d w e) = record { r = w; ir = 0 }
-property-of (case w i e a b) = record { r = w; ir = 0 }
-property-of (protect m e) = record { r = 0; ir = m }
-property-of (mu w i e) = record { r = w; ir = 0 }
+property-of (app w f a) = only-reader w
+property-of (proj d w e) = only-reader w
+property-of (case w i e a b) = only-reader w
+property-of (protect m e) = record { r = 0; ir = m .ir; c = 0; ic = m .ic }
+property-of (mu w i e) = only-reader w
 
 -- The parts of a term that a rule of table 1 takes apart. Each is total: a term without the part has a stand-in, which no rule uses.
 abbrev pub side-of : Term → Side

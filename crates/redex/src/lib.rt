@@ -18,7 +18,7 @@ ghost use Prim.Native.Nat.{ℕ, _+_, _<_};
 ghost use Rattle.calculus.specs.Security.{Security};
 ghost use Rattle.calculus.specs.Types.{Ty};
 ghost use Rattle.calculus.specs.Terms.{Term};
-ghost use Rattle.rules.specs.Groups.{leq, readers};
+ghost use Rattle.rules.specs.Groups.{leq, properties-of};
 ghost use Rattle.rules.specs.Types.{type-at};
 ghost use Rattle.rules.specs.Script.{records, kind, r};
 ghost use Rattle.records.specs.Kinds as kinds;
@@ -72,7 +72,7 @@ fn may_read(groups: &[u8], script: &[u8], at: usize) -> bool
 fn reading(groups: &[u8], script: &[u8], at: usize, depth: usize) -> Found
     requires { ⌜ at + 1 < records (now script) ⌝ }
     ensures { λ a. ⌜ ((tab : ℕ → Ty) (e : Term) → At (now (script .entry)) at e
-        → So (is-destructor (kind (now (script .entry)) at)) → a ≡ answer (fate (readers (now (groups .entry))) tab e) at depth) ⌝ }
+        → So (is-destructor (kind (now (script .entry)) at)) → a ≡ answer (fate (properties-of (now (groups .entry))) tab e) at depth) ⌝ }
 {
     let destructor = records::kind(script, at);
     let value = records::kind(script, at + 1);
@@ -103,7 +103,7 @@ fn unrolling(types: &[u8], script: &[u8], at: usize, depth: usize) -> Found
 pub fn find(groups: &[u8], types: &[u8], script: &[u8], at: usize, depth: usize) -> Found
     requires { ⌜ Shallow (now script) at depth ⌝ }
     ensures { λ a. ⌜ ((e : Term) → At (now (script .entry)) at e
-        → Finds (readers (now (groups .entry))) (type-at (now (types .entry))) at depth e a) ⌝ }
+        → Finds (properties-of (now (groups .entry))) (type-at (now (types .entry))) at depth e a) ⌝ }
 {
     let kind = records::kind(script, at);
     if kind == VARIABLE {

@@ -13,7 +13,7 @@ use Rattle.calculus.specs.Terms.{Term}
 use Rattle.calculus.specs.Reduction.{moved, step}
 use Rattle.rules.specs.Answer.{Bytes, Octets, Answer, accepted, _>>_}
 use Rattle.rules.specs.Limits.{table-limit}
-use Rattle.rules.specs.Groups.{readers}
+use Rattle.rules.specs.Groups.{properties-of}
 use Rattle.rules.specs.Types.{type-count, type-at, q8}
 use Rattle.rules.specs.Script.{records, term}
 use Rattle.rules.specs.Step.{End, at-value, moves, may-not, wrong-kind, too-big, exceeds, limited, step-in}
@@ -81,12 +81,12 @@ pub refused-keeps : (g t s old : Bytes) (room : ℕ) (x : Checked) → No x → 
 unfolding stepping
 refused-keeps g t s old room Passed k e = absurd (omega arith)
 refused-keeps g t s old room (Refused q p) k e =
-    transport (λ (c : Answer (Unit {0})). Keeps s old (Refused q p) (_>>_ c (accepted (step-in (readers g) (type-at t) room (term s))))) e (refl, refl)
+    transport (λ (c : Answer (Unit {0})). Keeps s old (Refused q p) (_>>_ c (accepted (step-in (properties-of g) (type-at t) room (term s))))) e (refl, refl)
 
 pub passed-step : (g t s : Bytes) (room : ℕ) → script-check [] g t s ≡ accepted tt
-    → stepping g t s room ≡ accepted (step-in (readers g) (type-at t) room (term s))
+    → stepping g t s room ≡ accepted (step-in (properties-of g) (type-at t) room (term s))
 unfolding stepping
-passed-step g t s room h = ap (λ (o : Answer (Unit {0})). _>>_ o (accepted (step-in (readers g) (type-at t) room (term s)))) h
+passed-step g t s room h = ap (λ (o : Answer (Unit {0})). _>>_ o (accepted (step-in (properties-of g) (type-at t) room (term s)))) h
 
 table-small : (g t : Bytes) → types-check g t ≡ accepted tt → type-count t ≤ table-limit
 unfolding types-check

@@ -6,7 +6,7 @@ use Rattle.calculus.specs.Terms.{Term}
 use Rattle.calculus.specs.Reduction.{plug}
 use Rattle.rules.specs.Answer.{Bytes, Answer, accepted, refused}
 use Rattle.rules.specs.Limits.{script-limit, depth-limit, table-limit, script-width}
-use Rattle.rules.specs.Groups.{readers}
+use Rattle.rules.specs.Groups.{properties-of}
 use Rattle.rules.specs.Types.{type-count, type-at}
 use Rattle.rules.specs.Script.{encode, term, size, depth}
 use Rattle.rules.specs.Step.{End, at-value, moves, may-not, wrong-kind, too-big}
@@ -32,7 +32,7 @@ pub record Startable (t s : Bytes) : Type 0 where
 -- The term can be stepped: its redex stands at record `at` with `around` records around it, and the buffer has `room` bytes.
 pub record Sited (g t s : Bytes) (at around : ℕ) (w : Bytes) (room : ℕ) : Type 0 where
   pub start : Startable t s
-  pub site : Site (readers g) (type-at t) 0 0 (term s) at around
+  pub site : Site (properties-of g) (type-at t) 0 0 (term s) at around
   pub fits : room ≤ length w
 
 -- The new term can be written: the redex at record `at` has this plan, ends before record `end`, its contractum has `count` records, and
@@ -40,12 +40,12 @@ pub record Sited (g t s : Bytes) (at around : ℕ) (w : Bytes) (room : ℕ) : Ty
 pub record Placing (g t s : Bytes) (at : ℕ) (p : Plan) (end count : ℕ) (w : Bytes) : Type 0 where
   pub start : Startable t s
   pub around : ℕ
-  pub site : Site (readers g) (type-at t) 0 0 (term s) at around
+  pub site : Site (properties-of g) (type-at t) 0 0 (term s) at around
   pub planned : Planned s (site .redex) p
   pub end-is : end ≡ at + size (site .redex)
   pub whole : Term
-  pub whole-is : whole ≡ plug (site .context) (contractum (readers g) (type-at t) (site .redex))
-  pub count-is : count ≡ size (contractum (readers g) (type-at t) (site .redex))
+  pub whole-is : whole ≡ plug (site .context) (contractum (properties-of g) (type-at t) (site .redex))
+  pub count-is : count ≡ size (contractum (properties-of g) (type-at t) (site .redex))
   pub fits : script-width * size whole ≤ length w
 
 -- a step's end, as the crate tells it

@@ -10,7 +10,7 @@ ghost use Prim.Native.Nat.{_-_, _/_, _≤_};
 ghost use lib.Dec.{ltb};
 ghost use lib.ListN.{length};
 ghost use Rattle.rules.specs.Limits.{script-width, script-limit, depth-limit};
-ghost use Rattle.rules.specs.Groups.{readers};
+ghost use Rattle.rules.specs.Groups.{properties-of};
 ghost use Rattle.rules.specs.Types.{type-at};
 ghost use Rattle.rules.specs.Script.{encode, term, depth};
 ghost use Rattle.rules.specs.Step.{step-in};
@@ -54,7 +54,7 @@ fn write_new(
     memory::copy_part(script, from, script.len() - from, written, to);
 }
 
-// Too big: more than 8,192 records, more than the room divided by 6, or depth over 256.
+// Too big: more than 8,192 records, more than the room divided by 8, or depth over 256.
 fn exceeds(room: usize, records: usize, depth: usize) -> bool
     ensures { λ a. ⌜ a ≡ (ltb script-limit records || (ltb (room / script-width) records || ltb depth-limit depth)) ⌝ }
 {
@@ -75,9 +75,9 @@ fn contract(
 ) -> Stepped
     requires { ⌜ Sited (now groups) (now types) (now script) at around (now written) room ⌝ }
     ensures { λ a. ⌜ (a ≡ told
-        (step-in (readers (now (groups .entry))) (type-at (now (types .entry))) room (term (now (script .entry)))))
+        (step-in (properties-of (now (groups .entry))) (type-at (now (types .entry))) room (term (now (script .entry)))))
         × (now (written .exit)
-        ≡ front-after (step-in (readers (now (groups .entry))) (type-at (now (types .entry))) room
+        ≡ front-after (step-in (properties-of (now (groups .entry))) (type-at (now (types .entry))) room
         (term (now (script .entry)))) (now (written .entry))) ⌝ }
 {
     let plan = contraction::plan_of(script, at);
@@ -101,9 +101,9 @@ pub fn step_term(
 ) -> Stepped
     requires { ⌜ Startable (now types) (now script) × (room ≤ length (now written)) ⌝ }
     ensures { λ a. ⌜ (a ≡ told
-        (step-in (readers (now (groups .entry))) (type-at (now (types .entry))) room (term (now (script .entry)))))
+        (step-in (properties-of (now (groups .entry))) (type-at (now (types .entry))) room (term (now (script .entry)))))
         × (now (written .exit)
-        ≡ front-after (step-in (readers (now (groups .entry))) (type-at (now (types .entry))) room
+        ≡ front-after (step-in (properties-of (now (groups .entry))) (type-at (now (types .entry))) room
         (term (now (script .entry)))) (now (written .entry))) ⌝ }
 {
     let found = redex::find(groups, types, script, 0, 0);
@@ -135,7 +135,7 @@ fn ended(x: Stepped, own: usize) -> StepAnswer
     }
 }
 
-// A step: questions 2 to 19, in order, and then one step of the script's term. The written buffer may be shorter than the script.
+// A step: questions 2 to 19 and 36, in order, and then one step of the script's term. The written buffer may be shorter than the script.
 pub fn step(groups: &[u8], types: &[u8], script: &[u8], written: &mut [u8]) -> StepAnswer
     ensures { λ a. ⌜ (said-step a
         ≡ step-report (now (script .entry))

@@ -51,7 +51,7 @@ module _ (S : Security) (tab : ℕ → Ty) (Γ : List Ty) (p : ℕ) where
       → typing S tab Γ p (mu w i e)
       ≡ then (before-first S tab p (mu w i e)) (bind (typing S tab (tab i ∷ Γ) (1 + p) e) (λ t. wanting S p t (tab i) (tab i)))
   unfolding typing before-first
-  recursion-typed w i e = then-assoc (q21 S p (tab i) (S .caller (top (tab i)) w)) (q23 S p (tab i)) _
+  recursion-typed w i e = then-assoc (q21 S p (tab i) (S .caller (top (tab i)) w)) (q23 S p (tab i) (S .caller (top (tab i)) w)) _
 
   -- one of them answered no
   pub stops-before : (e : Term) (q x : ℕ) → before-first S tab p e ≡ refused q x → typing S tab Γ p e ≡ refused q x

@@ -11,7 +11,7 @@ use lib.ListN.{length}
 use Rattle.calculus.specs.Types.{Ty, sizeT}
 use Rattle.rules.specs.Answer.{Bytes, Octets, Answer, accepted, refused, _>>_ as then, ask}
 use Rattle.rules.specs.Limits.{work-length, answer-length}
-use Rattle.rules.specs.Groups.{readers}
+use Rattle.rules.specs.Groups.{properties-of}
 use Rattle.rules.specs.Types.{type-at}
 use Rattle.rules.specs.Script.{term}
 use Rattle.rules.specs.Typing.{of-typing, typing}
@@ -58,7 +58,7 @@ module _ (g t s work answer : Bytes) where
   asked = checking (length work) (length answer) g t s
 
   abbrev pub typed : Answer Ty
-  typed = typing (readers g) (type-at t) [] 0 (term s)
+  typed = typing (properties-of g) (type-at t) [] 0 (term s)
 
   abbrev from-2 : Answer Ty
   from-2 = then (script-check [] g t s) typed

@@ -7,12 +7,13 @@ use native.Mathlib.Omega.{arith}
 use borrow.Rule.Slice.PartMut.{putMid}
 use denote.Enum.Declared.{tagOf}
 use lib.ListN.{length, take, drop, length-drop}
+use Rattle.calculus.specs.Security.{Indirect}
 use Rattle.calculus.specs.Types.{Ty, top}
 use Rattle.calculus.specs.Typing.{finds-own}
 use Rattle.calculus.specs.Terms.{case}
 use Rattle.rules.specs.Limits.{answer-length, script-limit}
 use Rattle.rules.specs.Answer.{Bytes, Answer, accepted, _>>=_ as bind, _>>_ as then}
-use Rattle.rules.specs.Groups.{readers}
+use Rattle.rules.specs.Groups.{properties-of}
 use Rattle.rules.specs.Types.{type-at}
 use Rattle.rules.specs.Script.{encode, size, depth, kind, r, number, own-at}
 use Rattle.rules.specs.Typing.{right, q22-of-branch, typing}
@@ -34,6 +35,10 @@ use Rattle.inference.proofs.Rules.{meets-of, Typed-as, typed-as, refused-as, re
 use Rattle.inference.proofs.Names.{owns, case-index}
 use Rattle.typing.proofs.Apart.{after-second, stops-before, stops-first, one-typed, first-typed, second-typed, branch-typed}
 use Rattle.typing.proofs.Below.{first-smaller, second-smaller, third-larger, first-formed, second-formed, third-formed, first-room, second-room, third-room, first-binders, second-binders, several-front, branch-binders, three, three-kind}
+
+-- what reading an object of type t leaves, by the node of the record that s starts with
+abbrev pub reading : Bytes → Bytes → Ty → Indirect
+reading g s t = properties-of g .influence (top t) (r s 0)
 
 -- ---- answers taken apart
 
@@ -67,7 +72,7 @@ back b c low w₁ u z w₂ m l eu n k e =
 -- ---- the first operand
 
 pub record Went (g : Bytes) {types s : Bytes} {place b : ℕ} {w : Bytes} (v : Ready types s place b w) (c : ℕ) (w₁ : Bytes) : Type 0 where
-  pub asked : before-first (readers g) (type-at types) place (v .tree) ≡ accepted tt
+  pub asked : before-first (properties-of g) (type-at types) place (v .tree) ≡ accepted tt
   pub binders : length (first-context (type-at types) (v .ctx) (v .tree)) ≡ c
   pub holds : Holds (first-context (type-at types) (v .ctx) (v .tree)) (high c w₁)
   pub least : b ≤ c
@@ -75,18 +80,18 @@ pub record Went (g : Bytes) {types s : Bytes} {place b : ℕ} {w : Bytes} (v : R
   pub same : length w₁ ≡ length w
 
 pub record Done1 (g : Bytes) {types s : Bytes} {place b : ℕ} {w : Bytes} (v : Ready types s place b w) (n : ℕ) (w₂ : Bytes) : Type 0 where
-  pub asked : before-first (readers g) (type-at types) place (v .tree) ≡ accepted tt
+  pub asked : before-first (properties-of g) (type-at types) place (v .tree) ≡ accepted tt
   pub type : Ty
-  pub is : typing (readers g) (type-at types) (first-context (type-at types) (v .ctx) (v .tree)) (1 + place) (first-operand (v .tree)) ≡ accepted type
+  pub is : typing (properties-of g) (type-at types) (first-context (type-at types) (v .ctx) (v .tree)) (1 + place) (first-operand (v .tree)) ≡ accepted type
   pub sized : Sized (drop (kept-front (v .tree)) w₂) n type
   pub kept : high b w₂ ≡ high b w
   pub same : length w₂ ≡ length w
 
 pub record Done2 (g : Bytes) {types s : Bytes} {place b : ℕ} {w : Bytes} (v : Ready types s place b w) (t : Ty) (n c : ℕ) (w₃ : Bytes) : Type 0 where
-  pub asked : between (readers g) place (v .tree) t ≡ accepted tt
-  pub is : typing (readers g) (type-at types) (v .ctx) place (v .tree)
-      ≡ bind (typing (readers g) (type-at types) (second-context (v .ctx) (v .tree) t) (1 + place + size (first-operand (v .tree))) (second-operand (v .tree)))
-      (after-second (readers g) (type-at types) (v .ctx) place (v .tree) t)
+  pub asked : between (properties-of g) place (v .tree) t ≡ accepted tt
+  pub is : typing (properties-of g) (type-at types) (v .ctx) place (v .tree)
+      ≡ bind (typing (properties-of g) (type-at types) (second-context (v .ctx) (v .tree) t) (1 + place + size (first-operand (v .tree))) (second-operand (v .tree)))
+      (after-second (properties-of g) (type-at types) (v .ctx) place (v .tree) t)
   pub binders : length (second-context (v .ctx) (v .tree) t) ≡ c
   pub holds : Holds (second-context (v .ctx) (v .tree) t) (high c w₃)
   pub least : b ≤ c
@@ -95,9 +100,9 @@ pub record Done2 (g : Bytes) {types s : Bytes} {place b : ℕ} {w : Bytes} (v : 
   pub same : length w₃ ≡ length w
 
 pub record Done3 (g : Bytes) {types s : Bytes} {place b : ℕ} {w : Bytes} (v : Ready types s place b w) (t : Ty) (n m : ℕ) (w₄ : Bytes) : Type 0 where
-  pub asked : between (readers g) place (v .tree) t ≡ accepted tt
+  pub asked : between (properties-of g) place (v .tree) t ≡ accepted tt
   pub other : Ty
-  pub is : typing (readers g) (type-at types) (v .ctx) place (v .tree) ≡ after-second (readers g) (type-at types) (v .ctx) place (v .tree) t other
+  pub is : typing (properties-of g) (type-at types) (v .ctx) place (v .tree) ≡ after-second (properties-of g) (type-at types) (v .ctx) place (v .tree) t other
   pub sized : Sized (drop (kept-between (operand-count (v .tree))) w₄) m other
   pub kept : high b w₄ ≡ high b w
   pub front : operand-count (v .tree) ≡ 2 → Sized w₄ n t
@@ -108,15 +113,15 @@ module _ (g : Bytes) {types s : Bytes} {place b : ℕ} {w : Bytes} (v : Ready ty
   -- what is left when the first of several operands has its type
   abbrev after-first : Ty → Answer Ty
   after-first t =
-      bind (typing (readers g) (type-at types) (second-context (v .ctx) (v .tree) t) (1 + place + size (first-operand (v .tree))) (second-operand (v .tree)))
-      (after-second (readers g) (type-at types) (v .ctx) place (v .tree) t)
+      bind (typing (properties-of g) (type-at types) (second-context (v .ctx) (v .tree) t) (1 + place + size (first-operand (v .tree))) (second-operand (v .tree)))
+      (after-second (properties-of g) (type-at types) (v .ctx) place (v .tree) t)
 
   pub level : answer-length * (b + 1) ≤ length w
   level = omega (arith, v .room, depth-positive (v .tree))
 
-  module _ {x : Checked} {w₁ : Bytes} (h : Enters (before-first (readers g) (type-at types) place (v .tree)) (first-context (type-at types) (v .ctx) (v .tree)) b w x w₁) where
-    pub before-refuses : {y : Found} {w₂ : Bytes} → No x → y ≡ refusal x → Meets (typing (readers g) (type-at types) (v .ctx) place (v .tree)) b w y w₂
-    before-refuses t f = let z = refused-says x _ t (h .says) f in refused-meets (stops-before (readers g) (type-at types) (v .ctx) place (v .tree) (z .0) (z .1) (z .2)) (z .3)
+  module _ {x : Checked} {w₁ : Bytes} (h : Enters (before-first (properties-of g) (type-at types) place (v .tree)) (first-context (type-at types) (v .ctx) (v .tree)) b w x w₁) where
+    pub before-refuses : {y : Found} {w₂ : Bytes} → No x → y ≡ refusal x → Meets (typing (properties-of g) (type-at types) (v .ctx) place (v .tree)) b w y w₂
+    before-refuses t f = let z = refused-says x _ t (h .says) f in refused-meets (stops-before (properties-of g) (type-at types) (v .ctx) place (v .tree) (z .0) (z .1) (z .2)) (z .3)
 
     pub went : {c : ℕ} → Yes x → c ≡ b + binds (kind s 0) 0 → length w₁ ≡ length w → Went g v c w₁
     went {c} t ec l =
@@ -167,17 +172,17 @@ module _ (g : Bytes) {types s : Bytes} {place b : ℕ} {w : Bytes} (v : Ready ty
           placed = first-placed;
         }
 
-    module _ {u z : Bytes} {x : Found} (m : Meets (typing (readers g) (type-at types) (first-context (type-at types) (v .ctx) (v .tree)) (place + 1) (first-operand (v .tree))) c u x z) where
-      placed1 : typing (readers g) (type-at types) (first-context (type-at types) (v .ctx) (v .tree)) (1 + place) (first-operand (v .tree))
-          ≡ typing (readers g) (type-at types) (first-context (type-at types) (v .ctx) (v .tree)) (place + 1) (first-operand (v .tree))
+    module _ {u z : Bytes} {x : Found} (m : Meets (typing (properties-of g) (type-at types) (first-context (type-at types) (v .ctx) (v .tree)) (place + 1) (first-operand (v .tree))) c u x z) where
+      placed1 : typing (properties-of g) (type-at types) (first-context (type-at types) (v .ctx) (v .tree)) (1 + place) (first-operand (v .tree))
+          ≡ typing (properties-of g) (type-at types) (first-context (type-at types) (v .ctx) (v .tree)) (place + 1) (first-operand (v .tree))
       placed1 =
           let q : 1 + place ≡ place + 1 = omega arith in
-          ap (λ p. typing (readers g) (type-at types) (first-context (type-at types) (v .ctx) (v .tree)) p (first-operand (v .tree))) q
+          ap (λ p. typing (properties-of g) (type-at types) (first-context (type-at types) (v .ctx) (v .tree)) p (first-operand (v .tree))) q
 
-      pub first-refuses : {w₂ : Bytes} → tagOf the-type x ≡ 1 → Meets (typing (readers g) (type-at types) (v .ctx) place (v .tree)) b w x w₂
+      pub first-refuses : {w₂ : Bytes} → tagOf the-type x ≡ 1 → Meets (typing (properties-of g) (type-at types) (v .ctx) place (v .tree)) b w x w₂
       first-refuses t =
           let y = refused-as t m in
-          refused-meets (stops-first (readers g) (type-at types) (v .ctx) place (v .tree) (y .0) (y .1) o (h .asked) (placed1 ∙ y .2)) (y .3)
+          refused-meets (stops-first (properties-of g) (type-at types) (v .ctx) place (v .tree) (y .0) (y .1) o (h .asked) (placed1 ∙ y .2)) (y .3)
 
       pub done1 : {n : ℕ} {w₂ : Bytes} → u ≡ drop low w₁ → length z ≡ length u → x ≡ Typed n → w₂ ≡ putMid low (length w₁ - low) w₁ z → Done1 g v n w₂
       done1 {n} {w₂} eu lz f e₂ =
@@ -215,9 +220,9 @@ module _ (g : Bytes) {types s : Bytes} {place b : ℕ} {w : Bytes} (v : Ready ty
           room = slot-room;
         }
 
-    pub last-meets : (o : operand-count (v .tree) ≡ 1) {x : Found} {w₃ : Bytes} → Meets (after-one (readers g) (type-at types) place (v .tree) (d .type)) b w₂ x w₃
-        → Meets (typing (readers g) (type-at types) (v .ctx) place (v .tree)) b w x w₃
-    last-meets o m = rebase (d .kept) (meets-of (one-typed (readers g) (type-at types) (v .ctx) place (v .tree) (d .type) o (d .asked) (d .is)) m)
+    pub last-meets : (o : operand-count (v .tree) ≡ 1) {x : Found} {w₃ : Bytes} → Meets (after-one (properties-of g) (type-at types) place (v .tree) (d .type)) b w₂ x w₃
+        → Meets (typing (properties-of g) (type-at types) (v .ctx) place (v .tree)) b w x w₃
+    last-meets o m = rebase (d .kept) (meets-of (one-typed (properties-of g) (type-at types) (v .ctx) place (v .tree) (d .type) o (d .asked) (d .is)) m)
 
     -- ---- several operands
 
@@ -245,14 +250,14 @@ module _ (g : Bytes) {types s : Bytes} {place b : ℕ} {w : Bytes} (v : Ready ty
             room = two-levels;
           }
 
-      under-first : typing (readers g) (type-at types) (v .ctx) place (v .tree) ≡ then (between (readers g) place (v .tree) (d .type)) (after-first (d .type))
-      under-first = first-typed (readers g) (type-at types) (v .ctx) place (v .tree) (d .type) o (d .is)
+      under-first : typing (properties-of g) (type-at types) (v .ctx) place (v .tree) ≡ then (between (properties-of g) place (v .tree) (d .type)) (after-first (d .type))
+      under-first = first-typed (properties-of g) (type-at types) (v .ctx) place (v .tree) (d .type) o (d .is)
 
-      module _ {x : Checked} {w₃ : Bytes} (h : Enters (between (readers g) place (v .tree) (d .type)) (second-context (v .ctx) (v .tree) (d .type)) b w₂ x w₃) where
-        pub between-refuses : {y : Found} {w₄ : Bytes} → No x → y ≡ refusal x → Meets (typing (readers g) (type-at types) (v .ctx) place (v .tree)) b w y w₄
+      module _ {x : Checked} {w₃ : Bytes} (h : Enters (between (properties-of g) place (v .tree) (d .type)) (second-context (v .ctx) (v .tree) (d .type)) b w₂ x w₃) where
+        pub between-refuses : {y : Found} {w₄ : Bytes} → No x → y ≡ refusal x → Meets (typing (properties-of g) (type-at types) (v .ctx) place (v .tree)) b w y w₄
         between-refuses t f = let z = refused-says x _ t (h .says) f in refused-meets (under-first ∙ ap (λ a. then a (after-first (d .type))) (z .2)) (z .3)
 
-        pub done2 : {c : ℕ} → Yes x → c ≡ b + binds (kind s 0) 1 → length w₃ ≡ length w₂ → (between (readers g) place (v .tree) (d .type) ≡ accepted tt → Aside (v .tree) (d .type) b w₃ n)
+        pub done2 : {c : ℕ} → Yes x → c ≡ b + binds (kind s 0) 1 → length w₃ ≡ length w₂ → (between (properties-of g) place (v .tree) (d .type) ≡ accepted tt → Aside (v .tree) (d .type) b w₃ n)
             → Done2 g v (d .type) n c w₃
         done2 {c} t ec l k =
             let a = accepts x _ t (h .says) in
@@ -307,17 +312,17 @@ module _ (g : Bytes) {types s : Bytes} {place b : ℕ} {w : Bytes} (v : Ready ty
           placed = second-placed;
         }
 
-    module _ {u z : Bytes} {x : Found} (m : Meets (typing (readers g) (type-at types) (second-context (v .ctx) (v .tree) t) (place + j) (second-operand (v .tree))) c u x z) where
-      placed2 : typing (readers g) (type-at types) (second-context (v .ctx) (v .tree) t) (1 + place + size (first-operand (v .tree))) (second-operand (v .tree))
-          ≡ typing (readers g) (type-at types) (second-context (v .ctx) (v .tree) t) (place + j) (second-operand (v .tree))
+    module _ {u z : Bytes} {x : Found} (m : Meets (typing (properties-of g) (type-at types) (second-context (v .ctx) (v .tree) t) (place + j) (second-operand (v .tree))) c u x z) where
+      placed2 : typing (properties-of g) (type-at types) (second-context (v .ctx) (v .tree) t) (1 + place + size (first-operand (v .tree))) (second-operand (v .tree))
+          ≡ typing (properties-of g) (type-at types) (second-context (v .ctx) (v .tree) t) (place + j) (second-operand (v .tree))
       placed2 =
           let q : 1 + place + size (first-operand (v .tree)) ≡ place + j = omega arith in
-          ap (λ p. typing (readers g) (type-at types) (second-context (v .ctx) (v .tree) t) p (second-operand (v .tree))) q
+          ap (λ p. typing (properties-of g) (type-at types) (second-context (v .ctx) (v .tree) t) p (second-operand (v .tree))) q
 
-      pub second-refuses : {w₄ : Bytes} → tagOf the-type x ≡ 1 → Meets (typing (readers g) (type-at types) (v .ctx) place (v .tree)) b w x w₄
+      pub second-refuses : {w₄ : Bytes} → tagOf the-type x ≡ 1 → Meets (typing (properties-of g) (type-at types) (v .ctx) place (v .tree)) b w x w₄
       second-refuses f =
           let y = refused-as f m in
-          refused-meets (d .is ∙ ap (λ a. bind a (after-second (readers g) (type-at types) (v .ctx) place (v .tree) t)) (placed2 ∙ y .2)) (y .3)
+          refused-meets (d .is ∙ ap (λ a. bind a (after-second (properties-of g) (type-at types) (v .ctx) place (v .tree) t)) (placed2 ∙ y .2)) (y .3)
 
       pub done3 : {k : ℕ} {w₄ : Bytes} → u ≡ drop mid w₃ → length z ≡ length u → x ≡ Typed k → w₄ ≡ putMid mid (length w₃ - mid) w₃ z → Done3 g v t n k w₄
       done3 {k} {w₄} eu lz f e₄ =
@@ -326,7 +331,7 @@ module _ (g : Bytes) {types s : Bytes} {place b : ℕ} {w : Bytes} (v : Ready ty
           record {
             asked = d .asked;
             other = a .type;
-            is = d .is ∙ ap (λ y. bind y (after-second (readers g) (type-at types) (v .ctx) place (v .tree) t)) (placed2 ∙ a .is);
+            is = d .is ∙ ap (λ y. bind y (after-second (properties-of g) (type-at types) (v .ctx) place (v .tree) t)) (placed2 ∙ a .is);
             sized = subst (λ y. Sized (drop y w₄) k (a .type)) em (rw (q .behind) (a .wrote .sized));
             kept = q .kept ∙ d .kept;
             front = λ two. rw (q .is) (sized-lent mid w₃ z (d .aside .front two) (omega (arith, em ∙ ap kept-between two)) mid-within);
@@ -343,7 +348,7 @@ module _ (g : Bytes) {types s : Bytes} {place b : ℕ} {w : Bytes} (v : Ready ty
   pub two-sized : Sized (drop answer-length w₄) m (d .other)
   two-sized = subst (λ y. Sized (drop (kept-between y) w₄) m (d .other)) o (d .sized)
 
-  pub two-room : 504 ≤ length w₄
+  pub two-room : answer-length * 2 ≤ length w₄
   two-room = omega (arith, v .room, d .same, depth-positive (first-operand (v .tree)), first-smaller (v .tree) (omega arith) .deeper)
 
   abbrev pub two-of : Two g s place w₄ n m
@@ -360,16 +365,16 @@ module _ (g : Bytes) {types s : Bytes} {place b : ℕ} {w : Bytes} (v : Ready ty
         room = two-room;
       }
 
-  pub ends-meets : {x : Found} {w₅ : Bytes} → Meets (after-two (readers g) place (v .tree) t (d .other)) b w₄ x w₅
-      → Meets (typing (readers g) (type-at types) (v .ctx) place (v .tree)) b w x w₅
-  ends-meets h = rebase (d .kept) (meets-of (d .is ∙ second-typed (readers g) (type-at types) (v .ctx) place (v .tree) t (d .other) o) h)
+  pub ends-meets : {x : Found} {w₅ : Bytes} → Meets (after-two (properties-of g) place (v .tree) t (d .other)) b w₄ x w₅
+      → Meets (typing (properties-of g) (type-at types) (v .ctx) place (v .tree)) b w x w₅
+  ends-meets h = rebase (d .kept) (meets-of (d .is ∙ second-typed (properties-of g) (type-at types) (v .ctx) place (v .tree) t (d .other) o) h)
 
 -- ---- a case's branches
 
 pub record Done5 (g : Bytes) {types s : Bytes} {place b : ℕ} {w : Bytes} (v : Ready types s place b w) (t first : Ty) (c : ℕ) (w₅ : Bytes) : Type 0 where
-  pub is : typing (readers g) (type-at types) (v .ctx) place (v .tree)
-      ≡ bind (typing (readers g) (type-at types) (right t ∷ v .ctx) (1 + place + size (first-operand (v .tree)) + size (second-operand (v .tree))) (third-operand (v .tree)))
-      (λ u. case-type (readers g) (type-at types) place (number s 0) first u (top t .ir))
+  pub is : typing (properties-of g) (type-at types) (v .ctx) place (v .tree)
+      ≡ bind (typing (properties-of g) (type-at types) (right t ∷ v .ctx) (1 + place + size (first-operand (v .tree)) + size (second-operand (v .tree))) (third-operand (v .tree)))
+      (λ u. case-type (properties-of g) (type-at types) place (number s 0) first u (reading g s t))
   pub binders : length (right t ∷ v .ctx) ≡ c
   pub holds : Holds (right t ∷ v .ctx) (high c w₅)
   pub kept : high b w₅ ≡ high b w
@@ -378,7 +383,7 @@ pub record Done5 (g : Bytes) {types s : Bytes} {place b : ℕ} {w : Bytes} (v : 
 
 pub record Done6 (g : Bytes) {types s : Bytes} {place b : ℕ} {w : Bytes} (v : Ready types s place b w) (t first : Ty) (w₆ : Bytes) : Type 0 where
   pub type : Ty
-  pub is : typing (readers g) (type-at types) (v .ctx) place (v .tree) ≡ case-type (readers g) (type-at types) place (number s 0) first type (top t .ir)
+  pub is : typing (properties-of g) (type-at types) (v .ctx) place (v .tree) ≡ case-type (properties-of g) (type-at types) place (number s 0) first type (reading g s t)
   pub front : own-at s 0 ≡ true → Slot w₆ first
   pub other : Held (drop (kept-branch s) w₆) type
   pub kept : high b w₆ ≡ high b w
@@ -424,15 +429,15 @@ module _ (g : Bytes) {types s : Bytes} {place b : ℕ} {w : Bytes} (v : Ready ty
     -- what is left when the first branch has its type
     abbrev after-branch : Answer Ty
     after-branch =
-        bind (typing (readers g) (type-at types) (right t ∷ v .ctx) (1 + place + size (first-operand (v .tree)) + size (second-operand (v .tree))) (third-operand (v .tree)))
-        (λ u. case-type (readers g) (type-at types) place (number s 0) (d .other) u (top t .ir))
+        bind (typing (properties-of g) (type-at types) (right t ∷ v .ctx) (1 + place + size (first-operand (v .tree)) + size (second-operand (v .tree))) (third-operand (v .tree)))
+        (λ u. case-type (properties-of g) (type-at types) place (number s 0) (d .other) u (reading g s t))
 
-    under-branch : typing (readers g) (type-at types) (v .ctx) place (v .tree)
-        ≡ then (q22-of-branch (readers g) place (type-at types) (number s 0) (d .other)) after-branch
-    under-branch = d .is ∙ branch-typed (readers g) (type-at types) (v .ctx) place t (d .other) case-is
+    under-branch : typing (properties-of g) (type-at types) (v .ctx) place (v .tree)
+        ≡ then (q22-of-branch (properties-of g) place (type-at types) (number s 0) (d .other)) after-branch
+    under-branch = d .is ∙ branch-typed (properties-of g) (type-at types) (v .ctx) place t (d .other) case-is
 
-    module _ {x : Checked} {w₅ : Bytes} (h : Enters (q22-of-branch (readers g) place (type-at types) (number s 0) (d .other)) (right t ∷ v .ctx) b w₄ x w₅) where
-      pub branch-refuses : {y : Found} {w₆ : Bytes} → No x → y ≡ refusal x → Meets (typing (readers g) (type-at types) (v .ctx) place (v .tree)) b w y w₆
+    module _ {x : Checked} {w₅ : Bytes} (h : Enters (q22-of-branch (properties-of g) place (type-at types) (number s 0) (d .other)) (right t ∷ v .ctx) b w₄ x w₅) where
+      pub branch-refuses : {y : Found} {w₆ : Bytes} → No x → y ≡ refusal x → Meets (typing (properties-of g) (type-at types) (v .ctx) place (v .tree)) b w y w₆
       branch-refuses n f = let z = refused-says x _ n (h .says) f in refused-meets (under-branch ∙ ap (λ a. then a after-branch) (z .2)) (z .3)
 
       pub done5 : {c : ℕ} → Yes x → length w₅ ≡ length w₄ → c ≡ b + 1 → Slot w₅ (d .other) → Done5 g v t (d .other) c w₅
@@ -487,18 +492,18 @@ module _ (g : Bytes) {types s : Bytes} {place b : ℕ} {w : Bytes} (v : Ready ty
           placed = third-placed;
         }
 
-    module _ {u z : Bytes} {x : Found} (m : Meets (typing (readers g) (type-at types) (right t ∷ v .ctx) (place + j) (third-operand (v .tree))) c u x z) where
-      placed3 : typing (readers g) (type-at types) (right t ∷ v .ctx) (1 + place + size (first-operand (v .tree)) + size (second-operand (v .tree))) (third-operand (v .tree))
-          ≡ typing (readers g) (type-at types) (right t ∷ v .ctx) (place + j) (third-operand (v .tree))
+    module _ {u z : Bytes} {x : Found} (m : Meets (typing (properties-of g) (type-at types) (right t ∷ v .ctx) (place + j) (third-operand (v .tree))) c u x z) where
+      placed3 : typing (properties-of g) (type-at types) (right t ∷ v .ctx) (1 + place + size (first-operand (v .tree)) + size (second-operand (v .tree))) (third-operand (v .tree))
+          ≡ typing (properties-of g) (type-at types) (right t ∷ v .ctx) (place + j) (third-operand (v .tree))
       placed3 =
           let q : 1 + place + size (first-operand (v .tree)) + size (second-operand (v .tree)) ≡ place + j = omega arith in
-          ap (λ p. typing (readers g) (type-at types) (right t ∷ v .ctx) p (third-operand (v .tree))) q
+          ap (λ p. typing (properties-of g) (type-at types) (right t ∷ v .ctx) p (third-operand (v .tree))) q
 
-      after-third : {a : Answer Ty} → typing (readers g) (type-at types) (right t ∷ v .ctx) (place + j) (third-operand (v .tree)) ≡ a
-          → typing (readers g) (type-at types) (v .ctx) place (v .tree) ≡ bind a (λ u. case-type (readers g) (type-at types) place (number s 0) first u (top t .ir))
-      after-third e = d .is ∙ ap (λ a. bind a (λ u. case-type (readers g) (type-at types) place (number s 0) first u (top t .ir))) (placed3 ∙ e)
+      after-third : {a : Answer Ty} → typing (properties-of g) (type-at types) (right t ∷ v .ctx) (place + j) (third-operand (v .tree)) ≡ a
+          → typing (properties-of g) (type-at types) (v .ctx) place (v .tree) ≡ bind a (λ u. case-type (properties-of g) (type-at types) place (number s 0) first u (reading g s t))
+      after-third e = d .is ∙ ap (λ a. bind a (λ u. case-type (properties-of g) (type-at types) place (number s 0) first u (reading g s t))) (placed3 ∙ e)
 
-      pub third-refuses : {w₆ : Bytes} → tagOf the-type x ≡ 1 → Meets (typing (readers g) (type-at types) (v .ctx) place (v .tree)) b w x w₆
+      pub third-refuses : {w₆ : Bytes} → tagOf the-type x ≡ 1 → Meets (typing (properties-of g) (type-at types) (v .ctx) place (v .tree)) b w x w₆
       third-refuses f = let y = refused-as f m in refused-meets (after-third (y .2)) (y .3)
 
       pub done6 : {w₆ : Bytes} → u ≡ drop past w₅ → length z ≡ length u → tagOf the-type x ≡ 0 → w₆ ≡ putMid past (length w₅ - past) w₅ z → Done6 g v t first w₆
@@ -529,9 +534,9 @@ module _ (g : Bytes) {types s : Bytes} {place b : ℕ} {w : Bytes} (v : Ready ty
           room = omega (arith, done-room);
         }
 
-    pub done-meets : {by : ℕ} {x : Found} {w₇ : Bytes} → by ≡ top t .ir
-        → Meets (case-type (readers g) (type-at types) place (number s 0) first (d .type) by) b w₆ x w₇
-        → Meets (typing (readers g) (type-at types) (v .ctx) place (v .tree)) b w x w₇
+    pub done-meets : {by : Indirect} {x : Found} {w₇ : Bytes} → by ≡ reading g s t
+        → Meets (case-type (properties-of g) (type-at types) place (number s 0) first (d .type) by) b w₆ x w₇
+        → Meets (typing (properties-of g) (type-at types) (v .ctx) place (v .tree)) b w x w₇
     done-meets e h =
         rebase (d .kept)
-        (meets-of (d .is ∙ ap (λ y. case-type (readers g) (type-at types) place (number s 0) first (d .type) y) (sym e)) h)
+        (meets-of (d .is ∙ ap (λ y. case-type (properties-of g) (type-at types) place (number s 0) first (d .type) y) (sym e)) h)

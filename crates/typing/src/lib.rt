@@ -14,7 +14,7 @@ ghost use lib.ListN.{length};
 ghost use Rattle.calculus.specs.Terms.{Term};
 ghost use Rattle.rules.specs.Answer.{accepted};
 ghost use Rattle.rules.specs.Limits.{answer-length, work-length};
-ghost use Rattle.rules.specs.Groups.{readers};
+ghost use Rattle.rules.specs.Groups.{properties-of};
 ghost use Rattle.rules.specs.Types.{type-at};
 ghost use Rattle.rules.specs.Script.{encode, size, term};
 ghost use Rattle.rules.specs.Typing.{typing};
@@ -67,7 +67,7 @@ fn kept_between(o: usize) -> usize
 fn type_node(groups: &[u8], types: &[u8], s: &[u8], place: usize, b: usize, w: &mut [u8]) -> Found
     requires { ⌜ Ready (now types) (now s) place b (now w) ⌝ }
     ensures { λ x. ⌜ ((v : Ready (now (types .entry)) (now (s .entry)) place b (now (w .entry)))
-        → Meets (typing (readers (now (groups .entry))) (type-at (now (types .entry))) (v .ctx) place (v .tree)) b
+        → Meets (typing (properties-of (now (groups .entry))) (type-at (now (types .entry))) (v .ctx) place (v .tree)) b
         (now (w .entry)) x (now (w .exit))) ⌝ }
 {
     let k = records::kind(s, 0);
@@ -90,7 +90,7 @@ fn type_node(groups: &[u8], types: &[u8], s: &[u8], place: usize, b: usize, w: &
     if o == 1 {
         return inference::after_one(groups, types, s, place, w, n);
     }
-    let by = types::indirect(w);
+    let tested = types::property(w);
     let read = inference::between(groups, s, place, b, w, n);
     let Checked::Passed = read else {
         return inference::refused(read);
@@ -117,14 +117,15 @@ fn type_node(groups: &[u8], types: &[u8], s: &[u8], place: usize, b: usize, w: &
     let Found::Typed(_) = x3 else {
         return x3;
     };
+    let by = tested.influence(groups, records::reader(s, 0));
     inference::after_second_branch(groups, types, s, place, by, w)
 }
 
-// Questions 20 to 24 and 31 of a script that has passed 2 to 19: the type is left in front of the work buffer.
+// Questions 20 to 24 and 31 of a script that has passed 2 to 19 and 36: the type is left in front of the work buffer.
 pub fn type_script(groups: &[u8], types: &[u8], script: &[u8], work: &mut [u8]) -> Found
     requires { ⌜ (script-check [] (now groups) (now types) (now script) ≡ accepted tt) × (work-length ≤ length (now work)) ⌝ }
     ensures { λ x. ⌜ Meets
-        (typing (readers (now (groups .entry))) (type-at (now (types .entry))) [] 0 (term (now (script .entry)))) 0
+        (typing (properties-of (now (groups .entry))) (type-at (now (types .entry))) [] 0 (term (now (script .entry)))) 0
         (now (work .entry)) x (now (work .exit)) ⌝ }
 {
     type_node(groups, types, script, 0, 0, work)
@@ -142,7 +143,7 @@ fn hand_over(x: Found, work: &[u8], answer: &mut [u8])
     memory::copy(work, TYPE_WIDTH * n, answer, 0);
 }
 
-// Checking: questions 1 to 24 and 31. The type is written to the answer buffer's front, and the work buffer is left all zeros once
+// Checking: questions 1 to 24, 31 and 36. The type is written to the answer buffer's front, and the work buffer is left all zeros once
 // typing has begun. The last clause is demand 2.
 pub fn checking(
     groups: &[u8],

@@ -9,10 +9,11 @@ use Rattle.rules.specs.Limits.{script-limit, depth-limit}
 use Rattle.rules.specs.Script.{size, depth}
 use Rattle.records.specs.Place.{At}
 use Rattle.records.proofs.Stands.{there}
-use Rattle.redex.specs.Fates.{property-of, contractum}
+use Rattle.records.proofs.Made.{influence-of}
+use Rattle.redex.specs.Fates.{contractum}
 use Rattle.contraction.specs.declared.Plan.{Plan}
 use Rattle.contraction.specs.Plans.{Planned, Ready, Measures, Recursive}
-use Rattle.contraction.proofs.Plans.{part-plan, body-plan, LiftPlan, lift-plan, RollPlan, roll-plan, influence-of, raise-size, counted, is-raised, is-unrolled}
+use Rattle.contraction.proofs.Plans.{part-plan, body-plan, LiftPlan, lift-plan, RollPlan, roll-plan, protection-of, raise-size, counted, is-raised, is-unrolled}
 use Rattle.contraction.proofs.measure.Statement.{statement}
 use Rattle.contraction.proofs.measure.Tie as tie
 
@@ -90,7 +91,7 @@ returns c q S tab =
     counted (p .is S tab)
     (c .measure-part .ensures
     (record { tree = p .part; at = p .stands; shallow = omega (arith, p .shallow, q .shallow); small = omega (arith, p .small, q .small) })
-    (influence-of S (q .tree)))
+    (protection-of S (q .tree)))
 
 returns-2 : tie.Need-returns-2
 returns-2 c q S tab =
@@ -106,7 +107,7 @@ returns-2 c q S tab =
       shallow-body = omega (arith, p .shallow-body, q .shallow);
       shallow-value = omega (arith, p .shallow-value, q .shallow);
     })
-    (influence-of S (q .tree)))
+    (protection-of S (q .tree)))
 
 returns-3 : tie.Need-returns-3
 returns-3 c q S tab =
@@ -114,7 +115,7 @@ returns-3 c q S tab =
     let m =
     c .measure-raised .ensures
     (record { tree = p .value; at = p .stands; shallow = omega (arith, p .shallow, q .shallow); small = omega (arith, p .small, q .small) }) in
-    let z = raise-size S (p .value) (property-of (q .tree) .ir) in
+    let z = raise-size S (p .value) (influence-of (q .tree)) in
     counted (p .is S tab) (record { records = m .records ∙ sym (z .0); deep = m .deep ∙ sym (z .1) })
 
 returns-4 : tie.Need-returns-4

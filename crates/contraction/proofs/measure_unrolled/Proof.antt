@@ -5,7 +5,8 @@ use mathlib.Core.List.{[]}
 use Rattle.calculus.specs.Types.{top}
 use Rattle.calculus.specs.Terms.{mu}
 use Rattle.calculus.specs.Reduction.{unrolled}
-use Rattle.rules.specs.Groups.{readers}
+use Rattle.calculus.specs.Erasure.{public}
+use Rattle.rules.specs.Groups.{properties-of}
 use Rattle.records.specs.Place.{At}
 use Rattle.records.proofs.Stands.{there, at-first}
 use Rattle.redex.specs.Fates.{contractum}
@@ -41,12 +42,12 @@ measure-requires : tie.Need-measure-requires
 measure-requires c κs =
     let q = c .before .before .before .before .pre in
     let x = whole (c .before .before) q in
-    let n = unrolled-size (readers []) (q .label) (q .type) (record { r = 0; ir = 0 }) (q .body) in
+    let n = unrolled-size (properties-of []) (q .label) (q .type) public (q .body) in
     let b = body-size (q .label) (q .type) (q .body) in
     record {
       tree = q .body;
       at = body-at (c .before .before .before .before) q;
-      value = unrolled (readers []) (q .label) (q .type) (record { r = 0; ir = 0 }) (q .body);
+      value = unrolled (properties-of []) (q .label) (q .type) public (q .body);
       records-of = omega (arith, x .records, n .0);
       depth-of = omega (arith, x .deep, n .1);
       shallow = omega (arith, b .1, q .shallow);

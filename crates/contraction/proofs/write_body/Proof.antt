@@ -9,7 +9,7 @@ use Rattle.rules.specs.Answer.{Bytes}
 use Rattle.rules.specs.Limits.{script-width}
 use Rattle.rules.specs.Script.{size, encode}
 use Rattle.records.proofs.Stands.{room}
-use Rattle.contraction.specs.Plans.{BodyRoom}
+use Rattle.contraction.specs.Plans.{protection, BodyRoom}
 use Rattle.contraction.proofs.Plans.{own-bytes, protect-placed}
 use Rattle.contraction.proofs.write_body.Statement.{statement}
 use Rattle.contraction.proofs.write_body.Tie as tie
@@ -22,7 +22,7 @@ Q s = BodyRoom (P s) (s .args .at) (s .args .x) (s .args .y) (s .args .written .
 
 -- the call's bytes are known
 abbrev begin : tie.After-slice-known → tie.Start
-begin c = c .before .before
+begin c = c .before .before .before
 
 -- the value's end is known
 abbrev start : tie.After-end-of → tie.Start
@@ -30,7 +30,7 @@ start c = begin (c .before)
 
 -- past the protect record
 abbrev ended : tie.After-slice-known2 → tie.After-end-of
-ended c = c .before .before .before .before .before
+ended c = c .before .before .before .before
 
 -- past the pieces of the value
 abbrev known : tie.After-write-arg4 → tie.After-slice-known2
@@ -53,14 +53,8 @@ pieces c q = append-nil _ ∙ own-bytes (q .at-value) (length-of c) (omega (arit
 end-of-requires : tie.Need-end-of-requires
 end-of-requires c κs = let q = begin c .pre in record { tree = q .value; at = q .at-value }
 
-add-indirect : tie.Need-add-indirect
-add-indirect c = search needs
-
-indirect-requires : tie.Need-indirect-requires
-indirect-requires c κs = search needs
-
-write-record-requires : tie.Need-write-record-requires
-write-record-requires c κs = omega (arith, start (c .before .before) .pre .fits)
+write-protect-requires : tie.Need-write-protect-requires
+write-protect-requires c κs = let q = start (c .before) .pre in (q .operand, omega (arith, q .fits))
 
 mul-from : tie.Need-mul-from
 mul-from c = let s = start (ended c) in omega (arith, inside s, s .good)
@@ -115,7 +109,7 @@ write-requires c κs =
       value = q .value;
       pieces = pieces d q;
       shallow = omega (arith, q .shallow);
-      fits = omega (arith, q .fits, w .before .before .write-record .kept .1 .1 .1 .1 .0);
+      fits = omega (arith, q .fits, w .before .before .write-protect .kept .1 .1 .1 .0);
     }
 
 same-length : tie.Need-same-length
@@ -125,11 +119,10 @@ returns : tie.Need-returns
 returns c q =
     let x = c .before .before in
     let w = known (x .before) .before .before in
-    let i = w .before .before in
-    let d = i .before in
+    let d = w .before .before in
     let s = start d in
-    protect-placed _ _ (s .args .start) _ _ (s .args .written .now) _ _ (i .indirect .ensures) refl (omega (arith, q .fits))
-    (w .write-record .ensures)
+    protect-placed (protection (s .args .groups .now) (P s) (s .args .at)) (s .args .start) _ _ (s .args .written .now) _ _ refl (omega (arith, q .fits))
+    (w .write-protect .ensures)
     (x .write .ensures (q .body) (q .value) (q .at-body) (pieces d q) .wrote)
 
 pub write-body-spec : {M : Type 1} → statement M
@@ -137,9 +130,7 @@ write-body-spec =
     tie.close
     (tie.spec
     end-of-requires
-    add-indirect
-    indirect-requires
-    write-record-requires
+    write-protect-requires
     mul-from
     mul-to
     sub-write

@@ -8,7 +8,7 @@ use Rattle.rules.specs.Answer.{Bytes}
 use Rattle.rules.specs.Limits.{script-width}
 use Rattle.rules.specs.Script.{size}
 use Rattle.records.proofs.Stands.{room}
-use Rattle.contraction.specs.Plans.{PartRoom}
+use Rattle.contraction.specs.Plans.{protection, PartRoom}
 use Rattle.contraction.proofs.Plans.{own-bytes, protect-placed}
 use Rattle.contraction.proofs.write_part.Statement.{statement}
 use Rattle.contraction.proofs.write_part.Tie as tie
@@ -21,11 +21,11 @@ Q s = PartRoom (P s) (s .args .at) (s .args .x) (s .args .written .now) (s .args
 
 -- the part's end is known
 abbrev start : tie.After-end-of → tie.Start
-start c = c .before .before .before
+start c = c .before .before .before .before
 
 -- past the protect record
 abbrev ended : tie.After-slice-known2 → tie.After-end-of
-ended c = c .before .before .before .before .before
+ended c = c .before .before .before .before
 
 end : (c : tie.After-end-of) (q : Q (start c)) → c .end-of .result ≡ start c .args .x + size (q .part)
 end c q = c .end-of .ensures (q .part) (q .stands)
@@ -36,14 +36,8 @@ inside s = room _ _ _ (s .pre .stands)
 end-of-requires : tie.Need-end-of-requires
 end-of-requires c κs = search needs
 
-add-indirect : tie.Need-add-indirect
-add-indirect c = search needs
-
-indirect-requires : tie.Need-indirect-requires
-indirect-requires c κs = search needs
-
-write-record-requires : tie.Need-write-record-requires
-write-record-requires c κs = search needs
+write-protect-requires : tie.Need-write-protect-requires
+write-protect-requires c κs = let q = start (c .before) .pre in (q .operand, omega (arith, q .fits))
 
 mul-copy-part : tie.Need-mul-copy-part
 mul-copy-part c = let s = start (ended c) in omega (arith, inside s, s .good)
@@ -66,7 +60,7 @@ copy-part-requires c κs =
     let d = ended w in
     let s = start d in (
       omega (arith, end d (s .pre), inside s),
-      omega (arith, end d (s .pre), s .pre .fits, w .before .before .write-record .kept .1 .1 .1 .1 .0),
+      omega (arith, end d (s .pre), s .pre .fits, w .before .before .write-protect .kept .1 .1 .1 .0),
     )
 
 same-length : tie.Need-same-length
@@ -76,13 +70,12 @@ returns : tie.Need-returns
 returns c q =
     let p = c .before .before in
     let w = p .before .before .before .before in
-    let i = w .before .before in
-    let d = i .before in
+    let d = w .before .before in
     let s = start d in
-    protect-placed _ _ (s .args .start) (q .part) _ (s .args .written .now) _ _ (i .indirect .ensures)
+    protect-placed (protection (s .args .groups .now) (P s) (s .args .at)) (s .args .start) (q .part) _ (s .args .written .now) _ _
     (own-bytes (q .stands) (script-width * (d .end-of .result - s .args .x)) (omega (arith, end d q)))
     (omega (arith, q .fits))
-    (w .write-record .ensures)
+    (w .write-protect .ensures)
     (p .copy-part .ensures)
 
 pub write-part-spec : {M : Type 1} → statement M
@@ -90,9 +83,7 @@ write-part-spec =
     tie.close
     (tie.spec
     end-of-requires
-    add-indirect
-    indirect-requires
-    write-record-requires
+    write-protect-requires
     mul-copy-part
     sub-copy-part
     mul-copy-part-2

@@ -6,8 +6,10 @@ use lib.ListN.{length}
 use borrow.Author.Needs.{needs}
 use Rattle.rules.specs.Answer.{Bytes}
 use Rattle.rules.specs.Limits.{script-width}
-use Rattle.rules.specs.Groups.{join}
-use Rattle.rules.specs.Script.{records, size, ir}
+use Rattle.rules.specs.Groups.{properties-of}
+use Rattle.rules.specs.Script.{records, size}
+use Rattle.lattice.specs.Said.{said-property}
+use Rattle.records.specs.Labels.{influence-at}
 use Rattle.records.proofs.Stands.{room, there}
 use Rattle.substitution.proofs.Reading.{size-from}
 use Rattle.contraction.specs.Plans.{RaisedRoom}
@@ -29,20 +31,20 @@ begin c = c .before .before .before
 abbrev start : tie.After-end-of → tie.Start
 start c = begin (c .before)
 
--- past the joined groups
-abbrev ended : tie.After-joined2 → tie.After-end-of
-ended c = c .before .before .before .before .before
+-- past the raised property
+abbrev ended : tie.After-raised → tie.After-end-of
+ended c = c .before .before .before
 
 -- past the value's kind and number
-abbrev joined : tie.After-write-record-arg → tie.After-joined2
-joined c = c .before .before .before
+abbrev raised : tie.After-write-record-arg → tie.After-raised
+raised c = c .before .before .before
 
 -- past the written record
 abbrev told : tie.After-slice-known2 → tie.After-write-record-arg
 told c = c .before .before .before
 
 abbrev known : tie.After-slice-known2 → tie.After-end-of
-known c = ended (joined (told c))
+known c = ended (raised (told c))
 
 end : (c : tie.After-end-of) (q : Q (start c)) → c .end-of .result ≡ start c .args .at + 1 + size (q .value)
 end c q = c .end-of .ensures (q .value) (q .stands)
@@ -62,20 +64,14 @@ add-x c = let s = begin c in omega (arith, inside s, s .good)
 end-of-requires : tie.Need-end-of-requires
 end-of-requires c κs = let q = begin c .pre in record { tree = q .value; at = q .stands }
 
-indirect-requires : tie.Need-indirect-requires
-indirect-requires c κs = omega (arith, own-record (start c))
+influence-requires : tie.Need-influence-requires
+influence-requires c κs = omega (arith, own-record (start c))
 
-reader-requires : tie.Need-reader-requires
-reader-requires c κs = own-record (start (c .before))
+property-requires : tie.Need-property-requires
+property-requires c κs = own-record (start (c .before))
 
-joined-requires : tie.Need-joined-requires
-joined-requires c κs = search needs
-
-indirect-requires-2 : tie.Need-indirect-requires-2
-indirect-requires-2 c κs = own-record (start (c .before .before .before))
-
-joined-requires-2 : tie.Need-joined-requires-2
-joined-requires-2 c κs = search needs
+raised-requires : tie.Need-raised-requires
+raised-requires c κs = search needs
 
 kind-requires : tie.Need-kind-requires
 kind-requires c κs = own-record (start (ended c))
@@ -84,7 +80,7 @@ number-requires : tie.Need-number-requires
 number-requires c κs = own-record (start (ended (c .before)))
 
 write-record-requires : tie.Need-write-record-requires
-write-record-requires c κs = let s = start (ended (joined c)) in omega (arith, s .pre .fits, some-record s)
+write-record-requires c κs = let s = start (ended (raised c)) in omega (arith, s .pre .fits, some-record s)
 
 mul-from : tie.Need-mul-from
 mul-from c = let s = start (known c) in omega (arith, inside s, s .good)
@@ -112,7 +108,7 @@ copy-part-requires c κs =
     let d = known (c .before) in
     let s = start d in (
       omega (arith, end d (s .pre), inside s, some-record s),
-      omega (arith, end d (s .pre), s .pre .fits, some-record s, c .before .before .before .write-record .kept .1 .1 .1 .1 .0),
+      omega (arith, end d (s .pre), s .pre .fits, some-record s, c .before .before .before .write-record .kept .1 .1 .1 .0),
     )
 
 same-length : tie.Need-same-length
@@ -123,16 +119,14 @@ returns c q =
     let p = c .before .before in
     let w = p .before .before in
     let k = told w in
-    let j = joined k in
+    let j = raised k in
     let d = ended j in
     let s = start d in
-    let g = s .args .groups .now in
-    let by = j .before .before .before .before .indirect .ensures in
+    let S = properties-of (s .args .groups .now) in
     let from = script-width * (s .args .at + 1) + script-width in
-    raise-placed g (q .stands) (ir (P s) (s .args .at)) _ _ _ _ (s .args .start) _ (s .args .written .now) _ _ (q .is-one)
+    raise-placed S (q .stands) (influence-at (P s) (s .args .at)) _ (said-property (j .raised .result)) _ (s .args .start) _ (s .args .written .now) _ _ (q .is-one)
     (k .before .before .kind .ensures)
-    (j .before .before .joined .ensures ∙ ap₂ (join g) (j .before .before .before .reader .ensures) by)
-    (j .joined2 .ensures ∙ ap₂ (join g) (j .before .indirect2 .ensures) by)
+    (j .raised .ensures ∙ ap₂ (S .raise) (j .before .property .ensures) (j .before .before .influence .ensures))
     (k .before .number .ensures)
     (operand-bytes (q .stands) from (script-width * d .end-of .result - from) (omega arith) (omega (arith, end d q, size-from (q .value))))
     (omega (arith, q .fits, size-from (q .value)))
@@ -145,11 +139,9 @@ write-raised-spec =
     (tie.spec
     add-x
     end-of-requires
-    indirect-requires
-    reader-requires
-    joined-requires
-    indirect-requires-2
-    joined-requires-2
+    influence-requires
+    property-requires
+    raised-requires
     kind-requires
     number-requires
     write-record-requires

@@ -1,5 +1,6 @@
 -- `contraction::write_record` meets its contract.
 use borrow.Author.Needs.{needs}
+use Rattle.lattice.specs.Said.{said-property}
 use Rattle.contraction.proofs.Plans.{record-placed}
 use Rattle.contraction.proofs.write_record.Statement.{statement}
 use Rattle.contraction.proofs.write_record.Tie as tie
@@ -22,7 +23,7 @@ same-length c = search needs
 returns : tie.Need-returns
 returns c =
     let s = c .before .before .before .before .before .before .before .before in
-    record-placed (s .args .kind) (s .args .r .0) (s .args .ir .0) (s .args .number) (c .before .before .before .before .before .before .low .result) (c .before .before .before .before .before .high .result) (s .args .start)
+    record-placed (s .args .kind) (said-property (s .args .property)) (s .args .number) (c .before .before .before .before .before .before .low .result) (c .before .before .before .before .before .high .result) (s .args .start)
     (s .args .written .now) _ (c .before .before .before .before .before .before .low .ensures) (c .before .before .before .before .before .high .ensures) (c .before .before .copy-part .ensures)
 
 pub write-record-spec : {M : Type 1} → statement M

@@ -10,9 +10,11 @@ use Rattle.calculus.specs.Terms.{Term, mu}
 use Rattle.calculus.specs.Reduction.{unrolled}
 use Rattle.rules.specs.Answer.{Bytes}
 use Rattle.rules.specs.Limits.{script-width}
-use Rattle.rules.specs.Groups.{readers}
+use Rattle.rules.specs.Groups.{properties-of}
 use Rattle.rules.specs.Types.{type-count, type-at}
 use Rattle.rules.specs.Script.{size, encode}
+use Rattle.lattice.specs.Said.{said-property}
+use Rattle.records.specs.Kinds as kinds
 use Rattle.records.specs.Place.{At}
 use Rattle.records.proofs.Stands.{room, there, at-first}
 use Rattle.redex.proofs.Places.{reader-at}
@@ -44,11 +46,11 @@ abbrev start : tie.After-number → tie.Start
 start c = begin (ended c .before)
 
 -- the recursion's group is known
-abbrev labelled : tie.After-indirect-at → tie.After-reader
-labelled c = c .before .before .before .before
+abbrev labelled : tie.After-property-at → tie.After-reader
+labelled c = c .before .before
 
 -- past the groups of the recursion's type
-abbrev numbered : tie.After-indirect-at → tie.After-number
+abbrev numbered : tie.After-property-at → tie.After-number
 numbered c = labelled c .before
 
 -- past the bytes of the front
@@ -76,15 +78,14 @@ in-table s q = function-inside _ _ (q .function)
 
 -- what is put in for the recursion's variable
 abbrev value : (s : tie.Start) → Q s → Bytes → Term
-value s q g = unrolled (readers g) (q .label) (q .type) (top (type-at (T s) (q .type))) (q .body)
+value s q g = unrolled (properties-of g) (q .label) (q .type) (top (type-at (T s) (q .type))) (q .body)
 
 -- the three pieces
 abbrev front : tie.After-high → Bytes
 front c =
-    let r = c .before .before .before .before .reader-at .result .0 in
-    let ir = c .before .before .indirect-at .result .0 in
+    let k = said-property (c .before .before .property-at .result) in
     let caller = labelled (c .before .before) .reader .result .0 in
-    2 ∷ r ∷ ir ∷ 0 ∷ c .before .low .result ∷ c .high .result ∷ 6 ∷ caller ∷ 0 ∷ 0 ∷ 0 ∷ 0 ∷ []
+    kinds.function ∷ k .r ∷ k .ir ∷ 0 ∷ c .before .low .result ∷ c .high .result ∷ k .c ∷ k .ic ∷ kinds.application ∷ caller ∷ 0 ∷ 0 ∷ 0 ∷ 0 ∷ 0 ∷ 0 ∷ []
 
 abbrev length-of : tie.After-number → ℕ
 length-of c = script-width * ended c .end-of .result - script-width * start c .args .at
@@ -93,20 +94,18 @@ abbrev own : tie.After-number → Bytes
 own c = take (length-of c) (drop (script-width * start c .args .at) (P (start c)))
 
 abbrev back : Bytes
-back = 0 ∷ 0 ∷ 0 ∷ 0 ∷ 0 ∷ 0 ∷ []
+back = kinds.variable ∷ 0 ∷ 0 ∷ 0 ∷ 0 ∷ 0 ∷ 0 ∷ 0 ∷ []
 
 pieces : (c : tie.After-high) (q : Q (start (known c))) (g : Bytes)
     → front c ++ (own (known c) ++ back) ≡ encode (value (start (known c)) q g)
 pieces c q g =
     let d = known c in
     let s = start d in
-    let ir = c .before .before in
-    let r = ir .before .before in
+    let k = c .before .before in
     let n = named d q in
-    rolled-bytes g (q .label) (q .type) (top (type-at (T s) (q .type))) (q .body) _ _ _ _ _ _
-    (labelled ir .reader .ensures ∙ reader-at (q .stands))
-    (r .reader-at .ensures ∙ type-groups (T s) (q .type) _ (q .function) (r .before .index .ensures .0 ∙ n) .0)
-    (ir .indirect-at .ensures ∙ type-groups (T s) (q .type) _ (q .function) (ir .before .index2 .ensures .0 ∙ n) .1)
+    rolled-bytes g (q .label) (q .type) (top (type-at (T s) (q .type))) (q .body) _ (said-property (k .property-at .result)) _ _ _
+    (labelled k .reader .ensures ∙ reader-at (q .stands))
+    (k .property-at .ensures ∙ type-groups (T s) (q .type) _ (q .function) (k .before .index .ensures .0 ∙ n))
     (c .before .low .ensures ∙ ap (λ m. (m + 1) % 256) n)
     (c .high .ensures ∙ ap (λ m. (m + 1) / 256) n)
     (own-bytes (q .stands) (length-of d) (omega (arith, end d q)))
@@ -123,20 +122,11 @@ reader-requires c κs = there _ _ _ (start c .pre .stands)
 index-requires : tie.Need-index-requires
 index-requires c κs = search needs
 
-reader-at-requires : tie.Need-reader-at-requires
-reader-at-requires c κs =
+property-at-requires : tie.Need-property-at-requires
+property-at-requires c κs =
     let d = c .before .before in
     let s = start d in
     omega (arith, c .index .ensures .0, named d (s .pre), in-table s (s .pre))
-
-index-requires-2 : tie.Need-index-requires-2
-index-requires-2 c κs = search needs
-
-indirect-at-requires : tie.Need-indirect-at-requires
-indirect-at-requires c κs =
-    let d = c .before .before .before .before in
-    let s = start d in
-    omega (arith, c .index2 .ensures .0, named d (s .pre), in-table s (s .pre))
 
 add-parameter : tie.Need-add-parameter
 add-parameter c =
@@ -212,9 +202,7 @@ write-unrolled-spec =
     number-requires
     reader-requires
     index-requires
-    reader-at-requires
-    index-requires-2
-    indirect-at-requires
+    property-at-requires
     add-parameter
     low-requires
     high-requires

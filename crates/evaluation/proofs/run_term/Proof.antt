@@ -7,7 +7,7 @@ use lib.ListN.{length}
 use borrow.Author.Needs.{needs}
 use Rattle.rules.specs.Answer.{Bytes}
 use Rattle.rules.specs.Limits.{script-width}
-use Rattle.rules.specs.Groups.{readers}
+use Rattle.rules.specs.Groups.{properties-of}
 use Rattle.rules.specs.Types.{type-at}
 use Rattle.rules.specs.Run.{run}
 use Rattle.evaluation.specs.Runs.{front, Loaded, Halted}
@@ -43,7 +43,7 @@ cleared-first c = c .before .before .before .before
 abbrev Run : tie.After-walk → ℕ → Type 0
 Run c n =
     let s = start c in
-    Halted (run (readers (s .args .groups .now)) (type-at (s .args .types .now)) n (s .args .budget) (front (F s) (s .args .records))) n
+    Halted (run (properties-of (s .args .groups .now)) (type-at (s .args .types .now)) n (s .args .budget) (front (F s) (s .args .records))) n
     (c .walk .result) (c .walk .last .1 .1 .1 .1 .0)
 
 -- the room is the one that the code computes

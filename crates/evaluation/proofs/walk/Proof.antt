@@ -9,7 +9,7 @@ use Rattle.calculus.specs.Security.{Security}
 use Rattle.calculus.specs.Types.{Ty}
 use Rattle.calculus.specs.Terms.{Term}
 use Rattle.rules.specs.Answer.{Bytes}
-use Rattle.rules.specs.Groups.{readers}
+use Rattle.rules.specs.Groups.{properties-of}
 use Rattle.rules.specs.Types.{type-at}
 use Rattle.rules.specs.Limits.{script-width, script-limit}
 use Rattle.rules.specs.Script.{size, term}
@@ -31,7 +31,7 @@ Inv-loop groups types records budget first₀ scratch₀ room n₀ steps₀ firs
     × (length scratch ≡ length scratch₀)
     × (steps ≤ budget)
     × Loaded types first n room
-    × Left (readers groups) (type-at types) room budget (front first₀ records) (front first n) steps
+    × Left (properties-of groups) (type-at types) room budget (front first₀ records) (front first n) steps
 
 abbrev μ-loop : tie.MeasureT-loop
 μ-loop groups types records budget first₀ scratch₀ room n₀ steps₀ first scratch n steps = budget - steps
@@ -69,7 +69,7 @@ copied-in c = turn (stepped (moving c))
 
 -- the call's tables, what the buffers hold at the call and at a turn, and how a step of a term ends
 abbrev S : Start → Security
-S s = readers (s .args .groups .now)
+S s = properties-of (s .args .groups .now)
 
 abbrev tab : Start → ℕ → Ty
 tab s = type-at (s .args .types .now)

@@ -1,28 +1,30 @@
--- `inference::absorbs` meets its contract: both indirect readers are read from the type.
+-- `inference::absorbs` meets its contract: both properties are read from the type.
 use mathlib.Core.Path.{ap, _∙_}
+use Rattle.calculus.specs.Security.{Property, Security}
 use Rattle.calculus.specs.Types.{top}
-use Rattle.rules.specs.Groups.{leq}
+use Rattle.rules.specs.Groups.{properties-of}
 use Rattle.rules.specs.Typing.{right}
+use Rattle.lattice.specs.Said.{said-property}
 use borrow.Author.Needs.{needs}
 use Rattle.inference.proofs.absorbs.Statement.{statement}
 use Rattle.inference.proofs.absorbs.Tie as tie
 
-abbrev start : tie.After-indirect → tie.Start
+abbrev start : tie.After-property → tie.Start
 start c = c .before .before .before
 
-indirect-requires : tie.Need-indirect-requires
-indirect-requires c κs = let q = c .before .before .pre in record { type = q .type; held = q .held }
+property-requires : tie.Need-property-requires
+property-requires c κs = let q = c .before .before .pre in record { type = q .type; held = q .held }
 
 side-requires : tie.Need-side-requires
 side-requires c κs = search needs
 
-indirect-requires-2 : tie.Need-indirect-requires-2
-indirect-requires-2 c κs =
+property-requires-2 : tie.Need-property-requires-2
+property-requires-2 c κs =
     let q = start (c .before) .pre in
     record { type = right (q .type); held = c .side .ensures (q .type) (q .held) }
 
-at-or-below-requires : tie.Need-at-or-below-requires
-at-or-below-requires c κs = search needs
+absorbed-by-requires : tie.Need-absorbed-by-requires
+absorbed-by-requires c κs = search needs
 
 returns : tie.Need-returns
 returns c =
@@ -30,11 +32,13 @@ returns c =
     let x = c .before in
     let r = x .before in
     let i = r .before in
-    let g = start i .args .groups .now in
-    c .at-or-below .ensures ∙ ap (λ j. leq g j (x .indirect2 .result .0)) (i .indirect .ensures t h)
-    ∙ ap (leq g (top t .ir)) (x .indirect2 .ensures (right t) (r .side .ensures t h))
+    let a = start i .args in
+    let S : Security = properties-of (a .groups .now) in
+    let w = a .caller .0 in
+    c .absorbed-by .ensures ∙ ap (λ (k : Property). S .absorbs k w (said-property (x .property2 .result))) (i .property .ensures t h)
+    ∙ ap (λ (k : Property). S .absorbs (top t) w k) (x .property2 .ensures (right t) (r .side .ensures t h))
 
 pub absorbs-spec : {M : Type 1} → statement M
 absorbs-spec =
     tie.close
-    (tie.spec indirect-requires side-requires indirect-requires-2 at-or-below-requires returns)
+    (tie.spec property-requires side-requires property-requires-2 absorbed-by-requires returns)

@@ -1,7 +1,7 @@
 -- `inference::adopt` meets its contract: where question 22 is answered yes, the named type is copied to the front.
 use mathlib.Core.Path.{refl, sym, _∙_}
 use Rattle.calculus.specs.Security.{Security}
-use Rattle.rules.specs.Groups.{readers}
+use Rattle.rules.specs.Groups.{properties-of}
 use Rattle.inference.specs.Memory.{finds, refuses}
 use Rattle.inference.proofs.Regions.{wrote-first}
 use Rattle.inference.proofs.Rules.{wanting-yes, wanting-no, meets-of}
@@ -10,7 +10,7 @@ use Rattle.inference.proofs.adopt.Statement.{statement}
 use Rattle.inference.proofs.adopt.Tie as tie
 
 abbrev S : tie.Start → Security
-S s = readers (s .args .groups .now)
+S s = properties-of (s .args .groups .now)
 
 -- question 22 is asked
 abbrev start : tie.After-wanted → tie.Start

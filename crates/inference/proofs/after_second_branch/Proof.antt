@@ -4,9 +4,10 @@ use native.Mathlib.Omega.{arith}
 use Rattle.calculus.specs.Security.{Security}
 use Rattle.calculus.specs.Types.{Ty, raiseT}
 use Rattle.rules.specs.Answer.{Answer, accepted, refused, _>>=_ as bind}
-use Rattle.rules.specs.Groups.{readers}
+use Rattle.rules.specs.Groups.{properties-of}
 use Rattle.rules.specs.Types.{type-at}
 use Rattle.rules.specs.Script.{number}
+use Rattle.lattice.specs.Said.{said-influence}
 use Rattle.inference.specs.Memory.{finds}
 use Rattle.inference.specs.Stages.{result-type, case-type, Branches}
 use Rattle.inference.proofs.Rules.{case-raises, meets-of, raise-wrote, typed-as, refused-as, refused-meets}
@@ -15,7 +16,7 @@ use Rattle.inference.proofs.after_second_branch.Statement.{statement}
 use Rattle.inference.proofs.after_second_branch.Tie as tie
 
 abbrev S : tie.Start → Security
-S s = readers (s .args .groups .now)
+S s = properties-of (s .args .groups .now)
 
 abbrev Node : tie.Start → Type 0
 Node s = Branches (s .args .types .now) (s .args .s .now) (s .args .w .now)
@@ -25,11 +26,11 @@ abbrev result : (s : tie.Start) → Node s → Answer Ty
 result s v = result-type (S s) (type-at (s .args .types .now)) (s .args .place) (number (s .args .s .now) 0) (v .first) (v .second)
 
 raised : (s : tie.Start) (v : Node s) (o : Answer Ty) → result s v ≡ o
-    → let by = s .args .by .0 in
+    → let by = said-influence (s .args .by) in
     case-type (S s) (type-at (s .args .types .now)) (s .args .place) (number (s .args .s .now) 0) (v .first) (v .second) by
     ≡ bind o (λ r. accepted (raiseT (S s) r by))
 raised s v o e =
-    let by = s .args .by .0 in
+    let by = said-influence (s .args .by) in
     case-raises (S s) (s .args .place) (type-at (s .args .types .now)) (number (s .args .s .now) 0) (v .first) (v .second) by
     ∙ ap (λ a. bind a (λ r. accepted (raiseT (S s) r by))) e
 
@@ -80,7 +81,7 @@ returns-2 c =
     let d = x .before .before .before in
     let a = found d in
     let s = start a in
-    let by = s .args .by .0 in
+    let by = said-influence (s .args .by) in
     let y = typed-as {o = result s v} (d .x .given .1) (a .result-type .ensures v b l) in
     meets-of (raised s v (accepted (y .type)) (y .is))
     (finds

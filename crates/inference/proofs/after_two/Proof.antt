@@ -7,13 +7,13 @@ use Rattle.calculus.specs.Types.{function}
 use Rattle.calculus.specs.Terms.{Term, app}
 use Rattle.rules.specs.Limits.{script-width}
 use Rattle.rules.specs.Answer.{Bytes}
-use Rattle.rules.specs.Groups.{readers}
+use Rattle.rules.specs.Groups.{properties-of}
 use Rattle.rules.specs.Script.{kind, r, number}
 use Rattle.types.specs.Held.{kind-of}
 use Rattle.records.specs.Operands.{first-operand, second-operand}
 use Rattle.inference.specs.Stages.{between, after-two, Two}
 use Rattle.inference.proofs.Regions.{slot-of}
-use Rattle.inference.proofs.Shapes.{long, of-kind, app-kind, of-fields, kind-pair, kind-application}
+use Rattle.inference.proofs.Shapes.{long, app-kind, of-fields, read-by, kind-pair, kind-application}
 use Rattle.inference.proofs.Rules.{read-two, meets-of}
 use borrow.Author.Needs.{needs}
 use Rattle.inference.proofs.after_two.Statement.{statement}
@@ -22,17 +22,18 @@ use Rattle.inference.proofs.after_two.Tie as tie
 module _ {g s : Bytes} {place : ℕ} {w : Bytes} {n m : ℕ} (v : Two g s place w n m) where
   -- the rule for a node of a shape
   rule : {e : Term} → v .tree ≡ e
-      → after-two (readers g) place (v .tree) (v .first) (v .second) ≡ after-two (readers g) place e (v .first) (v .second)
-  rule q = ap (λ e. after-two (readers g) place e (v .first) (v .second)) q
+      → after-two (properties-of g) place (v .tree) (v .first) (v .second) ≡ after-two (properties-of g) place e (v .first) (v .second)
+  rule q = ap (λ e. after-two (properties-of g) place e (v .first) (v .second)) q
 
-  is-app : (kind s 0 ≡ kind-pair → ⊥) → v .tree ≡ app (r s 0) (first-operand (v .tree)) (second-operand (v .tree))
-  is-app ne = of-kind s (v .tree) kind-application (v .is) (app-kind (v .tree) (v .is) (v .two) ne)
+  is-app : (w : ℕ) → w ≡ r s 0 → (kind s 0 ≡ kind-pair → ⊥) → v .tree ≡ app w (first-operand (v .tree)) (second-operand (v .tree))
+  is-app w e ne =
+      of-fields s (v .tree) kind-application {n = number s 0} (v .is) (app-kind (v .tree) (v .is) (v .two) ne) (ap (read-by s) e) refl
 
   sided : (kind s 0 ≡ kind-pair → ⊥) → kind-of (v .first) ≡ 0 → ⊥
   unfolding between
   sided ne =
-      read-two (readers g) place function (v .first) (r s 0)
-      (sym (ap (λ e. between (readers g) place e (v .first)) (is-app ne)) ∙ v .asked)
+      read-two (properties-of g) place function (v .first) (r s 0)
+      (sym (ap (λ e. between (properties-of g) place e (v .first)) (is-app (r s 0) refl ne)) ∙ v .asked)
 
 abbrev P : tie.Start → Bytes
 P s = s .args .s .now
@@ -53,11 +54,8 @@ node-long s = long (s .pre .tree) (s .pre .is)
 kind-requires : tie.Need-kind-requires
 kind-requires c κs = omega (arith, node-long (begin c))
 
-reader-requires : tie.Need-reader-requires
-reader-requires c κs = omega (arith, node-long (start (c .before)))
-
-indirect-requires : tie.Need-indirect-requires
-indirect-requires c κs = omega (arith, node-long (start (c .before .before)))
+property-requires : tie.Need-property-requires
+property-requires c κs = omega (arith, node-long (start (c .before)))
 
 pair-requires : tie.Need-pair-requires
 pair-requires c κs = search needs
@@ -70,17 +68,18 @@ unfolding after-two
 returns c =
     λ v b l.
     let x = c .before .before in
-    let d = x .before .before in
-    let a = d .before in
+    let a = x .before .before in
     let i = a .before in
     let s = P (start (i .before)) in
-    let e = of-fields s (v .tree) kind-pair {n = number s 0} (v .is) (sym (i .before .kind .ensures) ∙ i .if1 .taken) (a .reader .ensures)
-    (d .indirect .ensures) refl in
+    let e = of-fields s (v .tree) kind-pair {n = number s 0} (v .is) (sym (i .before .kind .ensures) ∙ i .if1 .taken) (a .property .ensures) refl in
     meets-of (rule v e) (x .pair .ensures (v .first) (v .second) b (v .sized) (v .other) l)
+
+reader-requires : tie.Need-reader-requires
+reader-requires c κs = omega (arith, node-long (start (c .before)))
 
 apply-requires : tie.Need-apply-requires
 apply-requires c κs =
-    let i = c .before in
+    let i = c .before .before in
     let v = start (i .before) .pre in (
       record { type = v .first; held = v .sized .held; two = sided v (no-pair i) },
       (record { type = v .second; held = v .other .held }, v .room),
@@ -94,19 +93,20 @@ unfolding after-two
 returns-2 c =
     λ v b l.
     let x = c .before .before in
-    let i = x .before .before in
-    meets-of (rule v (is-app v (no-pair i))) (x .apply .ensures (v .first) (v .second) b (slot-of (v .sized)) (v .other .held) l)
+    let a = x .before .before in
+    let e = is-app v (a .reader .result .0) (a .reader .ensures) (no-pair (a .before)) in
+    meets-of (rule v e) (x .apply .ensures (v .first) (v .second) b (slot-of (v .sized)) (v .other .held) l)
 
 pub after-two-spec : {M : Type 1} → statement M
 after-two-spec =
     tie.close
     (tie.spec
     kind-requires
-    reader-requires
-    indirect-requires
+    property-requires
     pair-requires
     same-length
     returns
+    reader-requires
     apply-requires
     same-length-2
     returns-2)

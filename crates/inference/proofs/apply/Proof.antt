@@ -2,21 +2,22 @@
 use mathlib.Core.Path.{sym, _∙_}
 use native.Mathlib.Omega.{arith}
 use Rattle.calculus.specs.Security.{Security}
-use Rattle.calculus.specs.Types.{Ty, top, raiseT}
-use Rattle.rules.specs.Groups.{readers}
+use Rattle.calculus.specs.Types.{Ty}
+use Rattle.rules.specs.Groups.{properties-of}
 use Rattle.rules.specs.Typing.{left, right}
 use Rattle.inference.specs.Memory.{refuses}
+use Rattle.inference.specs.Stages.{reads}
 use Rattle.inference.proofs.Rules.{wanting-yes, wanting-no, meets-of}
 use borrow.Author.Needs.{needs}
 use Rattle.inference.proofs.apply.Statement.{statement}
 use Rattle.inference.proofs.apply.Tie as tie
 
 abbrev S : tie.Start → Security
-S s = readers (s .args .groups .now)
+S s = properties-of (s .args .groups .now)
 
 -- what applying a function of type s gives
 abbrev result : tie.Start → Ty → Ty
-result c s = raiseT (S c) (right s) (top s .ir)
+result c s = reads (S c) s (c .args .r .0) (right s)
 
 -- question 22 is asked
 abbrev start : tie.After-argument-fits → tie.Start

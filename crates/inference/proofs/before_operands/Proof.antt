@@ -7,15 +7,14 @@ use Rattle.calculus.specs.Security.{Security}
 use Rattle.calculus.specs.Types.{function, Ty}
 use Rattle.rules.specs.Limits.{answer-length, script-width}
 use Rattle.rules.specs.Answer.{Bytes}
-use Rattle.rules.specs.Groups.{readers}
+use Rattle.rules.specs.Groups.{properties-of}
 use Rattle.rules.specs.Types.{former-kind, type-at, type-count, type-kind}
-use Rattle.rules.specs.Script.{r, ir, make}
-use Rattle.records.specs.Operands.{first-operand, second-operand, third-operand}
+use Rattle.records.specs.Labels.{property-at}
 use Rattle.answer.specs.Said.{said}
 use Rattle.inference.specs.Memory.{Ready}
 use Rattle.inference.specs.Stages.{may-recur, before-first, first-context}
 use Rattle.inference.proofs.Regions.{stayed}
-use Rattle.inference.proofs.Shapes.{long, plain, of-fields, depth-positive, kind-function, kind-recursion}
+use Rattle.inference.proofs.Shapes.{long, plain, labelled, of-fields, depth-positive, kind-function, kind-recursion}
 use Rattle.inference.proofs.Rules.{enters-as}
 use Rattle.inference.proofs.Names.{named, named-sided, lam-index, mu-index}
 use borrow.Author.Needs.{needs}
@@ -24,7 +23,7 @@ use Rattle.inference.proofs.before_operands.Tie as tie
 
 -- the call's groups, types and script
 abbrev S : tie.Start → Security
-S s = readers (s .args .groups .now)
+S s = properties-of (s .args .groups .now)
 
 abbrev T : tie.Start → Bytes
 T s = s .args .types .now
@@ -53,11 +52,8 @@ abbrev Node : tie.After-index → Type 0
 Node c = let s = start c in Ready (T s) (P s) (s .args .place) (s .args .b) (s .args .w .now)
 
 shape : (c : tie.After-index) (v : Node c) (j : ℕ) → c .before .kind .result ≡ j
-    → let p = P (start c) in let e = v .tree in
-    e ≡ make j (r p 0) (ir p 0) (I c) (first-operand e) (second-operand e) (third-operand e)
-shape c v j q =
-    let p = P (start c) in
-    of-fields p (v .tree) j {a = r p 0} {b = ir p 0} (v .is) (sym (c .before .kind .ensures) ∙ q) refl refl (c .index .ensures)
+    → v .tree ≡ labelled j (property-at (P (start c)) 0) (I c) (v .tree)
+shape c v j q = of-fields (P (start c)) (v .tree) j (v .is) (sym (c .before .kind .ensures) ∙ q) refl (c .index .ensures)
 
 -- the room for one more binder
 level : {types s : Bytes} {place b : ℕ} {w : Bytes} → Ready types s place b w → answer-length * (b + 1) ≤ length w

@@ -8,14 +8,13 @@ use Rattle.calculus.specs.Types.{function, Ty}
 use Rattle.calculus.specs.Terms.{Term}
 use Rattle.rules.specs.Limits.{script-width}
 use Rattle.rules.specs.Answer.{Bytes}
-use Rattle.rules.specs.Groups.{readers}
-use Rattle.rules.specs.Script.{kind, ir, number, make}
-use Rattle.records.specs.Operands.{first-operand, second-operand, third-operand}
+use Rattle.rules.specs.Groups.{properties-of}
+use Rattle.rules.specs.Script.{kind, number}
 use Rattle.inference.specs.Operands.{operand-count}
 use Rattle.inference.specs.Memory.{Sized, Beside}
 use Rattle.inference.specs.Stages.{between, second-context, Some, Aside}
 use Rattle.inference.proofs.Regions.{stayed}
-use Rattle.inference.proofs.Shapes.{long, of-kind, case-kind, of-fields, kind-pair, kind-application, kind-case}
+use Rattle.inference.proofs.Shapes.{long, labelled, of-kind, case-kind, of-fields, read-by, kind-pair, kind-application, kind-case}
 use Rattle.inference.proofs.Rules.{enters-as, enters-for}
 use borrow.Author.Needs.{needs}
 use Rattle.inference.proofs.between.Statement.{statement}
@@ -23,7 +22,7 @@ use Rattle.inference.proofs.between.Tie as tie
 
 -- the call's groups, script and node
 abbrev S : tie.Start → Security
-S s = readers (s .args .groups .now)
+S s = properties-of (s .args .groups .now)
 
 abbrev P : tie.Start → Bytes
 P s = s .args .s .now
@@ -43,11 +42,8 @@ abbrev start : tie.After-reader → tie.Start
 start c = begin (kinded c .before)
 
 shape : (c : tie.After-reader) (v : Node (start c)) (j : ℕ) → kind (P (start c)) 0 ≡ j
-    → let p = P (start c) in let e = v .tree in
-    e ≡ make j (c .reader .result .0) (ir p 0) (number p 0) (first-operand e) (second-operand e) (third-operand e)
-shape c v j q =
-    let p = P (start c) in
-    of-fields p (v .tree) j {b = ir p 0} {n = number p 0} (v .is) q (c .reader .ensures) refl refl
+    → let p = P (start c) in v .tree ≡ labelled j (read-by p (c .reader .result .0)) (number p 0) (v .tree)
+shape c v j q = let p = P (start c) in of-fields p (v .tree) j (v .is) q (ap (read-by p) (c .reader .ensures)) refl
 
 -- the questions and the second operand's context, for a node of a shape
 asked : (s : tie.Start) (v : Node s) {e : Term} → v .tree ≡ e

@@ -5,7 +5,7 @@ use Prim.Native.Nat.{ℕ, _<_}
 use Rattle.calculus.specs.Security.{Security}
 use Rattle.calculus.specs.Typing.{finds-own}
 use Rattle.rules.specs.Answer.{Bytes, ask}
-use Rattle.rules.specs.Groups.{readers}
+use Rattle.rules.specs.Groups.{properties-of}
 use Rattle.rules.specs.Types.{type-at, type-count}
 use Rattle.rules.specs.Script.{number}
 use Rattle.rules.specs.Typing.{q22}
@@ -16,7 +16,7 @@ use Rattle.inference.proofs.branch_fits.Statement.{statement}
 use Rattle.inference.proofs.branch_fits.Tie as tie
 
 abbrev S : tie.Start → Security
-S s = readers (s .args .groups .now)
+S s = properties-of (s .args .groups .now)
 
 abbrev T : tie.Start → Bytes
 T s = s .args .types .now

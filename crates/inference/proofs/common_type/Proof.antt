@@ -5,7 +5,7 @@ use Rattle.calculus.specs.Types.{type-limit}
 use Rattle.calculus.specs.Subtyping.{below}
 use Rattle.calculus.specs.Common.{common}
 use Rattle.rules.specs.Answer.{Bytes}
-use Rattle.rules.specs.Groups.{readers}
+use Rattle.rules.specs.Groups.{properties-of}
 use Rattle.rules.specs.Typing.{found-or}
 use Rattle.common_types.specs.Walks.{Two-types, Walked}
 use Rattle.common_types.proofs.Answers.{is-apart, tells-found, tells-apart}
@@ -32,7 +32,7 @@ start c = c .before .before .before .before
 
 walked : (c : tie.After-least-above) (v : Both (start c .args .w .now))
     → let s = start c in
-    Walked (common (readers (s .args .groups .now)) below (v .first) (v .second)) (v .first) 0 (s .args .w .now) (c .least-above .result)
+    Walked (common (properties-of (s .args .groups .now)) below (v .first) (v .second)) (v .first) 0 (s .args .w .now) (c .least-above .result)
     (c .least-above .last .1 .0)
 walked c v = c .least-above .ensures (two-types v)
 

@@ -7,6 +7,7 @@ use Rattle.calculus.specs.Types.{function, Ty, sizeT, type-limit}
 use Rattle.rules.specs.Answer.{Bytes}
 use Rattle.rules.specs.Limits.{type-width}
 use Rattle.rules.specs.Types.{encode-type}
+use Rattle.lattice.specs.Said.{said-property}
 use Rattle.types.specs.Held.{Held}
 use Rattle.inference.specs.Memory.{refuses}
 use Rattle.inference.proofs.Front.{held-long, held-bytes}
@@ -71,7 +72,7 @@ returns c =
     let d = c .before in
     let o = start (d .before) .args in
     meets-of
-    (fits-no (o .place) function (record { r = o .r .0; ir = o .ir .0 }) s t (omega (arith, c .if1 .taken, counts d s (p .held), q .count)))
+    (fits-no (o .place) function (said-property (o .property)) s t (omega (arith, c .if1 .taken, counts d s (p .held), q .count)))
     refuses
 
 mul-at : tie.Need-mul-at
@@ -99,11 +100,11 @@ copy-requires c κs =
 put-requires : tie.Need-put-requires
 put-requires c κs = search needs
 
-add-t11 : tie.Need-add-t11
-add-t11 c = search needs
+add-t10 : tie.Need-add-t10
+add-t10 c = search needs
 
-add-t20 : tie.Need-add-t20
-add-t20 c = search needs
+add-t19 : tie.Need-add-t19
+add-t19 c = search needs
 
 same-length : tie.Need-same-length
 same-length c = search needs
@@ -118,7 +119,7 @@ returns-2 c =
     let d = i .before in
     let o = start (d .before) .args in
     let e = counts d s (p .held) in
-    function-meets (o .place) (o .r .0) (o .ir .0) (N d) (o .n) s t (omega (arith, i .if1 .left, e, q .count)) e (q .count)
+    function-meets (o .place) (said-property (o .property)) (N d) (o .n) s t (omega (arith, i .if1 .left, e, q .count)) e (q .count)
     (copied d s (p .held)) (held-bytes (q .held) (o .n) (q .count)) l (u .up .ensures) (y .copy .ensures) (x .put .ensures)
 
 pub function-spec : {M : Type 1} → statement M
@@ -136,7 +137,7 @@ function-spec =
     mul-copy
     copy-requires
     put-requires
-    add-t11
-    add-t20
+    add-t10
+    add-t19
     same-length
     returns-2)

@@ -1,6 +1,5 @@
 -- `inference::inject` meets its contract: the named type is copied to the front, and its first record is written anew.
 use mathlib.Core.Path.{_≡_, refl, sym, ap, _∙_}
-use mathlib.Core.List.{[], _∷_}
 use Prim.Native.Nat.{_*_}
 use native.Mathlib.Omega.{arith}
 use lib.ListN.{drop}
@@ -9,9 +8,10 @@ use Rattle.calculus.specs.Types.{sum, Ty, node}
 use Rattle.calculus.specs.Subtyping.{subtype, below}
 use Rattle.rules.specs.Answer.{Bytes}
 use Rattle.rules.specs.Limits.{type-width}
-use Rattle.rules.specs.Groups.{readers}
-use Rattle.rules.specs.Types.{former-kind}
+use Rattle.rules.specs.Groups.{properties-of}
+use Rattle.rules.specs.Types.{former-kind, type-record}
 use Rattle.rules.specs.Typing.{left, right}
+use Rattle.lattice.specs.Said.{said-property}
 use Rattle.memory.specs.Splice.{splice}
 use Rattle.types.specs.Held.{Held, Sided}
 use Rattle.inference.specs.Memory.{finds, refuses}
@@ -25,7 +25,7 @@ use Rattle.inference.proofs.inject.Statement.{statement}
 use Rattle.inference.proofs.inject.Tie as tie
 
 abbrev S : tie.Start → Security
-S s = readers (s .args .groups .now)
+S s = properties-of (s .args .groups .now)
 
 abbrev W : tie.Start → Bytes
 W s = s .args .w .now
@@ -45,7 +45,7 @@ sided c = let p = start c .pre .0 in record { type = p .type; held = held c (p .
 
 -- the injection's property, the side that it fills, and its type, where the named one is u
 abbrev K : tie.Start → Property
-K s = record { r = s .args .r .0; ir = s .args .ir .0 }
+K s = said-property (s .args .property)
 
 abbrev side : tie.Start → Ty → Ty
 side s u = side-of (s .args .second) u
@@ -113,8 +113,8 @@ returns c =
     (finds
     (wrote-first (m .0 ∙ sym z) (omega (arith, z, p .small)) refl l
     (x .put .ensures
-    ∙ ap (splice 0 (former-kind sum ∷ K s .r ∷ K s .ir ∷ 0 ∷ [])) (m .1)
-    ∙ other-record u (K s .r) (K s .ir) (W s) two)))
+    ∙ ap (splice 0 (type-record (former-kind sum) (K s))) (m .1)
+    ∙ other-record u (K s) (W s) two)))
 
 same-length-2 : tie.Need-same-length-2
 same-length-2 c = search needs

@@ -1,6 +1,5 @@
 -- `inference::leaf` meets its contract: a node without operands is a variable or a unit.
 use mathlib.Core.Path.{_≡_, refl, sym, ap, _∙_, subst}
-use mathlib.Core.List.{[], _∷_}
 use Prim.Native.Nat.{ℕ, _≤_, _<_}
 use native.Mathlib.Omega.{arith}
 use lib.ListN.{length}
@@ -9,8 +8,10 @@ use Rattle.calculus.specs.Types.{one, sizeT}
 use Rattle.calculus.specs.Terms.{Term, var, unit}
 use Rattle.rules.specs.Limits.{script-width}
 use Rattle.rules.specs.Answer.{Bytes}
-use Rattle.rules.specs.Types.{encode-type}
-use Rattle.rules.specs.Script.{r, ir, number}
+use Rattle.rules.specs.Types.{type-record, encode-type}
+use Rattle.rules.specs.Script.{number}
+use Rattle.lattice.specs.Said.{said-property}
+use Rattle.records.specs.Labels.{property-at}
 use Rattle.inference.specs.Operands.{Formed}
 use Rattle.inference.specs.Memory.{finds}
 use Rattle.inference.specs.Stages.{leaf-type, Leaf}
@@ -25,7 +26,7 @@ in-scope : (t : Bytes) (b n : ℕ) (e : Term) → e ≡ var n → Formed t b e �
 unfolding Formed
 in-scope t b n e p f = subst (λ d. Formed t b d) p f
 
-unit-bytes : (k : Property) → encode-type (one k) ≡ 0 ∷ k .r ∷ k .ir ∷ 0 ∷ []
+unit-bytes : (k : Property) → encode-type (one k) ≡ type-record 0 k
 unfolding encode-type
 unit-bytes k = refl
 
@@ -55,24 +56,24 @@ is-var : (c : tie.After-index) (v : Node (var-start c)) → v .tree ≡ var (c .
 is-var c v =
     let i = c .before in
     let p = P (var-start c) in
-    of-fields p (v .tree) kind-variable {a = r p 0} {b = ir p 0} (v .is) (sym (i .before .kind .ensures) ∙ i .if1 .taken) refl refl (c .index .ensures)
+    of-fields p (v .tree) kind-variable {p = property-at p 0} (v .is) (sym (i .before .kind .ensures) ∙ i .if1 .taken) refl (c .index .ensures)
 
 -- a unit: its property is read
-abbrev no-var : tie.After-indirect → tie.Else1
-no-var c = c .before .before .before
+abbrev no-var : tie.After-property → tie.Else1
+no-var c = c .before .before
 
-abbrev unit-start : tie.After-indirect → tie.Start
+abbrev unit-start : tie.After-property → tie.Start
 unit-start c = start (no-var c .before)
 
-abbrev K : tie.After-indirect → Property
-K c = record { r = c .before .reader .result .0; ir = c .indirect .result .0 }
+abbrev K : tie.After-property → Property
+K c = said-property (c .property .result)
 
-is-unit : (c : tie.After-indirect) (v : Node (unit-start c)) → v .tree ≡ unit (K c)
+is-unit : (c : tie.After-property) (v : Node (unit-start c)) → v .tree ≡ unit (K c)
 is-unit c v =
     let i = no-var c in
     let p = P (unit-start c) in
     let q = unit-kind (v .tree) (v .is) (v .leaf) (λ z. i .if1 .left (i .before .kind .ensures ∙ z)) in
-    of-fields p (v .tree) kind-unit {n = number p 0} (v .is) q (c .before .reader .ensures) (c .indirect .ensures) refl
+    of-fields p (v .tree) kind-unit {n = number p 0} (v .is) q (c .property .ensures) refl
 
 node-long : (s : tie.Start) → script-width ≤ length (P s)
 node-long s = long (s .pre .tree) (s .pre .is)
@@ -106,11 +107,8 @@ returns c =
     let x = c .before .before in
     meets-of (ap (leaf-type (v .ctx)) (is-var (x .before .before) v)) (x .variable .ensures (v .ctx) (v .binders) (v .holds))
 
-reader-requires : tie.Need-reader-requires
-reader-requires c κs = omega (arith, node-long (start (c .before .before)))
-
-indirect-requires : tie.Need-indirect-requires
-indirect-requires c κs = omega (arith, node-long (start (c .before .before .before)))
+property-requires : tie.Need-property-requires
+property-requires c κs = omega (arith, node-long (start (c .before .before)))
 
 put-requires : tie.Need-put-requires
 put-requires c κs = search needs
@@ -136,8 +134,7 @@ leaf-spec =
     variable-requires
     same-length
     returns
-    reader-requires
-    indirect-requires
+    property-requires
     put-requires
     same-length-2
     returns-2)

@@ -2,7 +2,7 @@
 use mathlib.Core.Path.{_≡_, sym, ap, _∙_}
 use Rattle.calculus.specs.Security.{Security}
 use Rattle.calculus.specs.Types.{Former, Ty, top}
-use Rattle.rules.specs.Groups.{readers, leq}
+use Rattle.rules.specs.Groups.{properties-of, leq}
 use Rattle.rules.specs.Types.{former-kind}
 use Rattle.types.specs.Held.{Held, kind-of}
 use Rattle.inference.proofs.Rules.{reads-20, reads-21}
@@ -11,7 +11,7 @@ use Rattle.inference.proofs.may_read.Statement.{statement}
 use Rattle.inference.proofs.may_read.Tie as tie
 
 abbrev S : tie.Start → Security
-S s = readers (s .args .groups .now)
+S s = properties-of (s .args .groups .now)
 
 -- the kind is read
 abbrev begin : tie.After-kind → tie.Start

@@ -6,7 +6,7 @@ use Rattle.calculus.specs.Security.{Security}
 use Rattle.calculus.specs.Types.{Ty, top}
 use Rattle.rules.specs.Answer.{Bytes, ask}
 use Rattle.rules.specs.Limits.{type-width}
-use Rattle.rules.specs.Groups.{readers, leq}
+use Rattle.rules.specs.Groups.{properties-of, leq}
 use Rattle.types.specs.Held.{Held, Sided}
 use Rattle.inference.proofs.Rules.{recurs-21, recurs-23}
 use borrow.Author.Needs.{needs}
@@ -31,7 +31,7 @@ abbrev start : tie.After-absorbs → tie.Start
 start c = begin (c .before .before .before)
 
 abbrev S : tie.Start → Security
-S s = readers (s .args .groups .now)
+S s = properties-of (s .args .groups .now)
 
 permitted : (c : tie.After-absorbs) (t : Ty) → Held (T (start c)) t
     → S (start c) .permits (top t) (start c .args .caller .0) ≡ c .before .at-or-below .result

@@ -5,6 +5,7 @@ use native.Mathlib.Omega.{arith}
 use lib.ListN.{length, take, drop, length-take}
 use Rattle.rules.specs.Limits.{answer-length, type-width}
 use Rattle.calculus.specs.Types.{product, Ty, sizeT, type-limit}
+use Rattle.lattice.specs.Said.{said-property}
 use Rattle.memory.proofs.Laws.{drop-past}
 use Rattle.inference.specs.Memory.{refuses}
 use Rattle.inference.proofs.Front.{held-bytes}
@@ -44,7 +45,7 @@ returns c =
     λ s t b p q l.
     let o = c .before .before .args in
     meets-of
-    (fits-no (o .place) product (record { r = o .r .0; ir = o .ir .0 }) s t (omega (arith, c .if1 .taken, p .count, q .count)))
+    (fits-no (o .place) product (said-property (o .property)) s t (omega (arith, c .if1 .taken, p .count, q .count)))
     refuses
 
 mul-up : tie.Need-mul-up
@@ -68,11 +69,11 @@ down-requires c κs = search needs
 put-requires : tie.Need-put-requires
 put-requires c κs = search needs
 
-add-t8 : tie.Need-add-t8
-add-t8 c = search needs
+add-t7 : tie.Need-add-t7
+add-t7 c = search needs
 
-add-t17 : tie.Need-add-t17
-add-t17 c = search needs
+add-t16 : tie.Need-add-t16
+add-t16 c = search needs
 
 same-length : tie.Need-same-length
 same-length c = search needs
@@ -85,7 +86,7 @@ returns-2 c =
     let u = lifted y in
     let o = start u .args in
     let f : sizeT s + sizeT t < type-limit = omega (arith, fitting u .if1 .left, p .count, q .count) in
-    pair-meets (o .place) (o .r .0) (o .ir .0) (o .n) (o .m) s t f (p .count) (q .count) (held-bytes (p .held) (o .n) (p .count))
+    pair-meets (o .place) (said-property (o .property)) (o .n) (o .m) s t f (p .count) (q .count) (held-bytes (p .held) (o .n) (p .count))
     (ap (take (type-width * o .m)) (kept u s t (p .count) f (omega arith)) ∙ held-bytes (q .held) (o .m) (q .count)) l
     (u .up .ensures) (y .down .ensures) (x .put .ensures)
 
@@ -102,7 +103,7 @@ pair-spec =
     mul-down
     down-requires
     put-requires
-    add-t8
-    add-t17
+    add-t7
+    add-t16
     same-length
     returns-2)

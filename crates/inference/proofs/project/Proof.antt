@@ -2,11 +2,11 @@
 use mathlib.Core.Path.{_≡_, refl, ap}
 use Rattle.answer.proofs.Passed.{accepts}
 use Rattle.calculus.specs.Security.{Security}
-use Rattle.calculus.specs.Types.{product, Ty, top, raiseT}
+use Rattle.calculus.specs.Types.{product, Ty}
 use Rattle.rules.specs.Answer.{Bytes, accepted, _>>_ as then}
-use Rattle.rules.specs.Groups.{readers}
+use Rattle.rules.specs.Groups.{properties-of}
 use Rattle.types.specs.Held.{Held}
-use Rattle.inference.specs.Stages.{may-read, side-of}
+use Rattle.inference.specs.Stages.{may-read, reads, side-of}
 use Rattle.inference.proofs.Rules.{read-two, meets-of, refused-found}
 use borrow.Author.Needs.{needs}
 use Rattle.inference.proofs.project.Statement.{statement}
@@ -14,7 +14,7 @@ use Rattle.inference.proofs.project.Tie as tie
 
 -- the call's groups and work buffer
 abbrev S : tie.Start → Security
-S s = readers (s .args .groups .now)
+S s = properties-of (s .args .groups .now)
 
 abbrev W : tie.Start → Bytes
 W s = s .args .w .now
@@ -70,7 +70,7 @@ returns-2 c =
     let x = c .before .before in
     let d = x .before .before in
     let s = start (asked d) in
-    meets-of (ap (λ a. then a (accepted (raiseT (S s) (side-of (s .args .second) t) (top t .ir)))) (may d t (h .held)))
+    meets-of (ap (λ a. then a (accepted (reads (S s) t (s .args .r .0) (side-of (s .args .second) t)))) (may d t (h .held)))
     (x .read-side .ensures t b h l)
 
 pub project-spec : {M : Type 1} → statement M

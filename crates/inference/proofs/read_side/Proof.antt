@@ -1,11 +1,12 @@
 -- `inference::read_side` meets its contract: the side is moved to the front and raised there, by what was read before the move.
-use mathlib.Core.Path.{_≡_, refl, subst}
-use Prim.Native.Nat.{ℕ}
+use mathlib.Core.Path.{_≡_, refl, ap, _∙_, subst}
 use native.Mathlib.Omega.{arith}
-use lib.ListN.{length, drop}
+use lib.ListN.{drop}
+use Rattle.calculus.specs.Security.{Property}
 use Rattle.calculus.specs.Types.{Ty, top, raiseT}
 use Rattle.rules.specs.Answer.{Bytes}
-use Rattle.rules.specs.Groups.{readers}
+use Rattle.rules.specs.Groups.{properties-of}
+use Rattle.lattice.specs.Said.{said-influence}
 use Rattle.inference.specs.Memory.{Slot, Wrote, finds}
 use Rattle.inference.specs.Stages.{side-of}
 use Rattle.inference.proofs.Front.{side-small, two-of}
@@ -26,7 +27,7 @@ abbrev found : tie.After-move-type → tie.After-side-at
 found c = c .before .before
 
 abbrev start : tie.After-move-type → tie.Start
-start c = c .before .before .before .before .before .before .before .before
+start c = c .before .before .before .before .before .before .before .before .before
 
 slot : (c : tie.After-move-type) (t : Ty) → Slot (W (start c)) t
     → Slot (drop (found c .side-at .result) (W (start c))) (side (start c) t)
@@ -38,8 +39,11 @@ slot c t h =
       small = omega (arith, h .small, side-small (s .args .second) t (two-of (p .held) (p .two) (h .held)));
     }
 
-indirect-requires : tie.Need-indirect-requires
-indirect-requires c κs = search needs
+property-requires : tie.Need-property-requires
+property-requires c κs = search needs
+
+influence-requires : tie.Need-influence-requires
+influence-requires c κs = search needs
 
 side-at-requires : tie.Need-side-at-requires
 side-at-requires c κs = search needs
@@ -47,7 +51,7 @@ side-at-requires c κs = search needs
 move-type-requires : tie.Need-move-type-requires
 move-type-requires c κs =
     let d = c .before in
-    let s = c .before .before .before .before .before .before .before in
+    let s = c .before .before .before .before .before .before .before .before in
     let p = s .pre .0 in
     (record { type = side s (p .type); held = d .side-at .ensures (p .type) (p .held) }, omega arith)
 
@@ -69,13 +73,15 @@ returns c =
     let x = y .before .before .before .before in
     let i = found x .before .before in
     let s = start x in
-    let S = readers (s .args .groups .now) in
+    let S = properties-of (s .args .groups .now) in
     let u = side s t in
     let k = slot x t h in
     let m = x .move-type .ensures u (k .held) in
     let wr = wrote-first {b = b} (m .0) (k .small) refl l (m .1) in
-    let q : i .indirect .result .0 ≡ top t .ir = i .indirect .ensures t (h .held) in
-    let z = raise-wrote S (i .indirect .result .0) wr (y .raise .ensures .0 u (wr .sized .held)) (y .raise .ensures .1)
+    let by = said-influence (i .influence .result) in
+    let q : by ≡ S .influence (top t) (s .args .r .0) =
+    i .influence .ensures ∙ ap (λ (k : Property). S .influence k (s .args .r .0)) (i .before .property .ensures t (h .held)) in
+    let z = raise-wrote S by wr (y .raise .ensures .0 u (wr .sized .held)) (y .raise .ensures .1)
     (omega (arith, x .move-type .kept .0)) in
     finds (subst (λ g. Wrote (raiseT S u g) b (W s) (x .move-type .result) (y .raise .last .1 .0)) q z)
 
@@ -83,7 +89,8 @@ pub read-side-spec : {M : Type 1} → statement M
 read-side-spec =
     tie.close
     (tie.spec
-    indirect-requires
+    property-requires
+    influence-requires
     side-at-requires
     move-type-requires
     raise-requires

@@ -7,7 +7,7 @@ use Rattle.calculus.specs.Security.{Security}
 use Rattle.calculus.specs.Typing.{finds-own}
 use Rattle.rules.specs.Answer.{Bytes}
 use Rattle.rules.specs.Limits.{answer-length}
-use Rattle.rules.specs.Groups.{readers}
+use Rattle.rules.specs.Groups.{properties-of}
 use Rattle.rules.specs.Types.{type-at, type-count}
 use Rattle.rules.specs.Script.{number, own-at}
 use Rattle.types.specs.Held.{Held}
@@ -34,7 +34,7 @@ module _ {types s w : Bytes} (v : Branches types s w) where
   front e = subst (λ b. Held (drop (cond b answer-length 0) w) (v .second)) e (v .other)
 
 abbrev S : tie.Start → Security
-S s = readers (s .args .groups .now)
+S s = properties-of (s .args .groups .now)
 
 abbrev T : tie.Start → Bytes
 T s = s .args .types .now

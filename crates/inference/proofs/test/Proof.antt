@@ -8,7 +8,7 @@ use Rattle.calculus.specs.Security.{Security}
 use Rattle.calculus.specs.Types.{sum, Ty}
 use Rattle.rules.specs.Limits.{answer-length, type-width}
 use Rattle.rules.specs.Answer.{Bytes, accepted}
-use Rattle.rules.specs.Groups.{readers}
+use Rattle.rules.specs.Groups.{properties-of}
 use Rattle.types.specs.Held.{Held}
 use Rattle.inference.specs.Stages.{may-read}
 use Rattle.inference.proofs.Front.{sides-bytes}
@@ -20,7 +20,7 @@ use Rattle.inference.proofs.test.Statement.{statement}
 use Rattle.inference.proofs.test.Tie as tie
 
 abbrev S : tie.Start → Security
-S s = readers (s .args .groups .now)
+S s = properties-of (s .args .groups .now)
 
 abbrev W : tie.Start → Bytes
 W s = s .args .w .now

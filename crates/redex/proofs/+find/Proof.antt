@@ -8,7 +8,7 @@ use Rattle.calculus.specs.Security.{Security}
 use Rattle.calculus.specs.Types.{Ty}
 use Rattle.calculus.specs.Terms.{Term, is-value}
 use Rattle.rules.specs.Limits.{depth-limit}
-use Rattle.rules.specs.Groups.{readers}
+use Rattle.rules.specs.Groups.{properties-of}
 use Rattle.rules.specs.Types.{type-at}
 use Rattle.rules.specs.Script.{records, size}
 use Rattle.records.specs.Place.{At}
@@ -52,7 +52,7 @@ module _ (t : ℕ) where
   Start = find-lts.Start (find-claims t) (find-at t) find.Post
 
   abbrev S : Start → Security
-  S c = readers (c .args .groups .now)
+  S c = properties-of (c .args .groups .now)
 
   abbrev tab : Start → ℕ → Ty
   tab c = type-at (c .args .types .now)

@@ -10,7 +10,7 @@ use Rattle.calculus.specs.Terms.{Term}
 use Rattle.calculus.specs.Reduction.{plug, moved, step}
 use Rattle.rules.specs.Answer.{Bytes}
 use Rattle.rules.specs.Limits.{script-limit}
-use Rattle.rules.specs.Groups.{readers}
+use Rattle.rules.specs.Groups.{properties-of}
 use Rattle.rules.specs.Types.{type-at}
 use Rattle.rules.specs.Script.{records, encode, term, size}
 use Rattle.rules.specs.Step.{End, too-big, moves, exceeds, step-in}
@@ -40,7 +40,7 @@ abbrev W : tie.Start → Bytes
 W s = s .args .written .now
 
 abbrev S : tie.Start → Security
-S s = readers (s .args .groups .now)
+S s = properties-of (s .args .groups .now)
 
 abbrev tab : tie.Start → ℕ → Ty
 tab s = type-at (s .args .types .now)

@@ -6,7 +6,7 @@ use native.Mathlib.Omega.{arith}
 use lib.ListN.{length}
 use borrow.Author.Needs.{needs}
 use Rattle.rules.specs.Answer.{Bytes, Answer, accepted}
-use Rattle.rules.specs.Groups.{readers}
+use Rattle.rules.specs.Groups.{properties-of}
 use Rattle.rules.specs.Types.{type-at}
 use Rattle.rules.specs.Script.{term, records}
 use Rattle.rules.specs.Step.{End, step-in}
@@ -26,7 +26,7 @@ abbrev answer : tie.Start → Answer End
 answer s = stepping (s .args .groups .now) (s .args .types .now) (s .args .script .now) (length (s .args .written .now))
 
 abbrev end : tie.Start → End
-end s = step-in (readers (s .args .groups .now)) (type-at (s .args .types .now)) (length (s .args .written .now)) (term (s .args .script .now))
+end s = step-in (properties-of (s .args .groups .now)) (type-at (s .args .types .now)) (length (s .args .written .now)) (term (s .args .script .now))
 
 -- past question 19
 abbrev start : tie.After-enum-told → tie.Start

@@ -4,7 +4,7 @@ use mathlib.Core.Path.{subst as transport}
 use native.Mathlib.Omega.{arith}
 use borrow.Author.Needs.{needs}
 use Rattle.rules.specs.Answer.{Bytes}
-use Rattle.rules.specs.Groups.{readers}
+use Rattle.rules.specs.Groups.{properties-of}
 use Rattle.rules.specs.Types.{type-at}
 use Rattle.rules.specs.Script.{term}
 use Rattle.rules.specs.Step.{End, step-in}
@@ -18,7 +18,7 @@ use Rattle.reduction.proofs.step_term.Statement.{statement}
 use Rattle.reduction.proofs.step_term.Tie as tie
 
 abbrev Finding : tie.Start → Found → Type 0
-Finding s f = Finds (readers (s .args .groups .now)) (type-at (s .args .types .now)) 0 0 (term (s .args .script .now)) f
+Finding s f = Finds (properties-of (s .args .groups .now)) (type-at (s .args .types .now)) 0 0 (term (s .args .script .now)) f
 
 -- the call's bytes are known
 abbrev begin : tie.After-slice-known → tie.Start
@@ -34,7 +34,7 @@ finds c = let s = start c in c .find .ensures (term (s .args .script .now)) (at-
 -- nothing is written: the report and the buffer, from the end
 abbrev step-of : tie.Start → End
 step-of s =
-    step-in (readers (s .args .groups .now)) (type-at (s .args .types .now)) (s .args .room) (term (s .args .script .now))
+    step-in (properties-of (s .args .groups .now)) (type-at (s .args .types .now)) (s .args .room) (term (s .args .script .now))
 
 abbrev after : tie.Start → End → Bytes
 after s x = front-after x (s .args .written .now)

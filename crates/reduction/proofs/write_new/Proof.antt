@@ -7,7 +7,7 @@ use borrow.Author.Needs.{needs}
 use Rattle.calculus.specs.Terms.{Term}
 use Rattle.rules.specs.Answer.{Bytes}
 use Rattle.rules.specs.Limits.{script-width}
-use Rattle.rules.specs.Groups.{readers}
+use Rattle.rules.specs.Groups.{properties-of}
 use Rattle.rules.specs.Types.{type-at}
 use Rattle.rules.specs.Script.{records, encode, size}
 use Rattle.redex.specs.Fates.{contractum}
@@ -35,7 +35,7 @@ abbrev Q : tie.Start → Type 0
 Q s = Placing (G s) (T s) (P s) (s .args .at) (s .args .plan) (s .args .end) (s .args .records) (W s)
 
 abbrev new : (s : tie.Start) → Q s → Term
-new s q = contractum (readers (G s)) (type-at (T s)) (q .site .redex)
+new s q = contractum (properties-of (G s)) (type-at (T s)) (q .site .redex)
 
 -- the call's bytes are known
 abbrev begin : tie.After-slice-known → tie.Start

@@ -9,13 +9,15 @@ use borrow.Fn.Kinds.{In}
 use borrow.Fn.PlainCycle.{Measures, is, falls, and}
 use borrow.Rule.Slice.PartMut.{putMid, same-len-mid}
 use lib.ListN.{length, take, drop}
+use Rattle.calculus.specs.Security.{Property, Security}
 use Rattle.calculus.specs.Types.{Ty, top}
 use Rattle.calculus.specs.Terms.{Term}
 use Rattle.rules.specs.Answer.{Bytes, Answer}
-use Rattle.rules.specs.Groups.{readers}
+use Rattle.rules.specs.Groups.{properties-of}
 use Rattle.rules.specs.Types.{type-at}
 use Rattle.rules.specs.Script.{kind, number, arity, encode, size}
 use Rattle.rules.specs.Typing.{right, q22-of-branch, typing}
+use Rattle.lattice.specs.Said.{said-property, said-influence}
 use Rattle.records.specs.Place.{At}
 use Rattle.records.specs.Binders.{binds}
 use Rattle.records.specs.Operands.{first-operand, second-operand, third-operand}
@@ -42,10 +44,12 @@ use Rattle.typing.proofs.Steps as steps
 use Rattle.typing.proofs.type_node.Reads as node
 use Rattle.typing.proofs.type_node.Kinds as node-kinds
 use Rattle.typing.proofs.+type_node.Lts-type_node as lts
-use Rattle.types.proofs.indirect.Reads as indirect-reads
+use Rattle.types.proofs.property.Reads as property-reads
+use Rattle.lattice.proofs.Property.influence.Reads as influence-reads
 use Rattle.records.proofs.arity.Reads as arity-reads
 use Rattle.records.proofs.binders.Reads as binders-reads
 use Rattle.records.proofs.kind.Reads as kind-reads
+use Rattle.records.proofs.reader.Reads as reader-reads
 use Rattle.inference.proofs.after_second_branch.Reads as after-second-branch-reads
 use Rattle.inference.proofs.after_two.Reads as after-two-reads
 use Rattle.inference.proofs.before_operands.Reads as before-operands-reads
@@ -96,8 +100,8 @@ claims t = (
   node.Post,
   after-one-reads.Asked,
   after-one-reads.Learnt,
-  indirect-reads.Asked,
-  indirect-reads.Learnt,
+  property-reads.Asked,
+  property-reads.Learnt,
   between-reads.Asked,
   between-reads.Learnt,
   kept-between-reads.Asked,
@@ -108,6 +112,10 @@ claims t = (
   after-first-branch-reads.Learnt,
   kept-branch-reads.Asked,
   kept-branch-reads.Learnt,
+  reader-reads.Asked,
+  reader-reads.Learnt,
+  influence-reads.Asked,
+  influence-reads.Learnt,
   after-second-branch-reads.Asked,
   after-second-branch-reads.Learnt,
 )
@@ -166,7 +174,7 @@ module _ (t : ℕ) where
 
   -- the typing of the term e at record p, in the context Γ
   abbrev says : Start → List Ty → ℕ → Term → Answer Ty
-  says s Γ p e = typing (readers (G s)) (type-at (T s)) Γ p e
+  says s Γ p e = typing (properties-of (G s)) (type-at (T s)) Γ p e
 
   -- what the contract requires; the facts below are of any v : Given, as what it ensures is
   abbrev Given : Start → Type 0
@@ -203,7 +211,7 @@ module _ (t : ℕ) where
       let z = x .before .before in
       let s = start (z .before) in
       let o = is-zero z v in
-      meets-of (typing-leaf (readers (G s)) (type-at (T s)) (v .ctx) (place s) (v .tree) o) (x .leaf .ensures (leaf-of v o))
+      meets-of (typing-leaf (properties-of (G s)) (type-at (T s)) (v .ctx) (place s) (v .tree) o) (x .leaf .ensures (leaf-of v o))
 
   -- ---- entering: the questions before the first operand, and its context
 
@@ -504,16 +512,16 @@ module _ (t : ℕ) where
     abbrev some : let s = start₂ (c .before) in Some (S s) (s .args .b) (w₂ (first (c .before))) (n (c .before))
     some = steps.some-of (G (start₂ (c .before))) v (done₁ (c .before) v) has-two
 
-  -- the first operand's indirection, kept for a case's answer
-  by-is : (c : Middle) (v : Given (start₂ (several c .before)))
-      → c .before .before .indirect .result .0 ≡ top (done₁ (several c .before) v .type) .ir
-  by-is c v = c .before .before .indirect .ensures (done₁ (several c .before) v .type) (first-held (several c) v .held)
+  -- the first operand's property, kept for a case's answer
+  tested-is : (c : Middle) (v : Given (start₂ (several c .before)))
+      → said-property (c .before .before .property .result) ≡ top (done₁ (several c .before) v .type)
+  tested-is c v = c .before .before .property .ensures (done₁ (several c .before) v .type) (first-held (several c) v .held)
 
   w₃-length : (c : Middle) → length (w₃ c) ≡ length (W (start₂ (several c .before)))
   w₃-length c = let d = several c .before in c .between .kept .1 .1 .1 .1 .0 ∙ done₁ d (given (start₂ d)) .same
 
-  indirect-requires : lts.Need-indirect-requires (claims t) (node-at t) node.Post
-  indirect-requires c κs =
+  property-requires : lts.Need-property-requires (claims t) (node-at t) node.Post
+  property-requires c κs =
       let d = c .before .before in
       let v = given (start₂ d) in
       record { type = done₁ d v .type; held = first-held (c .before) v .held }
@@ -803,7 +811,7 @@ module _ (t : ℕ) where
   turns : (c : Turn) (v : Given (start₄ (three-operands c .before)))
       → let d = three-operands c .before in
       let s = start₄ d in
-      Enters (q22-of-branch (readers (G s)) (place s) (type-at (T s)) (number (S s) 0) (done₃ d v .other))
+      Enters (q22-of-branch (properties-of (G s)) (place s) (type-at (T s)) (number (S s) 0) (done₃ d v .other))
       (right (first-type (to-between d) v) ∷ v .ctx) (s .args .b) (w₄ (second d)) (c .after-first-branch .result) (w₅ c)
       × Slot (w₅ c) (done₃ d v .other)
   turns c v = c .after-first-branch .ensures (branch (three-operands c) v)
@@ -1042,24 +1050,48 @@ module _ (t : ℕ) where
   abbrev branches : (c : Third-typed) (v : Given (start₆ c)) → Branches (T (start₆ c)) (S (start₆ c)) (w₆ (third c))
   branches c v = steps.branches-of (G (start₆ c)) v (has-three (to-three (to-turned c)) v) (done₆ c v)
 
+  -- after tested.influence(..)
+  abbrev Influenced : Type 0
+  Influenced = lts.After-influence (claims t) (node-at t) node.Post
+
+  abbrev to-third : Influenced → Third-typed
+  to-third c = c .before .before
+
+  by-is : (c : Influenced) (v : Given (start₆ (to-third c)))
+      → let d = to-third c in
+      said-influence (c .influence .result) ≡ steps.reading (G (start₆ d)) (S (start₆ d)) (tested (to-turned d) v)
+  by-is c v =
+      let d = to-turned (to-third c) in
+      let P : Security = properties-of (G (start₅ d)) in
+      let k = top (tested d v) in
+      c .influence .ensures
+      ∙ ap (λ (p : Property). P .influence p (c .before .reader .result .0)) (tested-is (middle (to-between (to-second d))) v)
+      ∙ ap (P .influence k) (c .before .reader .ensures)
+
+  reader-requires : lts.Need-reader-requires (claims t) (node-at t) node.Post
+  reader-requires c κs = let v = given (start₆ c) in omega (arith, long (v .tree) (v .is))
+
+  influence-requires : lts.Need-influence-requires (claims t) (node-at t) node.Post
+  influence-requires c κs = search needs
+
   after-second-branch-requires : lts.Need-after-second-branch-requires (claims t) (node-at t) node.Post
-  after-second-branch-requires c κs = let d = c .before in branches d (given (start₆ d))
+  after-second-branch-requires c κs = let d = to-third (c .before) in branches d (given (start₆ d))
 
   same-length-10 : lts.Need-same-length-10 (claims t) (node-at t) node.Post
   same-length-10 c =
       let x = c .before .before in
-      let d = x .before .before in
+      let d = to-third (x .before .before) in
       x .after-second-branch .kept .1 .1 .1 .1 .1 .0 ∙ done₆ d (given (start₆ d)) .same
 
   returns-10 : lts.Need-returns-10 (claims t) (node-at t) node.Post
   returns-10 c v =
       let x = c .before .before in
-      let d = x .before .before in
-      let y = to-three (to-turned d) in
+      let i = x .before .before in
+      let d = to-third i in
       let s = start₆ d in
-      let o = has-three y v in
+      let o = has-three (to-three (to-turned d)) v in
       let k = done₆ d v in
-      steps.done-meets (G s) v o k (by-is (middle (to-between (y .before))) v)
+      steps.done-meets (G s) v o k (by-is i v)
       (x .after-second-branch .ensures (branches d v) (s .args .b) (steps.done-room (G s) v o k))
 
 pub +type-node-spec : {M : Type 1} → statement M
@@ -1094,7 +1126,7 @@ pub +type-node-spec : {M : Type 1} → statement M
     (after-one-requires t)
     (same-length-4 t)
     (returns-4 t)
-    (indirect-requires t)
+    (property-requires t)
     (between-requires t)
     (enum-told-4 t)
     (enum-told-5 t)
@@ -1136,6 +1168,8 @@ pub +type-node-spec : {M : Type 1} → statement M
     (enum-told-10 t)
     (same-length-9 t)
     (returns-9 t)
+    (reader-requires t)
+    (influence-requires t)
     (after-second-branch-requires t)
     (same-length-10 t)
     (returns-10 t)
