@@ -4,21 +4,22 @@ use mathlib.Core.Path.{_≡_, refl}
 use mathlib.Core.Bool.{Bool, true, false, not, _&&_, _||_}
 use mathlib.Core.List.{List, [], _∷_}
 use mathlib.Core.Option.{Option, none, some}
-use Prim.Native.Nat.{ℕ, zero, suc, _+_, _-_, _%_, _≤_}
+use Prim.Native.Nat.{ℕ, zero, suc, _+_, _-_, _/_, _%_, _≤_}
 use native.Mathlib.Omega.{arith}
 use borrow.Author.Tests.{eqb-true, leb-true}
 use lib.Dec.{eqb, leb, ltb}
 use lib.ListN.{length, getD}
 use Rattle.calculus.specs.Terms.{is-value}
 use Rattle.rules.specs.Answer.{Bytes, Octets, Answer, accepted, refused, _>>=_, _>>_, ask, first-from, refused-at, each, all-below}
-use Rattle.rules.specs.Limits.{row-width, type-width, script-width, group-limit, table-limit, script-limit, word-limit, words-length, last-question, work-length, answer-length}
-use Rattle.rules.specs.Groups.{rows, readers, ok3, ok4, ok5, ok6, ok7, q2, q3, q4, q5, q6}
-use Rattle.rules.specs.Types.{type-count, type-at, ok9, ok10, ok11, ok12, q8, q9, q10, q11}
-use Rattle.rules.specs.Script.{records, arity, kind, term, size, depths, binders, term-end, exactly, ok14, ok15, ok16, ok18, ok19, q13, q14, q15, q16, q17, q18}
+use Rattle.rules.specs.Limits.{row-width, type-width, script-width, old-type-width, old-script-width, group-limit, table-limit, script-limit, word-limit, words-length, last-question, work-length, answer-length}
+use Rattle.rules.specs.Groups.{rows, properties-of, ok3, ok4, ok5, ok6, ok7, q2, q3, q4, q5, q6}
+use Rattle.rules.specs.Types.{type-count, type-at, ok9, ok10, ok36-type, ok11, ok12, q8-of, q8, q9, q10, q36-types, q11}
+use Rattle.rules.specs.Script.{records, arity, kind, term, size, depths, binders, term-end, exactly, ok14, ok15, ok36-object, ok16, ok18, ok19, q13-of, q13, q14, q15, q36-objects, q16, q17, q18}
 use Rattle.rules.specs.Typing.{of-typing, typing}
 use Rattle.rules.specs.Sheet.{sheet}
 use Rattle.rules.specs.Words.{q32, q33, q34, ok33, ok34, words-check}
 use Rattle.rules.specs.Calls.{q1, q25, q26, q27, groups-check, types-check, comparing, script-check, checking, stepping, running, sheeting}
+use Rattle.rules.specs.Rewriting.{widen-types, widen-script, old-types-check, old-script-check, rewriting-types, rewriting-script}
 use Rattle.rules.proofs.ScriptLength.{q13-fitting}
 use Rattle.rules.proofs.Scripts.{whole}
 use Rattle.rules.proofs.WayBack.{end-bound}
@@ -54,12 +55,19 @@ exactly-bounded n (some e) b f = ask-bounded 17 e (eqb e n) (omega arith) (omega
 front : (q : ℕ) (b : Bool) → 1 ≤ q → q ≤ last-question → Bounded (ask q 0 b)
 front q b l m = ask-bounded q 0 b l m (omega arith)
 
-at-13 : (rooms : List ℕ) (s : Bytes) → Bounded (q13 rooms s)
-at-13 rooms s =
+at-8 : (width : ℕ) (t : Bytes) → Bounded (q8-of width t)
+at-8 width t =
+    front 8 (eqb (length t % width) 0 && (leb 1 (length t / width) && leb (length t / width) table-limit)) (omega arith) (omega arith)
+
+at-13 : (width : ℕ) (rooms : List ℕ) (s : Bytes) → Bounded (q13-of width rooms s)
+at-13 width rooms s =
     front 13
-    (eqb (length s % script-width) 0
-    && (leb 1 (records s) && (leb (records s) script-limit && all-below (λ i. leb (length s) (getD rooms i 0)) (length rooms))))
+    (eqb (length s % width) 0
+    && (leb 1 (length s / width) && (leb (length s / width) script-limit && all-below (λ i. leb (length s) (getD rooms i 0)) (length rooms))))
     (omega arith) (omega arith)
+
+at-27 : (bytes : Bytes) (room : ℕ) → Bounded (q27 bytes room)
+at-27 bytes room = front 27 (leb (length bytes) room) (omega arith) (omega arith)
 
 pub groups-bounded : (g : Bytes) → Bounded (groups-check g)
 unfolding groups-check
@@ -83,10 +91,11 @@ pub types-bounded : (g t : Bytes) → Bounded (types-check g t)
 unfolding types-check
 types-bounded g t =
     then (groups-check g) _ (groups-bounded g) λ e7.
-    then (q8 t) _ (front 8 (eqb (length t % type-width) 0 && (leb 1 (type-count t) && leb (type-count t) table-limit)) (omega arith) (omega arith)) λ e8.
+    then (q8 t) _ (at-8 type-width t) λ e8.
     let n : type-count t ≤ script-limit = omega (arith, few-types t e8) in
     then (q9 g t) _ (each-bounded 9 (type-count t) (ok9 (rows g) t) (omega arith) (omega arith) n) λ e9.
     then (q10 g t) _ (each-bounded 10 (type-count t) (ok10 g t) (omega arith) (omega arith) n) λ e10.
+    then (q36-types g t) _ (each-bounded 36 (type-count t) (ok36-type g t) (omega arith) (omega arith) n) λ e36.
     then (q11 t) _ (each-bounded 11 (type-count t) (ok11 t) (omega arith) (omega arith) n) λ e11.
     each-bounded 12 (type-count t) (ok12 t) (omega arith) (omega arith) n
 
@@ -101,10 +110,11 @@ pub script-bounded : (rooms : List ℕ) (g t s : Bytes) → Bounded (script-chec
 unfolding script-check term-end
 script-bounded rooms g t s =
     then (types-check g t) _ (types-bounded g t) λ e12.
-    then (q13 rooms s) _ (at-13 rooms s) λ e13.
+    then (q13 rooms s) _ (at-13 script-width rooms s) λ e13.
     let n : records s ≤ script-limit = q13-fitting rooms s e13 .limited in
     then (q14 s) _ (each-bounded 14 (records s) (ok14 s) (omega arith) (omega arith) n) λ e14.
     then (q15 g s) _ (each-bounded 15 (records s) (ok15 g s) (omega arith) (omega arith) n) λ e15.
+    then (q36-objects g s) _ (each-bounded 36 (records s) (ok36-object g s) (omega arith) (omega arith) n) λ e36.
     then (q16 t s) _ (each-bounded 16 (records s) (ok16 t s) (omega arith) (omega arith) n) λ e16.
     then (q17 s) _ (exactly-bounded (records s) (term-end s 0) n (λ e h. omega (arith, end-bound (λ j. arity (kind s j)) (records s - 0) 1 0 e h))) λ e17.
     then (q18 s) _ (each-bounded 18 (records s) (ok18 (depths (term s))) (omega arith) (omega arith) n) λ e18.
@@ -124,7 +134,30 @@ page-bounded g t s group room =
     then (script-check [] g t s) _ (script-bounded [] g t s) λ e19.
     then (q25 0 group (rows g)) _ (front 25 (ltb group (rows g)) (omega arith) (omega arith)) λ e25.
     then (q26 (term s)) _ (front 26 (is-value (term s)) (omega arith) (omega arith)) λ e26.
-    then (q27 (sheet g group (term s)) room) _ (front 27 (leb (length (sheet g group (term s))) room) (omega arith) (omega arith)) λ e27. bounded-yes
+    then (q27 (sheet g group (term s)) room) _ (at-27 (sheet g group (term s)) room) λ e27. bounded-yes
+
+-- a rewriting: questions 8 and 13 of the old bytes, then those of the new ones
+old-types-bounded : (g t : Bytes) → Bounded (old-types-check g t)
+unfolding old-types-check
+old-types-bounded g t =
+    then (groups-check g) _ (groups-bounded g) λ e7.
+    then (q8-of old-type-width t) _ (at-8 old-type-width t) λ e8. types-bounded g (widen-types t)
+
+old-script-bounded : (g t s : Bytes) → Bounded (old-script-check g t s)
+unfolding old-script-check
+old-script-bounded g t s =
+    then (old-types-check g t) _ (old-types-bounded g t) λ e12.
+    then (q13-of old-script-width [] s) _ (at-13 old-script-width [] s) λ e13. script-bounded [] g (widen-types t) (widen-script s)
+
+pub rewriting-types-bounded : (g t : Bytes) (room : ℕ) → Bounded (rewriting-types g t room)
+unfolding rewriting-types
+rewriting-types-bounded g t room =
+    then (old-types-check g t) _ (old-types-bounded g t) λ e12. then (q27 (widen-types t) room) _ (at-27 (widen-types t) room) λ e27. bounded-yes
+
+pub rewriting-script-bounded : (g t s : Bytes) (room : ℕ) → Bounded (rewriting-script g t s room)
+unfolding rewriting-script
+rewriting-script-bounded g t s room =
+    then (old-script-check g t s) _ (old-script-bounded g t s) λ e19. then (q27 (widen-script s) room) _ (at-27 (widen-script s) room) λ e27. bounded-yes
 
 -- typing refuses at a record of the script, which has at most 8,192
 typing-range : (q : ℕ) → of-typing q ≡ true → (20 ≤ q) × (q ≤ 31)
@@ -153,7 +186,8 @@ script-small rooms g t s o e =
     let e13 = and-then (types-check g t) _ e .1 in
     let e14 = and-then (q13 rooms s) _ e13 .1 in
     let e15 = and-then (q14 s) _ e14 .1 in
-    let e16 = and-then (q15 g s) _ e15 .1 in
+    let e36 = and-then (q15 g s) _ e15 .1 in
+    let e16 = and-then (q36-objects g s) _ e36 .1 in
     let e17 = and-then (q16 t s) _ e16 .1 in
     let f13 = and-then (q13 rooms s) _ e13 .0 in
     omega (arith, whole rooms s o f13 (and-then (q14 s) _ e14 .0) (and-then (q17 s) _ e17 .0) .sized, q13-fitting rooms s f13 .limited)
@@ -163,5 +197,5 @@ unfolding checking
 check-bounded g t s work answer o =
     then (q1 work answer) _ (front 1 (leb work-length work && leb answer-length answer) (omega arith) (omega arith)) λ e1.
     then (script-check [] g t s) _ (script-bounded [] g t s) λ e19.
-    placed-bounded (typing (readers g) (type-at t) [] 0 (term s)) (typing-placed (readers g) (type-at t) (size (term s)) [] 0 (term s) (omega arith))
+    placed-bounded (typing (properties-of g) (type-at t) [] 0 (term s)) (typing-placed (properties-of g) (type-at t) (size (term s)) [] 0 (term s) (omega arith))
     (script-small [] g t s o e19)

@@ -7,23 +7,24 @@ use borrow.Author.Tests.{leb-true}
 use lib.ListN.{length}
 use Rattle.calculus.specs.Types.{Ty, sizeT, type-limit}
 use Rattle.rules.specs.Answer.{Bytes, Octets, Answer, accepted, refused}
-use Rattle.rules.specs.Limits.{sheet-width, script-limit}
-use Rattle.rules.specs.Groups.{rows, readers}
-use Rattle.rules.specs.Types.{type-at}
+use Rattle.rules.specs.Limits.{type-width, script-width, old-type-width, old-script-width, sheet-width, table-limit, script-limit}
+use Rattle.rules.specs.Groups.{rows, properties-of}
+use Rattle.rules.specs.Types.{type-at, q8, q8-of}
 use Rattle.rules.specs.Comparison.{Comparison, same, below, neither}
-use Rattle.rules.specs.Script.{records, term, size, q13}
+use Rattle.rules.specs.Script.{records, term, size, q13, q13-of}
 use Rattle.rules.specs.Step.{End, at-value, moves, may-not, wrong-kind, too-big, end-number, end-count, step-in}
 use Rattle.rules.proofs.ScriptLength.{q13-fitting}
 use Rattle.rules.specs.Typing.{typing}
 use Rattle.rules.specs.Sheet.{sheet}
 use Rattle.rules.specs.Run.{Ran}
-use Rattle.rules.specs.Calls.{q1, q25, q26, q27, types-check, script-check, checking, type-records, stepping, step-report, running, run-report, sheeting, sheet-records}
+use Rattle.rules.specs.Calls.{q1, q25, q26, q27, groups-check, types-check, script-check, checking, type-records, stepping, step-report, running, run-report, sheeting, sheet-records}
+use Rattle.rules.specs.Rewriting.{widen-types, widen-script, old-types-check, old-script-check, rewriting-types, rewriting-script, rewritten-records}
 use Rattle.demands.proofs.Answers.{accepted-inj}
-use Rattle.rules.proofs.Asked.{and-then}
+use Rattle.rules.proofs.Asked.{and-then, few-types}
 use Rattle.demands.proofs.TypesTable.{tables}
 use Rattle.packing.specs.Packed.{half, packed, passed, compared, ended, step-ended, run-ended, Bounded, bounded-yes, bounded-no, Counted, counted-yes, counted-no, Holds, holds-yes, holds-no}
 use Rattle.packing.proofs.Unpacked.{Reads, unended}
-use Rattle.packing.proofs.Bounds.{check-bounded, run-bounded, page-bounded, script-small}
+use Rattle.packing.proofs.Bounds.{check-bounded, run-bounded, page-bounded, rewriting-types-bounded, rewriting-script-bounded, script-small}
 use Rattle.packing.proofs.Sizes.{Small, small-yes, small-no, no-binders, typing-small, Within, within-move, step-within, Ends, run-within, sheet-length}
 
 pub records-bounded : (a : Answer Ty) → Bounded a → Bounded (type-records a)
@@ -35,6 +36,11 @@ pub sheet-bounded : (a : Answer Bytes) → Bounded a → Bounded (sheet-records 
 unfolding sheet-records
 sheet-bounded (accepted b) x = bounded-yes
 sheet-bounded (refused q p) (bounded-no l m n) = bounded-no l m n
+
+pub rewritten-bounded : (width : ℕ) (a : Answer Bytes) → Bounded a → Bounded (rewritten-records width a)
+unfolding rewritten-records
+rewritten-bounded width (accepted b) x = bounded-yes
+rewritten-bounded width (refused q p) (bounded-no l m n) = bounded-no l m n
 
 pub passed-holds : (a : Answer (Unit {0})) → Bounded a → Holds (passed a)
 passed-holds (accepted u) x = holds-yes {n = 0} (omega arith)
@@ -57,8 +63,8 @@ check-size g t s work answer type o e =
     let e1 = and-then (q1 work answer) _ e .1 in
     let e2 = and-then (script-check [] g t s) _ e1 in
     let T = tables g t o (and-then (types-check g t) _ (e2 .0) .0) in
-    found-size (typing (readers g) (type-at t) [] 0 (term s)) type
-    (typing-small (readers g) (type-at t) (λ i. leb-true (sizeT (type-at t i)) type-limit (T .table .small i)) [] no-binders 0 (term s)) (e2 .1)
+    found-size (typing (properties-of g) (type-at t) [] 0 (term s)) type
+    (typing-small (properties-of g) (type-at t) (λ i. leb-true (sizeT (type-at t i)) type-limit (T .table .small i)) [] no-binders 0 (term s)) (e2 .1)
 
 pub check-holds : (g t s : Bytes) (work answer : ℕ) → Octets g → Octets s → Holds (type-records (checking work answer g t s))
 unfolding type-records
@@ -82,13 +88,45 @@ page-holds g t s group room o = go (sheeting g t s group room) refl (page-bounde
         (omega (arith, ap length (accepted-inj e4), sheet-length g group (term s), script-small [] g t s o (e1 .0)))
     go (refused q p) e (bounded-no l m n) = holds-no {q = q} {p = p} l m (omega arith)
 
+-- A rewritten table has at most 4,096 records, a rewritten script at most 8,192: the new bytes pass their check.
+pub types-rewritten : (g t b : Bytes) (room : ℕ) → rewriting-types g t room ≡ accepted b → length b / type-width ≤ table-limit
+unfolding rewriting-types old-types-check types-check
+types-rewritten g t b room e =
+    let e1 = and-then (old-types-check g t) _ e in
+    let e27 = and-then (q27 (widen-types t) room) _ (e1 .1) .1 in
+    let e8 = and-then (q8-of old-type-width t) _ (and-then (groups-check g) _ (e1 .0) .1) .1 in
+    let few = few-types (widen-types t) (and-then (q8 (widen-types t)) _ (and-then (groups-check g) _ e8 .1) .0) in
+    subst (λ (x : Bytes). length x / type-width ≤ table-limit) (accepted-inj e27) few
+
+pub script-rewritten : (g t s b : Bytes) (room : ℕ) → rewriting-script g t s room ≡ accepted b → length b / script-width ≤ script-limit
+unfolding rewriting-script old-script-check script-check
+script-rewritten g t s b room e =
+    let e1 = and-then (old-script-check g t s) _ e in
+    let e27 = and-then (q27 (widen-script s) room) _ (e1 .1) .1 in
+    let e13 = and-then (q13-of old-script-width [] s) _ (and-then (old-types-check g t) _ (e1 .0) .1) .1 in
+    let few = q13-fitting [] (widen-script s) (and-then (q13 [] (widen-script s)) _ (and-then (types-check g (widen-types t)) _ e13 .1) .0) .limited in
+    subst (λ (x : Bytes). length x / script-width ≤ script-limit) (accepted-inj e27) few
+
+rewritten-holds : (width : ℕ) (a : Answer Bytes) → Bounded a → ((b : Bytes) → a ≡ accepted b → length b / width ≤ script-limit) → Holds (rewritten-records width a)
+unfolding rewritten-records
+rewritten-holds width (accepted b) x few = holds-yes {n = length b / width} (omega (arith, few b refl))
+rewritten-holds width (refused q p) (bounded-no l m n) few = holds-no {q = q} {p = p} l m (omega arith)
+
+pub types-rewritten-hold : (g t : Bytes) (room : ℕ) → Holds (rewritten-records type-width (rewriting-types g t room))
+types-rewritten-hold g t room =
+    rewritten-holds type-width (rewriting-types g t room) (rewriting-types-bounded g t room) (λ b e. omega (arith, types-rewritten g t b room e))
+
+pub script-rewritten-holds : (g t s : Bytes) (room : ℕ) → Holds (rewritten-records script-width (rewriting-script g t s room))
+script-rewritten-holds g t s room =
+    rewritten-holds script-width (rewriting-script g t s room) (rewriting-script-bounded g t s room) (λ b e. script-rewritten g t s b room e)
+
 -- a run's end and count
 pub run-ends : (g t s : Bytes) (budget first scratch : ℕ) (x : Ran) → Octets s → running g t s budget first scratch ≡ accepted x → Ends x
 unfolding running
 run-ends g t s budget first scratch x o e =
     let e1 = and-then (script-check (first ∷ scratch ∷ []) g t s) _ e in
     subst Ends (accepted-inj (e1 .1))
-    (run-within (readers g) (type-at t) (min first scratch) budget (term s) (script-small (first ∷ scratch ∷ []) g t s o (e1 .0)))
+    (run-within (properties-of g) (type-at t) (min first scratch) budget (term s) (script-small (first ∷ scratch ∷ []) g t s o (e1 .0)))
 
 pub run-holds : (g t s : Bytes) (budget first scratch : ℕ) → Octets s → Holds (run-ended (run-report (running g t s budget first scratch)))
 unfolding run-report
@@ -114,7 +152,7 @@ step-count g t s room x e =
     let e1 = and-then (script-check [] g t s) _ e in
     let e13 = and-then (q13 [] s) _ (and-then (types-check g t) _ (e1 .0) .1) .0 in
     subst (λ (y : End). end-count (records s) y ≤ script-limit) (accepted-inj (e1 .1))
-    (count-small (records s) (step-in (readers g) (type-at t) room (term s)) (q13-fitting [] s e13 .limited) (step-within (readers g) (type-at t) room (term s)))
+    (count-small (records s) (step-in (properties-of g) (type-at t) room (term s)) (q13-fitting [] s e13 .limited) (step-within (properties-of g) (type-at t) room (term s)))
 
 -- What a caller reads off an accepted run's and an accepted step's number is its end and its record count.
 pub run-read : (g t s : Bytes) (budget first scratch : ℕ) (x : Ran) → Octets s → running g t s budget first scratch ≡ accepted x

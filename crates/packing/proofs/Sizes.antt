@@ -124,8 +124,8 @@ module _ (S : Security) (p : ℕ) where
       (λ r k. small-yes {s = raiseT S r (S .influence (top s) w)} (raised S r (S .influence (top s) w) k)))))))))
 
   mu-small : (w : Reader) (a : Ty) (m : Answer Ty) → sizeT a ≤ type-limit → Small m
-      → Small (_>>_ (q21 S p a w) (_>>_ (q23 S p a) (_>>=_ m (λ s. _>>_ (q22 S p s a) (accepted a)))))
-  mu-small w a m l x = then (q21 S p a w) _ (then (q23 S p a) _ (bind m _ x (λ s h. then (q22 S p s a) _ (small-yes {s = a} l))))
+      → Small (_>>_ (q21 S p a w) (_>>_ (q23 S p a w) (_>>=_ m (λ s. _>>_ (q22 S p s a) (accepted a)))))
+  mu-small w a m l x = then (q21 S p a w) _ (then (q23 S p a w) _ (bind m _ x (λ s h. then (q22 S p s a) _ (small-yes {s = a} l))))
 
 pub typing-small : (S : Security) (tab : ℕ → Ty) (T : (i : ℕ) → sizeT (tab i) ≤ type-limit) (Γ : List Ty) → Smalls Γ → (p : ℕ) (e : Term) → Small (typing S tab Γ p e)
 unfolding typing sizeT

@@ -1,2 +1,4 @@
 pub mod SetByte
 pub mod Callers
+pub mod Widened
+pub mod Asked

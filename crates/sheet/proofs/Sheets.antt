@@ -65,7 +65,7 @@ sheet-length g group (mu w i e) = refl
 pub shown-at : (g : Bytes) (group : ℕ) (s : Bytes) (i : ℕ) (e : Term) → At s i e → shown g group s i ≡ shown g group (term-head e) 0
 unfolding shown-kind line
 shown-at g group s i e w =
-    ap₂ (λ (k : ℕ) (p : Property). sheet-record g group (shown-kind k) p) (sym (kind-is s i)) (ap₂ (λ (x y : ℕ). record { r = x; ir = y }) (sym (r-is s i)) (sym (ir-is s i)))
+    ap₂ (λ (k : ℕ) (p : Property). sheet-record g group (shown-kind k) p) (sym (kind-is s i)) (ap₂ (λ (x y : ℕ). record { r = x; ir = y; c = 0; ic = 0 }) (sym (r-is s i)) (sym (ir-is s i)))
     ∙ ap (λ (b : Bytes). shown g group b 0) (record-is term-code s i e (w .rest) (w .stands))
 
 module _ (g : Bytes) (group : ℕ) where

@@ -31,7 +31,7 @@ fn found(a: Found) -> u64
     }
 }
 
-// Checking: questions 1 to 24. The last clause is demand 2, of the answer that a caller reads off the number.
+// Checking: questions 1 to 24, 31 and 36. The last clause is demand 2, of the answer that a caller reads off the number.
 #[no_mangle]
 pub extern "C" fn wigneld_check(
     groups: &[u8],
@@ -68,7 +68,7 @@ fn ran(a: RunAnswer, steps: &mut [u8]) -> u64
     }
 }
 
-// A run: questions 2 to 19. The last clause is demand 3.
+// A run: questions 2 to 19 and 36. The last clause is demand 3.
 #[no_mangle]
 pub extern "C" fn wigneld_run(
     groups: &[u8],
@@ -110,7 +110,7 @@ fn shown(a: Sheet) -> u64
     }
 }
 
-// The sheet of a value for a reader group: questions 2 to 19, 25, 26 and 27.
+// The sheet of a value for a reader group: questions 2 to 19, 36, 25, 26 and 27.
 #[no_mangle]
 pub extern "C" fn wigneld_sheet(
     groups: &[u8],

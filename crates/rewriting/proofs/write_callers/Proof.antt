@@ -14,9 +14,6 @@ Inv-loop types script₀ count written₀ i₀ script written i = (length script
 abbrev μ-loop : tie.MeasureT-loop
 μ-loop types script₀ count written₀ i₀ script written i = count - i
 
-record-count-requires : tie.Need-record-count-requires Inv-loop μ-loop
-record-count-requires c κs = search needs
-
 loop-holds : tie.Need-loop-holds Inv-loop μ-loop
 loop-holds c = (refl, omega arith, none-passed _ _)
 
@@ -53,7 +50,6 @@ write-callers-spec =
     (tie.spec
     Inv-loop
     μ-loop
-    record-count-requires
     loop-holds
     write-caller-requires
     add-written
