@@ -3,9 +3,9 @@
 use std::rc::Rc;
 
 use wigneld_tests::cases::Inputs;
-use wigneld_tests::generate::{chain_groups, unit, wide, wide_type, LOW};
+use wigneld_tests::generate::{chain_groups, unit, wide, wide_type, LOW, LOW_RAISE};
 use wigneld_tests::limits::{
-    MOST_DEPTH, MOST_SCRIPT_RECORDS, MOST_TABLE_RECORDS, OWN_TYPE, TYPE_BYTES,
+    MOST_DEPTH, MOST_SCRIPT_RECORDS, MOST_TABLE_RECORDS, OWN_TYPE, SCRIPT_BYTES, TYPE_BYTES,
 };
 use wigneld_tests::script::{Side, Term};
 use wigneld_tests::types::{Form, Type};
@@ -46,12 +46,13 @@ fn types() -> Vec<u8> {
     let side = || Rc::new(wide_type(SIDE));
     let function = Type { marks: LOW, form: Form::Function(side(), side()) };
     let sum = Type { marks: LOW, form: Form::Sum(side(), side()) };
-    [vec![1, 0, 0, 0], vec![0; 8], function.write(), sum.write()].concat()
+    let small = Form::Sum(Rc::new(wide_type(1)), Rc::new(wide_type(1)));
+    [Type { marks: LOW, form: small }, function, sum].iter().flat_map(Type::write).collect()
 }
 
 fn inputs(term: Rc<Term>, size: usize) -> Inputs {
     let script = term.write();
-    assert_eq!(script.len(), size * 6, "a shape of exactly this size");
+    assert_eq!(script.len(), size * SCRIPT_BYTES, "a shape of exactly this size");
     assert!(term.depth() <= MOST_DEPTH, "a shape within the depth limit");
     Inputs { groups: chain_groups(32), types: types(), script }
 }
@@ -77,7 +78,7 @@ fn case(result: u16, tested: Rc<Term>, first: Rc<Term>, second: Rc<Term>) -> Rc<
 }
 
 fn protect(times: usize, term: Rc<Term>) -> Rc<Term> {
-    (0..times).fold(term, |inner, _| Rc::new(Term::Protect(0, inner)))
+    (0..times).fold(term, |inner, _| Rc::new(Term::Protect(LOW_RAISE, inner)))
 }
 
 /// Decisions in a row, each `(λx. case x of … | …)` of the last, a few dozen records at a time.

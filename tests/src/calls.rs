@@ -12,7 +12,7 @@ use crate::steps::{self, is_value, End};
 use crate::types::{self, read_tables, Comparison, Tables};
 use crate::typing::type_of;
 
-pub use crate::callers::write_callers;
+pub use crate::rewriting::{rewrite_script, rewrite_types, write_callers};
 pub use crate::script::subterm;
 pub use crate::strip::{strip_script, strip_types};
 
@@ -45,7 +45,7 @@ pub fn check(
     work: &mut [u8],
     answer: &mut [u8],
 ) -> Answer<u32> {
-    // 1. Are work and answer buffer at least 64,512 and 252 bytes? (place 0)
+    // 1. Are work and answer buffer at least 96,768 and 378 bytes? (place 0)
     ask(work.len() >= WORK_BYTES && answer.len() >= ANSWER_BYTES, 1, 0)?;
     check_over(&read_tables(groups, types)?, script, work, answer)
 }

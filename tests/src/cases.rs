@@ -1,7 +1,7 @@
 //! The inputs of cases A to L.
 
 use crate::generate::words;
-use crate::limits::{OWN_TYPE, SCRIPT_BYTES};
+use crate::limits::{OWN_TYPE, SCRIPT_BYTES, TYPE_BYTES};
 use crate::script::Record;
 
 /// The three files a call is given.
@@ -12,9 +12,23 @@ pub struct Inputs {
     pub script: Vec<u8>,
 }
 
-/// One script record.
+/// One script record, its creators group 0.
 pub fn record(kind: u8, r: u8, ir: u8, number: u16) -> [u8; SCRIPT_BYTES] {
-    Record { kind, r, ir, zero: 0, number }.write()
+    Record { kind, r, ir, zero: 0, number, c: 0, ic: 0 }.write()
+}
+
+/// One type record, its creators group 0.
+pub fn type_record(kind: u8, r: u8, ir: u8) -> [u8; TYPE_BYTES] {
+    [kind, r, ir, 0, 0, 0]
+}
+
+/// The type record of a unit, all groups 0.
+pub const UNIT_TYPE: [u8; TYPE_BYTES] = [0; TYPE_BYTES];
+
+/// A script or type record with these creators, which are the last two bytes of either.
+pub fn made<const WIDTH: usize>(mut record: [u8; WIDTH], c: u8, ic: u8) -> [u8; WIDTH] {
+    record[WIDTH - 2..].copy_from_slice(&[c, ic]);
+    record
 }
 
 /// "Groups 0 ⊑ 1 (words 3, 2)."
@@ -25,7 +39,8 @@ pub fn two_groups() -> Vec<u8> {
 /// "Types: records 0 to 2 the sum (0,0) of units (0,0); 3 to 5 the function (0,0) from unit to unit,
 /// all (0,0)."
 pub fn case_types() -> Vec<u8> {
-    [[1, 0, 0, 0], [0; 4], [0; 4], [3, 0, 0, 0], [0; 4], [0; 4]].concat()
+    let of_units = |kind| [type_record(kind, 0, 0), UNIT_TYPE, UNIT_TYPE].concat();
+    [of_units(1), of_units(3)].concat()
 }
 
 /// "The case term has 7 records: tested first injection of unit, branches first and second injection
@@ -58,6 +73,11 @@ pub fn loop_term(outer_r: u8, caller: u8) -> Vec<u8> {
     .concat()
 }
 
+/// Another record in this place of a table or a script.
+pub fn set<const WIDTH: usize>(bytes: &mut [u8], place: usize, record: [u8; WIDTH]) {
+    bytes[place * WIDTH..(place + 1) * WIDTH].copy_from_slice(&record);
+}
+
 fn with_script(script: Vec<u8>) -> Inputs {
     Inputs { groups: two_groups(), types: case_types(), script }
 }
@@ -74,7 +94,7 @@ pub fn b() -> Inputs {
 /// Document 02, item 3: B with a case that finds its own type, which is type 0 again.
 pub fn b_with_own_type() -> Inputs {
     let mut inputs = b();
-    inputs.script[4..SCRIPT_BYTES].copy_from_slice(&OWN_TYPE.to_le_bytes());
+    inputs.script[4..6].copy_from_slice(&OWN_TYPE.to_le_bytes());
     inputs
 }
 
@@ -120,8 +140,7 @@ pub fn i() -> Inputs {
 /// I with another group written in its recursion.
 pub fn i_called_as(caller: u8) -> Inputs {
     let mut types = case_types();
-    types[3 * 4 + 1] = 1;
-    types[3 * 4 + 2] = 1;
+    set(&mut types, 3, type_record(3, 1, 1));
     Inputs { types, ..with_script(loop_term(1, caller)) }
 }
 
@@ -173,6 +192,63 @@ pub fn every_word() -> Inputs {
     ]
     .concat();
     with_script(script)
+}
+
+/// Document 02, item 10: a page with creators over case J's groups. A note (λx. <x, second of unit>) that
+/// both hands made is applied, as 1, to an entry made by 1 and protected by 2's hands, and the second
+/// recursion, called as 3, hands the unit it is given on.
+pub fn creators() -> Inputs {
+    let (note, second) = (made(record(2, 0, 0, 1), 3, 1), made(record(5, 0, 0, 0), 2, 2));
+    let script = [
+        record(3, 0, 0, 0),
+        record(6, 1, 0, 0),
+        note,
+        made(record(3, 0, 0, 0), 1, 1),
+        record(0, 0, 0, 0),
+        second,
+        record(1, 0, 0, 0),
+        made(record(10, 0, 0, 0), 0, 2),
+        made(record(1, 0, 0, 0), 3, 1),
+        record(6, 3, 0, 0),
+        record(11, 3, 0, 3),
+        made(record(2, 0, 0, 4), 3, 3),
+        record(0, 0, 0, 0),
+        made(record(1, 0, 0, 0), 1, 0),
+    ]
+    .concat();
+    let mut types = case_types();
+    set(&mut types, 3, made(type_record(3, 0, 0), 3, 3));
+    set(&mut types, 4, made(UNIT_TYPE, 1, 0));
+    set(&mut types, 5, made(UNIT_TYPE, 1, 0));
+    Inputs { types, script, ..j() }
+}
+
+/// The same, with what only creators decide changed: a record of its types in which ic ⊑ c fails.
+pub fn creators_of_a_type() -> Inputs {
+    let mut inputs = creators();
+    set(&mut inputs.types, 5, made(UNIT_TYPE, 1, 2));
+    inputs
+}
+
+/// A record of its script in which it fails.
+pub fn creators_of_an_object() -> Inputs {
+    let mut inputs = creators();
+    set(&mut inputs.script, 5, made(record(5, 0, 0, 0), 1, 2));
+    inputs
+}
+
+/// The recursion called as 2, through whose hands a result made by 1 can't come: question 23.
+pub fn creators_of_a_recursion() -> Inputs {
+    let mut inputs = creators();
+    set(&mut inputs.script, 10, record(11, 2, 0, 3));
+    inputs
+}
+
+/// The recursion given a unit made by 0 where one made by 1 is wanted: question 22.
+pub fn creators_of_an_argument() -> Inputs {
+    let mut inputs = creators();
+    set(&mut inputs.script, 13, record(1, 0, 0, 0));
+    inputs
 }
 
 /// Every case's inputs with its letter.

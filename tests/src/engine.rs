@@ -43,6 +43,17 @@ mod raw {
             types: *const u8, types_length: usize,
             script: *mut u8, script_length: usize,
         ) -> u64;
+        pub fn wigneld_rewrite_types(
+            groups: *const u8, groups_length: usize,
+            types: *const u8, types_length: usize,
+            rewritten: *mut u8, rewritten_length: usize,
+        ) -> u64;
+        pub fn wigneld_rewrite_script(
+            groups: *const u8, groups_length: usize,
+            types: *const u8, types_length: usize,
+            script: *const u8, script_length: usize,
+            rewritten: *mut u8, rewritten_length: usize,
+        ) -> u64;
 
         pub fn probe_bit(word: u32, h: u64) -> u64;
         pub fn probe_words_check(words: *const u8, words_length: usize) -> u64;
@@ -156,6 +167,34 @@ pub fn write_callers(types: &[u8], script: &mut [u8]) -> u64 {
     }
 }
 
+pub fn rewrite_types(groups: &[u8], types: &[u8], rewritten: &mut [u8]) -> u64 {
+    unsafe {
+        raw::wigneld_rewrite_types(
+            groups.as_ptr(),
+            groups.len(),
+            types.as_ptr(),
+            types.len(),
+            rewritten.as_mut_ptr(),
+            rewritten.len(),
+        )
+    }
+}
+
+pub fn rewrite_script(groups: &[u8], types: &[u8], script: &[u8], rewritten: &mut [u8]) -> u64 {
+    unsafe {
+        raw::wigneld_rewrite_script(
+            groups.as_ptr(),
+            groups.len(),
+            types.as_ptr(),
+            types.len(),
+            script.as_ptr(),
+            script.len(),
+            rewritten.as_mut_ptr(),
+            rewritten.len(),
+        )
+    }
+}
+
 pub fn bit(row: u32, h: u64) -> u64 {
     unsafe { raw::probe_bit(row, h) }
 }
@@ -219,7 +258,7 @@ pub fn packed_comparison(answer: &Answer<Comparison>) -> u64 {
     packed(answer, |&comparison| comparison as u64)
 }
 
-/// Check and sheet: the record count.
+/// Check, sheet and the rewriting calls: the record count.
 pub fn packed_count(answer: &Answer<u32>) -> u64 {
     packed(answer, |&count| count.into())
 }

@@ -4,13 +4,16 @@
 use std::env;
 use std::rc::Rc;
 
+use crate::cases::Inputs;
 use crate::groups::{Group, Groups};
 use crate::limits::{
-    MOST_DEPTH, MOST_GROUPS, MOST_TABLE_RECORDS, MOST_TYPE_RECORDS, OWN_TYPE, SCRIPT_BYTES,
-    TYPE_BYTES, WORDS_BYTES, WORD_BYTES,
+    MOST_DEPTH, MOST_GROUPS, MOST_TABLE_RECORDS, MOST_TYPE_RECORDS, OLD_SCRIPT_BYTES,
+    OLD_TYPE_BYTES, OWN_TYPE, SCRIPT_BYTES, TYPE_BYTES, WORDS_BYTES, WORD_BYTES,
 };
-use crate::script::{names_ir, names_number, names_r, operand_count, Record, Side, Term, OPERANDS};
-use crate::types::{at_or_below, read_tables, Form, Marks, Tables, Type};
+use crate::script::{
+    names_c, names_ic, names_ir, names_number, names_r, operand_count, Record, Side, Term, OPERANDS,
+};
+use crate::types::{at_or_below, read_tables, Form, Marks, Raise, Tables, Type};
 use crate::typing::type_of;
 
 /// The seed used when the environment names none.
@@ -285,12 +288,31 @@ fn groups_where(groups: &Groups, mut fits: impl FnMut(Group) -> bool) -> Vec<Gro
     (0..groups.count() as u8).filter(|&g| fits(g)).collect()
 }
 
-/// Some (r, ir) with ir ⊑ r.
+/// Some (r, ir) with ir ⊑ r and (c, ic) with ic ⊑ c. What is made by group 0 serves everywhere, so it
+/// is often that.
 pub fn random_marks(rng: &mut Rng, groups: &Groups) -> Marks {
-    let all = groups_where(groups, |_| true);
-    let r = if rng.one_in(4) { 0 } else { *rng.pick(&all) };
-    let ir = *rng.pick(&groups_where(groups, |g| groups.below(g, r)));
-    Marks { r, ir }
+    let mut ordered = |lowest_of: usize| {
+        let high = if rng.one_in(lowest_of) { 0 } else { rng.below(groups.count()) as Group };
+        (high, *rng.pick(&groups_where(groups, |g| groups.below(g, high))))
+    };
+    let ((r, ir), (c, ic)) = (ordered(4), ordered(2));
+    Marks { r, ir, c, ic }
+}
+
+/// Any groups of a protect.
+pub fn random_raise(rng: &mut Rng, groups: &Groups) -> Raise {
+    let ic = if rng.one_in(3) { highest(groups) } else { rng.below(groups.count()) as Group };
+    Raise { ir: rng.below(groups.count()) as Group, ic }
+}
+
+/// The groups of an object that is at or below every other of its kind: for all, and made by all.
+pub fn lowest_marks(groups: &Groups) -> Marks {
+    Marks { c: highest(groups), ic: highest(groups), ..LOW }
+}
+
+/// The group above all others.
+pub fn highest(groups: &Groups) -> Group {
+    (groups.count() - 1) as Group
 }
 
 fn random_form(rng: &mut Rng, left: Type, right: Type) -> Form {
@@ -331,7 +353,7 @@ pub fn random_variant(rng: &mut Rng, groups: &Groups, from: &Type) -> Type {
 pub fn random_types(rng: &mut Rng, groups: &Groups, least: usize) -> Vec<u8> {
     let mut whole: Vec<Type> = Vec::new();
     let mut bytes = Vec::new();
-    while bytes.len() < least * 4 {
+    while bytes.len() < least * TYPE_BYTES {
         let next = match rng.below(5) {
             _ if whole.is_empty() => {
                 let size = 1 + 2 * rng.below(3);
@@ -357,7 +379,7 @@ pub fn random_types(rng: &mut Rng, groups: &Groups, least: usize) -> Vec<u8> {
             whole.push(next);
         }
     }
-    assert!(bytes.len() <= MOST_TABLE_RECORDS * 4, "asked for too many types");
+    assert!(bytes.len() <= MOST_TABLE_RECORDS * TYPE_BYTES, "asked for too many types");
     bytes
 }
 
@@ -409,12 +431,14 @@ impl Maker<'_> {
         self.group_where(|groups, h| groups.below(g, h))
     }
 
-    /// Who the calls of a recursion may be made as whose type has the readers `r`: often `r` itself.
-    fn caller(&mut self, r: Group) -> Group {
+    /// Who the calls of a recursion of this type may be made as: often no more than is asked.
+    fn caller(&mut self, own: &Type) -> Group {
+        let (_, result) = own.sides().expect("a function has sides");
+        let least = self.groups.join(own.marks.r, result.marks.c);
         if self.rng.one_in(2) {
-            r
+            least
         } else {
-            self.above(r)
+            self.above(least)
         }
     }
 
@@ -425,14 +449,29 @@ impl Maker<'_> {
         }
         let ir = self.group_where(|groups, g| groups.below(g, wanted.ir));
         let r = self.group_where(|groups, g| groups.below(g, wanted.r) && groups.below(ir, g));
-        Marks { r, ir }
+        let ic = self.above(wanted.ic);
+        let c = self.above(self.groups.join(wanted.c, ic));
+        Marks { r, ir, c, ic }
     }
 
-    /// Groups of an object that is taken apart on the way to `wanted`: its ir is joined into the
-    /// result, its r only has to suit the node.
-    fn opened(&mut self, wanted: &Type) -> Marks {
+    /// What may be added on the way to `wanted`: ir is joined into it, and ic met.
+    fn added(&mut self, wanted: &Type) -> Raise {
         let ir = self.group_where(|groups, g| groups.below(g, wanted.marks.ir));
-        Marks { r: self.above(ir), ir }
+        Raise { ir, ic: self.above(wanted.marks.c) }
+    }
+
+    /// Groups of an object that is taken apart on the way to `wanted`: its r only has to suit the
+    /// node, and its c nothing.
+    fn opened(&mut self, wanted: &Type) -> Marks {
+        let Raise { ir, ic } = self.added(wanted);
+        Marks { r: self.above(ir), ir, c: self.above(ic), ic }
+    }
+
+    /// Who may take such an object apart: one that may read it, and by whose hands the creators that
+    /// are wanted aren't lost.
+    fn reader(&mut self, object: Marks, wanted: Marks) -> Group {
+        let least = self.groups.join(object.r, wanted.c);
+        self.above(least)
     }
 
     /// An index of the table that fulfils a condition.
@@ -530,7 +569,7 @@ impl Maker<'_> {
                 let mut function = self.all[index as usize].clone();
                 function.marks = self.opened(wanted);
                 let (parameter, _) = function.sides().expect("a function has sides");
-                let r = self.above(function.marks.r);
+                let r = self.reader(function.marks, wanted.marks);
                 let argument = self.make(parameter, rest);
                 Some(Term::Application(r, self.make(&function, part), argument))
             }
@@ -539,12 +578,12 @@ impl Maker<'_> {
             3 | 4 => {
                 let (variable, found) = self.variable_where(|groups, s| match &s.form {
                     Form::Function(_, b) => {
-                        at_or_below(groups, b, wanted) && groups.below(s.marks.ir, wanted.marks.ir)
+                        at_or_below(groups, b, wanted) && opens_to(groups, s, wanted)
                     }
                     _ => false,
                 })?;
                 let (parameter, _) = found.sides().expect("a function has sides");
-                let r = self.above(found.marks.r);
+                let r = self.reader(found.marks, wanted.marks);
                 let argument = self.make(parameter, fuel);
                 Some(Term::Application(r, Rc::new(variable), argument))
             }
@@ -555,7 +594,7 @@ impl Maker<'_> {
                 let index = self.index_where(|_, s| s.size() <= room)?;
                 let binder = self.all[index as usize].clone();
                 let marks = self.opened(wanted);
-                let r = self.above(marks.r);
+                let r = self.reader(marks, wanted.marks);
                 let argument = self.make(&binder, rest);
                 let body = self.under(binder, wanted, part);
                 Some(Term::Application(r, Rc::new(Term::Function(marks, index, body)), argument))
@@ -572,7 +611,7 @@ impl Maker<'_> {
                 })?;
                 let mut pair = self.all[index as usize].clone();
                 pair.marks = self.opened(wanted);
-                let r = self.above(pair.marks.r);
+                let r = self.reader(pair.marks, wanted.marks);
                 Some(Term::Projection(side, r, self.make(&pair, fuel)))
             }
 
@@ -582,7 +621,7 @@ impl Maker<'_> {
                 let index = self.index_where(|_, s| s.size() <= room)?;
                 let other = self.all[index as usize].clone();
                 let marks = self.opened(wanted);
-                let r = self.above(marks.r);
+                let r = self.reader(marks, wanted.marks);
                 let (kept, lost) = (self.make(wanted, part), self.make(&other, rest));
                 let (side, pair) = if self.rng.one_in(2) {
                     (Side::First, Term::Pair(marks, kept, lost))
@@ -599,31 +638,29 @@ impl Maker<'_> {
                 let mut sum = self.all[index as usize].clone();
                 sum.marks = self.opened(wanted);
                 let tested = self.make(&sum, part.saturating_sub(1));
-                Some(self.case(tested, &sum, result, [&branch, &branch], rest))
+                let r = self.reader(sum.marks, wanted.marks);
+                Some(self.case(r, tested, &sum, result, [&branch, &branch], rest))
             }
 
             // Case of a variable.
             10 => {
                 let (result, branch) = self.result(wanted, fuel)?;
                 let (variable, sum) = self.variable_where(|groups, s| {
-                    matches!(s.form, Form::Sum(..)) && groups.below(s.marks.ir, wanted.marks.ir)
+                    matches!(s.form, Form::Sum(..)) && opens_to(groups, s, wanted)
                 })?;
-                Some(self.case(Rc::new(variable), &sum, result, [&branch, &branch], fuel))
+                let r = self.reader(sum.marks, wanted.marks);
+                Some(self.case(r, Rc::new(variable), &sum, result, [&branch, &branch], fuel))
             }
 
             11 => {
-                let ir = self.group_where(|groups, g| groups.below(g, wanted.marks.ir));
-                Some(Term::Protect(ir, self.make(wanted, fuel)))
+                let by = self.added(wanted);
+                Some(Term::Protect(by, self.make(wanted, fuel)))
             }
 
             // A recursion, mostly of a function written at once.
             12 => {
-                let index = self.index_where(|groups, s| match &s.form {
-                    Form::Function(_, b) => {
-                        at_or_below(groups, s, wanted) && groups.below(s.marks.ir, b.marks.ir)
-                    }
-                    _ => false,
-                })?;
+                let index = self
+                    .index_where(|groups, s| at_or_below(groups, s, wanted) && recurs(groups, s))?;
                 let own = self.all[index as usize].clone();
                 self.context.push(own.clone());
                 let body = if self.rng.one_in(4) {
@@ -632,7 +669,7 @@ impl Maker<'_> {
                     Rc::new(self.value(&own, fuel))
                 };
                 self.context.pop();
-                Some(Term::Recursion(self.caller(own.marks.r), index, body))
+                Some(Term::Recursion(self.caller(&own), index, body))
             }
 
             // The introduction form, unless it would end the script early.
@@ -651,10 +688,11 @@ impl Maker<'_> {
         Some((index, self.all[index as usize].clone()))
     }
 
-    /// A case of `tested`, which has the type `sum`. One that finds its type is deeper, so less is left
-    /// for its branches.
+    /// A case by `r` of `tested`, which has the type `sum`. One that finds its type is deeper, so less is
+    /// left for its branches.
     fn case(
         &mut self,
+        r: Group,
         tested: Rc<Term>,
         sum: &Type,
         result: u16,
@@ -662,7 +700,6 @@ impl Maker<'_> {
         fuel: usize,
     ) -> Term {
         let (a, b) = sum.sides().expect("a sum has sides");
-        let r = self.above(sum.marks.r);
         let fuel = if result == OWN_TYPE { fuel.saturating_sub(1) } else { fuel };
         let half = self.rng.below(fuel + 1);
         let first = self.under((**a).clone(), branches[0], half);
@@ -679,8 +716,19 @@ impl Maker<'_> {
         let sum = self.all[index as usize].clone();
         let branches = [one, other].map(|index| self.all[index as usize].clone());
         let tested = self.make(&sum, fuel / 4);
-        Some(self.case(tested, &sum, OWN_TYPE, [&branches[0], &branches[1]], fuel / 2))
+        let r = self.above(sum.marks.r);
+        Some(self.case(r, tested, &sum, OWN_TYPE, [&branches[0], &branches[1]], fuel / 2))
     }
+}
+
+/// Does what an object of type `s` adds leave room for `wanted`, if the right group takes it apart?
+fn opens_to(groups: &Groups, s: &Type, wanted: &Type) -> bool {
+    groups.below(s.marks.ir, wanted.marks.ir) && groups.below(wanted.marks.c, s.marks.ic)
+}
+
+/// Can a recursion have this type, if the right group is written in it?
+fn recurs(groups: &Groups, s: &Type) -> bool {
+    matches!(&s.form, Form::Function(_, result) if opens_to(groups, s, result))
 }
 
 /// The same kinds in the same order.
@@ -700,10 +748,10 @@ pub fn typed_script(rng: &mut Rng, tables: &Tables, fuel: usize) -> Rc<Term> {
     let mut maker = maker(rng, tables);
     let index = maker.rng.below(maker.all.len());
     let mut wanted = maker.all[index].clone();
-    // The highest groups leave the most room for what is opened inside.
+    // The highest readers and the lowest creators leave the most room for what is opened inside.
     if !maker.rng.one_in(3) {
-        let top = (maker.groups.count() - 1) as Group;
-        wanted.marks = Marks { r: top, ir: top };
+        let top = highest(maker.groups);
+        wanted.marks = Marks { r: top, ir: top, ..LOW };
     }
     maker.make(&wanted, fuel)
 }
@@ -711,10 +759,7 @@ pub fn typed_script(rng: &mut Rng, tables: &Tables, fuel: usize) -> Rc<Term> {
 /// A recursion applied to an argument, the recursion's body a function that may call it.
 pub fn typed_recursion(rng: &mut Rng, tables: &Tables, fuel: usize) -> Option<Rc<Term>> {
     let mut maker = maker(rng, tables);
-    let index = maker.index_where(|groups, s| match &s.form {
-        Form::Function(_, b) => groups.below(s.marks.ir, b.marks.ir),
-        _ => false,
-    })?;
+    let index = maker.index_where(recurs)?;
     let own = maker.all[index as usize].clone();
     maker.context.push(own.clone());
     let body = Rc::new(maker.value(&own, fuel));
@@ -722,7 +767,7 @@ pub fn typed_recursion(rng: &mut Rng, tables: &Tables, fuel: usize) -> Option<Rc
     let (parameter, _) = own.sides().expect("a function has sides");
     let r = maker.above(own.marks.r);
     let argument = maker.make(parameter, fuel / 4);
-    let recursion = Term::Recursion(maker.caller(own.marks.r), index, body);
+    let recursion = Term::Recursion(maker.caller(&own), index, body);
     Some(Rc::new(Term::Application(r, Rc::new(recursion), argument)))
 }
 
@@ -733,13 +778,16 @@ pub fn typed_choice(rng: &mut Rng, tables: &Tables, fuel: usize) -> Option<Rc<Te
     let index = maker.rng.below(maker.all.len());
     let shape = maker.all[index].clone();
     let choice = Rc::new(maker.choice(&shape, fuel)?);
-    let top = (maker.groups.count() - 1) as Group;
+    let top = highest(maker.groups);
     let x = || Rc::new(Term::Variable(0));
     let opened = match &shape.form {
         Form::Sum(a, b) if same_shape(a, b) => Term::Case(top, OWN_TYPE, choice, x(), x()),
         Form::Sum(..) => Term::Case(top, OWN_TYPE, choice, unit(), unit()),
         Form::Pair(..) => Term::Projection(Side::Second, top, choice),
-        Form::Function(a, _) if a.kind() == 0 => Term::Application(top, choice, unit()),
+        Form::Function(a, _) if a.kind() == 0 => {
+            let given = Term::Unit(lowest_marks(&tables.groups));
+            Term::Application(top, choice, Rc::new(given))
+        }
         Form::Unit | Form::Function(..) => return Some(choice),
     };
     Some(Rc::new(opened))
@@ -771,18 +819,20 @@ pub fn large_typed_script(rng: &mut Rng, tables: &Tables, most: usize) -> Rc<Ter
             parts.push(part);
         }
     }
-    fn joined(parts: &[Rc<Term>]) -> Rc<Term> {
+    // A pair that adds nothing to what is taken from it: made, and taken apart, by the highest group.
+    fn joined(groups: &Groups, parts: &[Rc<Term>]) -> Rc<Term> {
         match parts {
             [] => unit(),
             [one] => one.clone(),
             _ => {
                 let (left, right) = parts.split_at(parts.len() / 2);
-                let pair = Term::Pair(LOW, joined(left), joined(right));
-                Rc::new(Term::Projection(Side::First, 0, Rc::new(pair)))
+                let (left, right) = (joined(groups, left), joined(groups, right));
+                let pair = Term::Pair(lowest_marks(groups), left, right);
+                Rc::new(Term::Projection(Side::First, highest(groups), Rc::new(pair)))
             }
         }
     }
-    let term = joined(&parts);
+    let term = joined(&tables.groups, &parts);
     // Parts may be nearly 240 deep, and a few halvings lie above them.
     assert!(term.size() <= most && term.depth() <= MOST_DEPTH);
     term
@@ -829,8 +879,9 @@ fn untyped(rng: &mut Rng, tables: &Tables, binders: usize, fuel: usize) -> Rc<Te
     let rest = fuel - part;
     let marks = random_marks(rng, &tables.groups);
     let group = rng.below(tables.groups.count()) as Group;
+    let by = random_raise(rng, &tables.groups);
     // The top group reads everything, so that runs get further.
-    let node = if rng.one_in(4) { group } else { (tables.groups.count() - 1) as Group };
+    let node = if rng.one_in(4) { group } else { highest(&tables.groups) };
     let any_type = rng.below(tables.types.count()) as u16;
     let own_type = rng.one_in(2);
     let (sums, functions) = (indexes_of_kind(tables, 1), indexes_of_kind(tables, 3));
@@ -860,7 +911,7 @@ fn untyped(rng: &mut Rng, tables: &Tables, binders: usize, fuel: usize) -> Rc<Te
                 if own_type { (OWN_TYPE, rest.saturating_sub(1)) } else { (any_type, rest) };
             Term::Case(node, result, tested, sub(1, part / 2), sub(1, rest))
         }
-        11 => Term::Protect(group, sub(0, fuel)),
+        11 => Term::Protect(by, sub(0, fuel)),
         12 if !functions.is_empty() => {
             let function = functions[rest % functions.len()];
             let body = sub(1, fuel);
@@ -878,7 +929,7 @@ pub fn deep_script(rng: &mut Rng, tables: &Tables, depth: usize) -> Rc<Term> {
     let result = if rng.one_in(2) { OWN_TYPE } else { 0 };
     let body = Term::Case(0, result, x.clone(), unit(), unit());
     let value = Rc::new(Term::Function(LOW, 0, Rc::new(body)));
-    let body = (0..rng.below(20)).fold(x, |inner, _| Rc::new(Term::Protect(0, inner)));
+    let body = (0..rng.below(20)).fold(x, |inner, _| Rc::new(Term::Protect(LOW_RAISE, inner)));
     let function = Rc::new(Term::Function(LOW, 0, body));
     let mut term = Rc::new(Term::Application(0, function, value));
     let mut reached = term.depth();
@@ -904,7 +955,7 @@ fn level_around(rng: &mut Rng, tables: &Tables, term: Rc<Term>) -> Term {
         4..=6 => Term::Case(0, result, term, unit(), unit()),
         7 if rng.one_in(20) => Term::Case(0, result, unit(), term, unit()),
         7 if rng.one_in(20) => Term::Case(0, result, unit(), unit(), term),
-        _ => Term::Protect(0, term),
+        _ => Term::Protect(LOW_RAISE, term),
     }
 }
 
@@ -950,28 +1001,45 @@ fn some_record(rng: &mut Rng, script: &[u8]) -> usize {
     }
 }
 
+/// 0 in the fields that its kind doesn't name; byte 3 stays.
+fn clear_unnamed(record: &mut Record) {
+    let kind = record.kind;
+    let kept = |named: bool, group: Group| if named { group } else { 0 };
+    record.r = kept(names_r(kind), record.r);
+    record.ir = kept(names_ir(kind), record.ir);
+    record.c = kept(names_c(kind), record.c);
+    record.ic = kept(names_ic(kind), record.ic);
+    if !names_number(kind) {
+        record.number = 0;
+    }
+}
+
 /// A script with one field of one record changed: a group, a kind, an index or a variable.
 pub fn near_miss(rng: &mut Rng, tables: &Tables, script: &[u8]) -> Vec<u8> {
     let mut bytes = script.to_vec();
     let at = some_record(rng, script);
     let mut record = Record::read(&bytes[at..at + SCRIPT_BYTES]);
     let group = rng.below(tables.groups.count() + 1) as Group;
-    let (r, ir) = (names_r(record.kind), names_ir(record.kind));
-    let change = match rng.below(7) {
+    let kind = record.kind;
+    let change = match rng.below(9) {
         // Fields that mean nothing are changed less often.
-        0 if !r && !rng.one_in(4) => 2,
-        1 if !ir && !rng.one_in(4) => 2,
-        4.. if !names_number(record.kind) && !rng.one_in(4) => 2,
+        0 if !names_r(kind) && !rng.one_in(4) => 2,
+        1 if !names_ir(kind) && !rng.one_in(4) => 2,
+        4..=6 if !names_number(kind) && !rng.one_in(4) => 2,
+        7 if !names_c(kind) && !rng.one_in(4) => 2,
+        8 if !names_ic(kind) && !rng.one_in(4) => 2,
         change => change,
     };
     match change {
         0 => record.r = group,
         1 => record.ir = group,
+        7 => record.c = group,
+        8 => record.ic = group,
         // A change of groups that is fine by itself.
         2 => {
-            let Marks { r: new_r, ir: new_ir } = random_marks(rng, &tables.groups);
-            record.r = if r { new_r } else { 0 };
-            record.ir = if ir { new_ir } else { 0 };
+            let Marks { r, ir, c, ic } = random_marks(rng, &tables.groups);
+            (record.r, record.ir, record.c, record.ic) = (r, ir, c, ic);
+            clear_unnamed(&mut record);
         }
         3 => {
             // Mostly another kind with as many operands, so that the script stays one term. What is no kind counts as a case.
@@ -980,15 +1048,7 @@ pub fn near_miss(rng: &mut Rng, tables: &Tables, script: &[u8]) -> Vec<u8> {
             let same: Vec<u8> = kinds.filter(|&kind| operand_count(kind) == count).collect();
             record.kind = if rng.one_in(4) { rng.below(13) as u8 } else { *rng.pick(&same) };
             if !rng.one_in(4) {
-                if !names_r(record.kind) {
-                    record.r = 0;
-                }
-                if !names_ir(record.kind) {
-                    record.ir = 0;
-                }
-                if !names_number(record.kind) {
-                    record.number = 0;
-                }
+                clear_unnamed(&mut record);
             }
         }
         4 if rng.one_in(3) => record.number = OWN_TYPE,
@@ -999,14 +1059,52 @@ pub fn near_miss(rng: &mut Rng, tables: &Tables, script: &[u8]) -> Vec<u8> {
     bytes
 }
 
-/// The types table with the groups of one record changed, ir ⊑ r still.
+/// The types table with the groups of one record changed, mostly with ir ⊑ r and ic ⊑ c still; else a
+/// single group, which may be outside the table.
 pub fn near_miss_types(rng: &mut Rng, world: &World) -> Vec<u8> {
     let mut bytes = world.types.clone();
-    let at = rng.below(bytes.len() / 4) * 4;
-    let Marks { r, ir } = random_marks(rng, &world.tables.groups);
-    bytes[at + 1] = r;
-    bytes[at + 2] = ir;
+    let at = rng.below(bytes.len() / TYPE_BYTES) * TYPE_BYTES;
+    if rng.one_in(5) {
+        bytes[at + rng.pick(&[1, 2, 4, 5])] = rng.below(world.tables.groups.count() + 1) as Group;
+        return bytes;
+    }
+    let Marks { r, ir, c, ic } = random_marks(rng, &world.tables.groups);
+    bytes[at + 1..at + 3].copy_from_slice(&[r, ir]);
+    bytes[at + 4..at + TYPE_BYTES].copy_from_slice(&[c, ic]);
     bytes
+}
+
+/// A table or script of records of this width in the form from before item 10, which lacks c and ic.
+fn narrowed(bytes: &[u8], width: usize, old_width: usize) -> Vec<u8> {
+    bytes.chunks(width).flat_map(|record| &record[..record.len().min(old_width)]).copied().collect()
+}
+
+/// A types table in its old form.
+pub fn old_types(types: &[u8]) -> Vec<u8> {
+    narrowed(types, TYPE_BYTES, OLD_TYPE_BYTES)
+}
+
+/// A script in its old form.
+pub fn old_script(script: &[u8]) -> Vec<u8> {
+    narrowed(script, SCRIPT_BYTES, OLD_SCRIPT_BYTES)
+}
+
+/// The old form of these inputs, as it was saved before item 6: 0 in byte 1 of every recursion.
+pub fn saved_before(inputs: &Inputs) -> Inputs {
+    let mut old = old_form(inputs);
+    for record in old.script.chunks_exact_mut(OLD_SCRIPT_BYTES).filter(|record| record[0] == 11) {
+        record[1] = 0;
+    }
+    old
+}
+
+/// The old form of these inputs.
+pub fn old_form(inputs: &Inputs) -> Inputs {
+    Inputs {
+        groups: inputs.groups.clone(),
+        types: old_types(&inputs.types),
+        script: old_script(&inputs.script),
+    }
 }
 
 /// Bytes damaged in some way: a bit, a byte, a cut, an addition, or all of them by chance.
@@ -1048,7 +1146,8 @@ pub fn damaged(rng: &mut Rng, bytes: &[u8]) -> Vec<u8> {
 // Boundary sizes
 
 /// The groups 0 alone in every place.
-pub const LOW: Marks = Marks { r: 0, ir: 0 };
+pub const LOW: Marks = Marks { r: 0, ir: 0, c: 0, ic: 0 };
+pub const LOW_RAISE: Raise = Raise { ir: 0, ic: 0 };
 
 pub fn unit() -> Rc<Term> {
     Rc::new(Term::Unit(LOW))
@@ -1060,7 +1159,7 @@ pub fn wide(size: usize) -> Rc<Term> {
     match size {
         0 => panic!("no term has 0 records"),
         1 => unit(),
-        2 | 3 => Rc::new(Term::Protect(0, wide(size - 1))),
+        2 | 3 => Rc::new(Term::Protect(LOW_RAISE, wide(size - 1))),
         _ => {
             let left = (size - 2) / 2;
             let pair = Term::Pair(LOW, wide(left), wide(size - 2 - left));
@@ -1073,7 +1172,7 @@ pub fn wide(size: usize) -> Rc<Term> {
 pub fn deep(depth: usize) -> Rc<Term> {
     let mut term = unit();
     for _ in 1..depth {
-        term = Rc::new(Term::Protect(0, term));
+        term = Rc::new(Term::Protect(LOW_RAISE, term));
     }
     term
 }
@@ -1090,7 +1189,7 @@ pub fn wide_type(size: usize) -> Type {
 
 /// `count` unit types.
 pub fn unit_types(count: usize) -> Vec<u8> {
-    vec![0; count * 4]
+    vec![0; count * TYPE_BYTES]
 }
 
 /// The chain of `count` groups, in its words; past 32 the table is too long, whatever its words.

@@ -7,7 +7,6 @@
 // Plain remainders and indexes read closer to the document.
 #![allow(clippy::manual_is_multiple_of, clippy::needless_range_loop)]
 
-pub mod callers;
 pub mod calls;
 pub mod cases;
 #[cfg(feature = "engine")]
@@ -18,6 +17,8 @@ pub mod groups;
 pub mod limits;
 pub mod refusal;
 pub mod report;
+pub mod rewriting;
+pub mod rules;
 pub mod script;
 pub mod sheet;
 pub mod steps;

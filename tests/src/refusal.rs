@@ -8,7 +8,7 @@ pub struct Refusal {
 }
 
 impl Refusal {
-    /// Was typing under way? 31 is asked between 22 and 24, whatever its number.
+    /// Was typing under way? 31 is asked between 22 and 24, and 36 before typing, whatever their numbers.
     pub fn is_of_typing(&self) -> bool {
         matches!(self.question, 20..=24 | 31)
     }

@@ -9,7 +9,7 @@ use crate::refusal::Answer;
 use crate::steps::End;
 use crate::words::{read_words, OURS};
 
-/// "checks, runs in two buffers of 49,152 bytes with budget 1,000, sheet for group 0 in a buffer of
+/// "checks, runs in two buffers [now of 65,536 bytes] with budget 1,000, sheet for group 0 in a buffer of
 /// 8,192 sheet records; numbers in decimal." A missing file is an empty slice, but for the words': "A missing file means ours.
 /// The table is tried before question 1, and the report prints only a refusal line if it fails."
 pub fn report(words: Option<&[u8]>, groups: &[u8], types: &[u8], script: &[u8]) -> Vec<u8> {

@@ -3,9 +3,9 @@
 use std::rc::Rc;
 
 use crate::groups::Group;
-use crate::limits::{MOST_DEPTH, MOST_SCRIPT_RECORDS, OWN_TYPE, SCRIPT_BYTES};
+use crate::limits::{self, MOST_DEPTH, MOST_SCRIPT_RECORDS, OWN_TYPE, SCRIPT_BYTES};
 use crate::refusal::{ask, refuse, Answer};
-use crate::types::{Form, Marks, Tables};
+use crate::types::{Form, Marks, Raise, Tables};
 
 /// First or second, of injections and projections.
 #[derive(Debug, Clone, Copy, PartialEq, Eq)]
@@ -30,7 +30,7 @@ pub enum Term {
     Projection(Side, Group, Rc<Term>),
     /// Result type, or `OWN_TYPE`; tested operand, the two branches.
     Case(Group, u16, Rc<Term>, Rc<Term>, Rc<Term>),
-    Protect(Group, Rc<Term>),
+    Protect(Raise, Rc<Term>),
     /// Who its calls are made as, function type, body.
     Recursion(Group, u16, Rc<Term>),
 }
@@ -43,18 +43,22 @@ pub struct Record {
     pub ir: Group,
     pub zero: u8,
     pub number: u16,
+    pub c: Group,
+    pub ic: Group,
 }
 
 impl Record {
-    /// "kind, r, ir, 0, a 16-bit little-endian number".
+    /// "kind, r, ir, 0, a 16-bit little-endian number"; c and ic "in bytes 6 and 7".
     pub fn read(bytes: &[u8]) -> Record {
-        let number = u16::from_le_bytes([bytes[4], bytes[5]]);
-        Record { kind: bytes[0], r: bytes[1], ir: bytes[2], zero: bytes[3], number }
+        let [kind, r, ir, zero, low, high, c, ic] = bytes[..SCRIPT_BYTES] else {
+            panic!("a whole record");
+        };
+        Record { kind, r, ir, zero, number: u16::from_le_bytes([low, high]), c, ic }
     }
 
     pub fn write(&self) -> [u8; SCRIPT_BYTES] {
         let [low, high] = self.number.to_le_bytes();
-        [self.kind, self.r, self.ir, self.zero, low, high]
+        [self.kind, self.r, self.ir, self.zero, low, high, self.c, self.ic]
     }
 
     /// "A case whose number is 65,535 takes the lowest type at or above both branches."
@@ -91,6 +95,16 @@ pub fn names_ir(kind: u8) -> bool {
     matches!(kind, 1..=5 | 10)
 }
 
+/// Document 02, item 10: "Kinds 1 to 5 use both".
+pub fn names_c(kind: u8) -> bool {
+    matches!(kind, 1..=5)
+}
+
+/// "protect uses ic", besides.
+pub fn names_ic(kind: u8) -> bool {
+    names_c(kind) || kind == 10
+}
+
 /// The table's column "fields": a parameter, sum, result or function type.
 pub fn names_type(kind: u8) -> bool {
     matches!(kind, 2 | 4 | 5 | 9 | 11)
@@ -118,31 +132,31 @@ impl Term {
 
     /// The term's own record; unnamed fields are 0.
     pub fn record(&self) -> Record {
-        let none = Record { kind: 0, r: 0, ir: 0, zero: 0, number: 0 };
+        let none = Record { kind: 0, r: 0, ir: 0, zero: 0, number: 0, c: 0, ic: 0 };
+        let object =
+            |kind, Marks { r, ir, c, ic }, number| Record { kind, r, ir, number, c, ic, ..none };
         match *self {
             Term::Variable(number) => Record { number, ..none },
-            Term::Unit(Marks { r, ir }) => Record { kind: 1, r, ir, ..none },
-            Term::Function(Marks { r, ir }, number, _) => Record { kind: 2, r, ir, number, ..none },
-            Term::Pair(Marks { r, ir }, _, _) => Record { kind: 3, r, ir, ..none },
-            Term::Injection(side, Marks { r, ir }, number, _) => {
-                let kind = if side == Side::First { 4 } else { 5 };
-                Record { kind, r, ir, number, ..none }
-            }
+            Term::Unit(marks) => object(1, marks, 0),
+            Term::Function(marks, number, _) => object(2, marks, number),
+            Term::Pair(marks, _, _) => object(3, marks, 0),
+            Term::Injection(Side::First, marks, number, _) => object(4, marks, number),
+            Term::Injection(Side::Second, marks, number, _) => object(5, marks, number),
             Term::Application(r, _, _) => Record { kind: 6, r, ..none },
             Term::Projection(side, r, _) => {
                 let kind = if side == Side::First { 7 } else { 8 };
                 Record { kind, r, ..none }
             }
             Term::Case(r, number, ..) => Record { kind: 9, r, number, ..none },
-            Term::Protect(ir, _) => Record { kind: 10, ir, ..none },
+            Term::Protect(Raise { ir, ic }, _) => Record { kind: 10, ir, ic, ..none },
             Term::Recursion(r, number, _) => Record { kind: 11, r, number, ..none },
         }
     }
 
     /// The term of this record and these operands.
     pub fn build(record: Record, operands: Vec<Rc<Term>>) -> Term {
-        let Record { kind, r, ir, number, .. } = record;
-        let marks = Marks { r, ir };
+        let Record { kind, r, ir, number, c, ic, .. } = record;
+        let marks = Marks { r, ir, c, ic };
         assert_eq!(operands.len(), operand_count(kind));
         let mut operands = operands.into_iter();
         let mut next = || operands.next().expect("counted above");
@@ -157,7 +171,7 @@ impl Term {
             7 => Term::Projection(Side::First, r, next()),
             8 => Term::Projection(Side::Second, r, next()),
             9 => Term::Case(r, number, next(), next(), next()),
-            10 => Term::Protect(ir, next()),
+            10 => Term::Protect(Raise { ir, ic }, next()),
             11 => Term::Recursion(r, number, next()),
             _ => panic!("question 14: kind at most 11"),
         }
@@ -200,8 +214,7 @@ fn parse(records: &[Record], index: usize) -> (Rc<Term>, usize) {
 /// Question 13. Script: whole records, 1 to 8,192, and in a run within both buffers? (0)
 /// `buffers` are the lengths of a run's two buffers, and empty in every other call.
 fn whole_records(bytes: &[u8], buffers: &[usize]) -> Answer<Vec<Record>> {
-    let count = bytes.len() / SCRIPT_BYTES;
-    let whole = bytes.len() % SCRIPT_BYTES == 0 && (1..=MOST_SCRIPT_RECORDS).contains(&count);
+    let whole = limits::are_whole(bytes.len(), SCRIPT_BYTES, MOST_SCRIPT_RECORDS);
     ask(whole && buffers.iter().all(|&length| bytes.len() <= length), 13, 0)?;
     Ok(bytes.chunks(SCRIPT_BYTES).map(Record::read).collect())
 }
@@ -213,21 +226,33 @@ fn fields(records: &[Record]) -> Answer<()> {
             && record.zero == 0
             && (names_r(record.kind) || record.r == 0)
             && (names_ir(record.kind) || record.ir == 0)
-            && (names_number(record.kind) || record.number == 0);
+            && (names_number(record.kind) || record.number == 0)
+            && (names_c(record.kind) || record.c == 0)
+            && (names_ic(record.kind) || record.ic == 0);
         ask(clean, 14, index)?;
     }
     Ok(())
 }
 
-/// Question 15. Named groups in table, and for kinds 1 to 5 ir ⊑ r?
+/// The kinds that have all four groups, ordered.
+fn is_object(kind: u8) -> bool {
+    (1..=5).contains(&kind)
+}
+
+/// Question 15. Named groups in table, and for kinds 1 to 5 ir ⊑ r? Then 36, "for kinds 1 to 5, after 15
+/// when ic ⊑ c fails at that record".
 fn named_groups(tables: &Tables, records: &[Record]) -> Answer<()> {
     let groups = &tables.groups;
     for (index, record) in records.iter().enumerate() {
-        let &Record { kind, r, ir, .. } = record;
-        let in_table =
-            (!names_r(kind) || groups.has(r.into())) && (!names_ir(kind) || groups.has(ir.into()));
-        let ordered = !(1..=5).contains(&kind) || groups.below(ir, r);
-        ask(in_table && ordered, 15, index)?;
+        let &Record { kind, r, ir, c, ic, .. } = record;
+        let in_table = (!names_r(kind) || groups.has(r.into()))
+            && (!names_ir(kind) || groups.has(ir.into()))
+            && (!names_c(kind) || groups.has(c.into()))
+            && (!names_ic(kind) || groups.has(ic.into()));
+        ask(in_table && (!is_object(kind) || groups.below(ir, r)), 15, index)?;
+    }
+    for (index, record) in records.iter().enumerate() {
+        ask(!is_object(record.kind) || groups.below(record.ic, record.c), 36, index)?;
     }
     Ok(())
 }
@@ -295,13 +320,17 @@ fn bound(term: &Term, place: usize, binders: usize) -> Answer<usize> {
 
 /// Questions 13 to 19, then the term.
 pub fn read_script(tables: &Tables, bytes: &[u8], buffers: &[usize]) -> Answer<Rc<Term>> {
-    let records = whole_records(bytes, buffers)?;
-    fields(&records)?;
-    named_groups(tables, &records)?;
-    named_types(tables, &records)?;
-    one_term(&records)?;
-    shallow(&records, 0, 1)?;
-    let (term, _) = parse(&records, 0);
+    read_records(tables, &whole_records(bytes, buffers)?)
+}
+
+/// Questions 14 to 19, then the term.
+pub fn read_records(tables: &Tables, records: &[Record]) -> Answer<Rc<Term>> {
+    fields(records)?;
+    named_groups(tables, records)?;
+    named_types(tables, records)?;
+    one_term(records)?;
+    shallow(records, 0, 1)?;
+    let (term, _) = parse(records, 0);
     bound(&term, 0, 0)?;
     Ok(term)
 }

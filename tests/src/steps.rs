@@ -5,7 +5,7 @@ use std::rc::Rc;
 use crate::groups::Group;
 use crate::limits::{MOST_DEPTH, MOST_SCRIPT_RECORDS};
 use crate::script::{Side, Term};
-use crate::types::{raise_marks, Form, Marks, Tables};
+use crate::types::{Form, Marks, Raise, Tables};
 
 /// "A step ends 0 value, 1 moved, 2 the reader may not, 3 wrong kind, 4 too big."
 #[derive(Debug, Clone, Copy, PartialEq, Eq)]
@@ -42,8 +42,8 @@ pub fn substitute(term: &Rc<Term>, value: &Rc<Term>, number: usize) -> Rc<Term> 
 }
 
 /// v • g: the value's own groups raised.
-fn raise_value(tables: &Tables, value: &Term, g: Group) -> Term {
-    let raised = |marks: Marks| raise_marks(&tables.groups, marks, g);
+fn raise_value(tables: &Tables, value: &Term, by: Raise) -> Term {
+    let raised = |marks: Marks| tables.security().raised(marks, by);
     match value {
         Term::Unit(marks) => Term::Unit(raised(*marks)),
         Term::Function(marks, parameter, body) => {
@@ -71,7 +71,7 @@ fn inside(operand: &Rc<Term>, tables: &Tables, around: impl FnOnce(Rc<Term>) -> 
     }
 }
 
-/// A rule that asks r ⊑ r' and gives protect_ir of its right side.
+/// A rule that asks r ⊑ r' and gives protect_ir of its right side, with ic ⊓ the node's group.
 fn destruct(
     tables: &Tables,
     object: Marks,
@@ -79,7 +79,7 @@ fn destruct(
     result: impl FnOnce() -> Rc<Term>,
 ) -> Move {
     if tables.groups.below(object.r, node) {
-        Move::To(Rc::new(Term::Protect(object.ir, result())))
+        Move::To(Rc::new(Term::Protect(tables.security().read_by(object, node), result())))
     } else {
         Move::Stay(End::MayNot)
     }
@@ -154,11 +154,11 @@ fn reduce(tables: &Tables, term: &Rc<Term>) -> Move {
             }
         }
 
-        Term::Protect(ir, operand) => {
+        Term::Protect(by, operand) => {
             if is_value(operand) {
-                Move::To(Rc::new(raise_value(tables, operand, *ir)))
+                Move::To(Rc::new(raise_value(tables, operand, *by)))
             } else {
-                inside(operand, tables, |next| Term::Protect(*ir, next))
+                inside(operand, tables, |next| Term::Protect(*by, next))
             }
         }
 
@@ -169,18 +169,18 @@ fn reduce(tables: &Tables, term: &Rc<Term>) -> Move {
     }
 }
 
-/// (λx : s1. ((μf : s. e) x)_g)_(r, ir) for s = (s1 → s2, (r, ir)), where g is "the unrolled
+/// (λx : s1. ((μf : s. e) x)_g)_κ for s = (s1 → s2, κ), κ all its groups, where g is "the unrolled
 /// application's group": the written one. s1 starts right after s.
 fn unrolled(tables: &Tables, written: Group, function: u16, recursion: &Rc<Term>) -> Term {
     let own = tables.types.at(function.into());
     assert!(matches!(own.form, Form::Function(..)), "question 16: a function for 11");
-    let caller = tables.caller.group(written, own.marks.r);
+    let caller = tables.rules.caller(written, own.marks.r);
     let call = Term::Application(caller, recursion.clone(), Rc::new(Term::Variable(0)));
     Term::Function(own.marks, function + 1, Rc::new(call))
 }
 
 /// "Too big means the new term has more than 8,192 records, more than the written buffer's length
-/// divided by 6, or depth over 256." `room` is that length divided by 6.
+/// divided by 6, or depth over 256." `room` is that length divided by 8, as document 02's item 10 has it.
 pub fn too_big(term: &Term, room: usize) -> bool {
     let size = term.size();
     size > MOST_SCRIPT_RECORDS || size > room || term.depth() > MOST_DEPTH

@@ -2,16 +2,27 @@
 
 use std::rc::Rc;
 
-use crate::callers::Caller;
 use crate::groups::{read_groups, Group, Groups};
-use crate::limits::{MOST_TABLE_RECORDS, MOST_TYPE_RECORDS, TYPE_BYTES};
+use crate::limits::{are_whole, MOST_TABLE_RECORDS, MOST_TYPE_RECORDS, TYPE_BYTES};
 use crate::refusal::{ask, refuse, Answer};
+use crate::rules::{Rules, Security};
 
-/// "(r, ir) are readers and indirect readers."
+/// "(r, ir) are readers and indirect readers." Document 02, item 10: "creators c and indirect creators ic".
 #[derive(Debug, Clone, Copy, PartialEq, Eq)]
 pub struct Marks {
     pub r: Group,
     pub ir: Group,
+    pub c: Group,
+    pub ic: Group,
+}
+
+/// "Raising by (g, m)": what reading an object, or a protect, adds to what comes of it.
+#[derive(Debug, Clone, Copy, PartialEq, Eq)]
+pub struct Raise {
+    /// g, joined into r and ir.
+    pub ir: Group,
+    /// m, met into c and ic.
+    pub ic: Group,
 }
 
 /// A secure type: its own groups, and its form.
@@ -57,7 +68,8 @@ impl Type {
 
     /// The type's records: its own in front, then left, then right.
     pub fn write(&self) -> Vec<u8> {
-        let mut bytes = vec![self.kind(), self.marks.r, self.marks.ir, 0];
+        let Marks { r, ir, c, ic } = self.marks;
+        let mut bytes = vec![self.kind(), r, ir, 0, c, ic];
         if let Some((a, b)) = self.sides() {
             bytes.extend(a.write());
             bytes.extend(b.write());
@@ -67,20 +79,20 @@ impl Type {
 }
 
 /// "At or below (table 2): same kind, r ⊑ r', ir ⊑ ir', both sides at or below; at a function the
-/// left sides are compared the other way round."
-pub fn at_or_below(groups: &Groups, s: &Type, t: &Type) -> bool {
-    let marks = groups.below(s.marks.r, t.marks.r) && groups.below(s.marks.ir, t.marks.ir);
+/// left sides are compared the other way round." A lattice alone means the rules as they are now.
+pub fn at_or_below<'a>(security: impl Into<Security<'a>>, s: &Type, t: &Type) -> bool {
+    let security = security.into();
     let sides = match (&s.form, &t.form) {
         (Form::Unit, Form::Unit) => true,
         (Form::Sum(a, b), Form::Sum(c, d)) | (Form::Pair(a, b), Form::Pair(c, d)) => {
-            at_or_below(groups, a, c) && at_or_below(groups, b, d)
+            at_or_below(security, a, c) && at_or_below(security, b, d)
         }
         (Form::Function(a, b), Form::Function(c, d)) => {
-            at_or_below(groups, c, a) && at_or_below(groups, b, d)
+            at_or_below(security, c, a) && at_or_below(security, b, d)
         }
         _ => false,
     };
-    marks && sides
+    security.at_or_below(s.marks, t.marks) && sides
 }
 
 /// "The comparison of types now answers same, below or neither." As numbers 2, 1 and 0.
@@ -92,10 +104,10 @@ pub enum Comparison {
 }
 
 /// "Same means equal in every record."
-pub fn compare(groups: &Groups, s: &Type, t: &Type) -> Comparison {
+pub fn compare<'a>(security: impl Into<Security<'a>>, s: &Type, t: &Type) -> Comparison {
     if s.write() == t.write() {
         Comparison::Same
-    } else if at_or_below(groups, s, t) {
+    } else if at_or_below(security, s, t) {
         Comparison::Below
     } else {
         Comparison::Neither
@@ -112,14 +124,14 @@ pub enum Bound {
 }
 
 impl Bound {
-    fn turned(self) -> Bound {
+    pub fn turned(self) -> Bound {
         match self {
             Bound::LowestAbove => Bound::HighestBelow,
             Bound::HighestBelow => Bound::LowestAbove,
         }
     }
 
-    fn group(self, groups: &Groups, g: Group, h: Group) -> Group {
+    pub fn group(self, groups: &Groups, g: Group, h: Group) -> Group {
         match self {
             Bound::LowestAbove => groups.join(g, h),
             Bound::HighestBelow => groups.meet(g, h),
@@ -129,12 +141,15 @@ impl Bound {
 
 /// The common type of two types, if they have one: by table 2 only types of equal kinds throughout are
 /// ever at or below one another, and a function's parameter counts the other way round.
-pub fn common(bound: Bound, groups: &Groups, s: &Type, t: &Type) -> Option<Type> {
-    let marks = Marks {
-        r: bound.group(groups, s.marks.r, t.marks.r),
-        ir: bound.group(groups, s.marks.ir, t.marks.ir),
-    };
-    let side = |bound, a: &Type, b: &Type| common(bound, groups, a, b).map(Rc::new);
+pub fn common<'a>(
+    bound: Bound,
+    security: impl Into<Security<'a>>,
+    s: &Type,
+    t: &Type,
+) -> Option<Type> {
+    let security = security.into();
+    let marks = security.common(bound, s.marks, t.marks);
+    let side = |bound, a: &Type, b: &Type| common(bound, security, a, b).map(Rc::new);
     let form = match (&s.form, &t.form) {
         (Form::Unit, Form::Unit) => Form::Unit,
         (Form::Sum(a, b), Form::Sum(c, d)) => Form::Sum(side(bound, a, c)?, side(bound, b, d)?),
@@ -147,14 +162,9 @@ pub fn common(bound: Bound, groups: &Groups, s: &Type, t: &Type) -> Option<Type>
     Some(Type { marks, form })
 }
 
-/// κ • g: g joined into both r and ir.
-pub fn raise_marks(groups: &Groups, marks: Marks, g: Group) -> Marks {
-    Marks { r: groups.join(marks.r, g), ir: groups.join(marks.ir, g) }
-}
-
 /// "s • g joins g into both r and ir of the first record of s, and nowhere deeper."
-pub fn raise(groups: &Groups, s: &Type, g: Group) -> Type {
-    Type { marks: raise_marks(groups, s.marks, g), form: s.form.clone() }
+pub fn raise<'a>(security: impl Into<Security<'a>>, s: &Type, by: Raise) -> Type {
+    Type { marks: security.into().raised(s.marks, by), form: s.form.clone() }
 }
 
 /// The types table. "Every record starts a type and is named by its index."
@@ -182,8 +192,8 @@ impl Types {
 
 /// The type starting at `index`, and the index after its last record.
 fn parse(records: &[[u8; TYPE_BYTES]], index: usize) -> (Type, usize) {
-    let [kind, r, ir, _] = records[index];
-    let marks = Marks { r, ir };
+    let [kind, r, ir, _, c, ic] = records[index];
+    let marks = Marks { r, ir, c, ic };
     if kind == 0 {
         return (Type { marks, form: Form::Unit }, index + 1);
     }
@@ -199,11 +209,13 @@ fn parse(records: &[[u8; TYPE_BYTES]], index: usize) -> (Type, usize) {
     (Type { marks, form }, end)
 }
 
+fn records_of(bytes: &[u8]) -> Vec<[u8; TYPE_BYTES]> {
+    bytes.chunks(TYPE_BYTES).map(|record| record.try_into().expect("whole records")).collect()
+}
+
 /// A single whole type from its bytes, such as checking writes to the answer buffer.
 pub fn read_type(bytes: &[u8]) -> Type {
-    assert_eq!(bytes.len() % TYPE_BYTES, 0, "whole records");
-    let records: Vec<[u8; TYPE_BYTES]> =
-        bytes.chunks(TYPE_BYTES).map(|record| record.try_into().expect("whole records")).collect();
+    let records = records_of(bytes);
     let (found, end) = parse(&records, 0);
     assert_eq!(end, records.len(), "one whole type");
     found
@@ -224,23 +236,31 @@ fn end_of_type(records: &[[u8; TYPE_BYTES]], start: usize) -> Option<usize> {
 /// Questions 8 to 12, then the table.
 pub fn read_types(groups: &Groups, bytes: &[u8]) -> Answer<Types> {
     // 8. Types: whole records, 1 to 4,096? (0)
-    let count = bytes.len() / TYPE_BYTES;
-    ask(bytes.len() % TYPE_BYTES == 0 && (1..=MOST_TABLE_RECORDS).contains(&count), 8, 0)?;
-    let records: Vec<[u8; TYPE_BYTES]> =
-        bytes.chunks(TYPE_BYTES).map(|record| record.try_into().expect("whole records")).collect();
+    ask(are_whole(bytes.len(), TYPE_BYTES, MOST_TABLE_RECORDS), 8, 0)?;
+    read_type_records(groups, bytes)
+}
+
+/// Questions 9 to 12 of whole records, then the table. "36 is put directly after 10".
+pub fn read_type_records(groups: &Groups, bytes: &[u8]) -> Answer<Types> {
+    let records = records_of(bytes);
 
     // 9. Kind at most 3, byte 3 (counted from 0) equal to 0, groups in table?
-    for (index, &[kind, r, ir, zero]) in records.iter().enumerate() {
-        ask(kind <= 3 && zero == 0 && groups.has(r.into()) && groups.has(ir.into()), 9, index)?;
+    for (index, &[kind, r, ir, zero, c, ic]) in records.iter().enumerate() {
+        let in_table = [r, ir, c, ic].iter().all(|&group| groups.has(group.into()));
+        ask(kind <= 3 && zero == 0 && in_table, 9, index)?;
     }
     // 10. ir ⊑ r?
-    for (index, &[_, r, ir, _]) in records.iter().enumerate() {
+    for (index, &[_, r, ir, ..]) in records.iter().enumerate() {
         ask(groups.below(ir, r), 10, index)?;
+    }
+    // 36. ic ⊑ c?
+    for (index, &[.., c, ic]) in records.iter().enumerate() {
+        ask(groups.below(ic, c), 36, index)?;
     }
     // 11. Does the last type end with the table? (start of the outermost unfinished type)
     let mut outermost = Vec::new();
     let mut start = 0;
-    while start < count {
+    while start < records.len() {
         let Some(end) = end_of_type(&records, start) else {
             return refuse(11, start);
         };
@@ -254,17 +274,23 @@ pub fn read_types(groups: &Groups, bytes: &[u8]) -> Answer<Types> {
     Ok(Types { records })
 }
 
-/// The two tables every script is judged over, and whose group its recursive calls have.
+/// The two tables every script is judged over, and the rules by which it is.
 #[derive(Debug, Clone, PartialEq, Eq)]
 pub struct Tables {
     pub groups: Groups,
     pub types: Types,
-    pub caller: Caller,
+    pub rules: Rules,
+}
+
+impl Tables {
+    pub fn security(&self) -> Security<'_> {
+        Security { groups: &self.groups, rules: self.rules }
+    }
 }
 
 /// Questions 2 to 12, then both tables.
 pub fn read_tables(groups: &[u8], types: &[u8]) -> Answer<Tables> {
     let groups = read_groups(groups)?;
     let types = read_types(&groups, types)?;
-    Ok(Tables { groups, types, caller: Caller::Written })
+    Ok(Tables { groups, types, rules: Rules::Now })
 }

@@ -9,6 +9,7 @@ use std::rc::Rc;
 use crate::groups::{Group, Groups};
 use crate::limits::{MOST_TYPE_RECORDS, OWN_TYPE};
 use crate::refusal::{ask, refuse, Answer};
+use crate::rules::Security;
 use crate::script::{Side, Term};
 use crate::types::{at_or_below, common, raise, Bound, Form, Marks, Tables, Type};
 
@@ -19,7 +20,7 @@ pub fn type_of(tables: &Tables, term: &Term) -> Answer<Type> {
 
 /// The type of `term`, whose record is `place`, its binders' types in `context`, outermost first.
 fn find(tables: &Tables, context: &mut Vec<Type>, term: &Term, place: usize) -> Answer<Type> {
-    let groups = &tables.groups;
+    let (groups, security) = (&tables.groups, tables.security());
     match term {
         // [Var]
         Term::Variable(number) => Ok(context[context.len() - 1 - *number as usize].clone()),
@@ -52,7 +53,7 @@ fn find(tables: &Tables, context: &mut Vec<Type>, term: &Term, place: usize) -> 
                 panic!("question 16: a sum for 4 and 5");
             };
             let wanted = if *side == Side::First { &first } else { &second };
-            wanted_type(groups, &found, wanted, place)?;
+            wanted_type(security, &found, wanted, place)?;
             Ok(Type { marks: *marks, form: Form::Sum(first, second) })
         }
 
@@ -64,8 +65,8 @@ fn find(tables: &Tables, context: &mut Vec<Type>, term: &Term, place: usize) -> 
             };
             readable(groups, found.marks, *r, place)?;
             let given = find(tables, context, argument, place + 1 + function.size())?;
-            wanted_type(groups, &given, parameter, place)?;
-            Ok(raise(groups, result, found.marks.ir))
+            wanted_type(security, &given, parameter, place)?;
+            Ok(raise(security, result, security.read_by(found.marks, *r)))
         }
 
         // [Proj]
@@ -76,7 +77,7 @@ fn find(tables: &Tables, context: &mut Vec<Type>, term: &Term, place: usize) -> 
             };
             readable(groups, found.marks, *r, place)?;
             let part = if *side == Side::First { first } else { second };
-            Ok(raise(groups, part, found.marks.ir))
+            Ok(raise(security, part, security.read_by(found.marks, *r)))
         }
 
         // [Case], the result given or found; "the case has s • ir of the tested operand".
@@ -96,26 +97,26 @@ fn find(tables: &Tables, context: &mut Vec<Type>, term: &Term, place: usize) -> 
                     given_result(tables, context, wanted, [first, second], place)?
                 }
             };
-            Ok(raise(groups, &result, found.marks.ir))
+            Ok(raise(security, &result, security.read_by(found.marks, *r)))
         }
 
         // [Protect]
-        Term::Protect(ir, operand) => {
+        Term::Protect(by, operand) => {
             let found = find(tables, context, operand, place + 1)?;
-            Ok(raise(groups, &found, *ir))
+            Ok(raise(security, &found, *by))
         }
 
         // [Rec]; "21 is put to the recursion before 23, with r of its type against the written
-        // group". 23: "A recursion of type (s1 → s2, (r, ir)) needs ir ⊑ the indirect readers of s2".
+        // group".
         Term::Recursion(written, function, body) => {
             let own = tables.types.at((*function).into());
             let Form::Function(_, result) = &own.form else {
                 panic!("question 16: a function for 11");
             };
-            readable(groups, own.marks, tables.caller.group(*written, own.marks.r), place)?;
-            ask(groups.below(own.marks.ir, result.marks.ir), 23, place)?;
+            readable(groups, own.marks, tables.rules.caller(*written, own.marks.r), place)?;
+            ask(security.recursion_holds(own.marks, result.marks, *written), 23, place)?;
             let found = find_under(tables, context, own.clone(), body, place + 1)?;
-            wanted_type(groups, &found, &own, place)?;
+            wanted_type(security, &found, &own, place)?;
             Ok(own)
         }
     }
@@ -157,9 +158,9 @@ fn given_result(
     place: usize,
 ) -> Answer<Type> {
     let one = first.find(tables, context)?;
-    wanted_type(&tables.groups, &one, &result, place)?;
+    wanted_type(tables.security(), &one, &result, place)?;
     let other = second.find(tables, context)?;
-    wanted_type(&tables.groups, &other, &result, place)?;
+    wanted_type(tables.security(), &other, &result, place)?;
     Ok(result)
 }
 
@@ -172,7 +173,7 @@ fn own_result(
     place: usize,
 ) -> Answer<Type> {
     let (one, other) = (first.find(tables, context)?, second.find(tables, context)?);
-    match common(Bound::LowestAbove, &tables.groups, &one, &other) {
+    match common(Bound::LowestAbove, tables.security(), &one, &other) {
         Some(lowest) => Ok(lowest),
         None => refuse(31, place),
     }
@@ -184,8 +185,8 @@ fn readable(groups: &Groups, operand: Marks, node: Group, place: usize) -> Answe
 }
 
 /// Question 22. Operand, argument, branch or body at or below what is wanted?
-fn wanted_type(groups: &Groups, found: &Type, wanted: &Type, place: usize) -> Answer<()> {
-    ask(at_or_below(groups, found, wanted), 22, place)
+fn wanted_type(security: Security, found: &Type, wanted: &Type, place: usize) -> Answer<()> {
+    ask(at_or_below(security, found, wanted), 22, place)
 }
 
 /// Question 24. Function and pair: found type at most 63 records?

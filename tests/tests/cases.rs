@@ -3,7 +3,7 @@
 mod common;
 
 use common::*;
-use wigneld_tests::cases::{self, record, Inputs};
+use wigneld_tests::cases::{self, made, record, set, type_record, Inputs, UNIT_TYPE};
 use wigneld_tests::generate::words;
 use wigneld_tests::groups::read_groups;
 use wigneld_tests::report::report;
@@ -20,11 +20,12 @@ fn shared_inputs_are_the_documents() {
     assert_eq!(
         inputs.types,
         [
-            1, 0, 0, 0, 0, 0, 0, 0, 0, 0, 0, 0, // sum of units
-            3, 0, 0, 0, 0, 0, 0, 0, 0, 0, 0, 0, // function from unit to unit
+            1, 0, 0, 0, 0, 0, 0, 0, 0, 0, 0, 0, 0, 0, 0, 0, 0, 0, // sum of units
+            3, 0, 0, 0, 0, 0, 0, 0, 0, 0, 0, 0, 0, 0, 0, 0, 0,
+            0, // function from unit to unit
         ]
     );
-    assert_eq!(inputs.script.len(), 7 * 6);
+    assert_eq!(inputs.script.len(), 7 * 8);
     assert_eq!(types_check(&inputs.groups, &inputs.types), Ok(()));
 }
 
@@ -38,7 +39,7 @@ fn case_a() {
 
 #[test]
 fn case_b() {
-    check_finds(&cases::b(), &[1, 1, 1, 0, 0, 0, 0, 0, 0, 0, 0, 0]);
+    check_finds(&cases::b(), &[type_record(1, 1, 1), UNIT_TYPE, UNIT_TYPE].concat());
     let value = [record(4, 1, 1, 0), record(1, 0, 0, 0)].concat();
     run_reports(&cases::b(), 1000, 0, 2, 2, Some(&value));
     // Document 02, item 5: "case B's report loses its last line."
@@ -48,7 +49,7 @@ fn case_b() {
 #[test]
 fn case_b_with_its_own_type() {
     let inputs = cases::b_with_own_type();
-    check_finds(&inputs, &[1, 1, 1, 0, 0, 0, 0, 0, 0, 0, 0, 0]);
+    check_finds(&inputs, &[type_record(1, 1, 1), UNIT_TYPE, UNIT_TYPE].concat());
     let value = [record(4, 1, 1, 0), record(1, 0, 0, 0)].concat();
     run_reports(&inputs, 1000, 0, 2, 2, Some(&value));
     assert_eq!(report_of(&inputs), report_of(&cases::b()));
@@ -71,7 +72,7 @@ fn case_b_sheets() {
 
 #[test]
 fn case_c() {
-    check_finds(&cases::c(), &[1, 0, 0, 0, 0, 0, 0, 0, 0, 0, 0, 0]);
+    check_finds(&cases::c(), &[type_record(1, 0, 0), UNIT_TYPE, UNIT_TYPE].concat());
     let value = [record(4, 0, 0, 0), record(1, 0, 0, 0)].concat();
     run_reports(&cases::c(), 1000, 0, 2, 2, Some(&value));
     assert_eq!(
@@ -91,7 +92,7 @@ fn case_d() {
 fn case_e() {
     let protected = [record(10, 0, 1, 0), record(4, 0, 0, 0), record(1, 0, 0, 0)].concat();
     run_reports(&cases::b(), 1, 1, 1, 3, Some(&protected));
-    let moved = step_reports(&cases::b(), 42, 1, 3);
+    let moved = step_reports(&cases::b(), 56, 1, 3);
     assert_eq!(moved, protected);
     // Budget 0 makes no step; budget 2 is all the run needs.
     run_reports(&cases::b(), 0, 1, 0, 7, Some(&cases::b().script));
@@ -108,10 +109,10 @@ fn case_f() {
 #[test]
 fn case_g() {
     let inputs = cases::g();
-    assert_eq!(inputs.script.len(), 7 * 6);
-    check_finds(&inputs, &[0, 0, 0, 0]);
+    assert_eq!(inputs.script.len(), 7 * 8);
+    check_finds(&inputs, &UNIT_TYPE);
     // The recursion and what stands for f: (λy : type 4. (recursion y)_0)_(0,0).
-    let recursion = &inputs.script[6..36];
+    let recursion = &inputs.script[8..48];
     let own =
         [&record(2, 0, 0, 4)[..], &record(6, 0, 0, 0), recursion, &record(0, 0, 0, 0)].concat();
     let (apply, protect) = (record(6, 0, 0, 0), record(10, 0, 0, 0));
@@ -132,26 +133,26 @@ fn case_g() {
 #[test]
 fn case_h() {
     let inputs = cases::g();
-    for (first, scratch) in [(72, 72), (72, 6000), (6000, 72), (77, 78), (78, 77)] {
+    for (first, scratch) in [(96, 96), (96, 6000), (6000, 96), (103, 104), (104, 103)] {
         let (result, first, scratch) = run_in(&inputs, 1000, first, scratch);
-        let report = result.expect("not refused: 42 bytes fit");
+        let report = result.expect("not refused: 56 bytes fit");
         assert_eq!((report.end as u8, report.steps, report.records), (4, 0, 7));
-        assert_eq!(first[..42], inputs.script[..]);
-        assert!(first[42..].iter().chain(&scratch).all(|&byte| byte == 0));
+        assert_eq!(first[..56], inputs.script[..]);
+        assert!(first[56..].iter().chain(&scratch).all(|&byte| byte == 0));
     }
-    let (result, _, _) = run_in(&inputs, 1, 78, 78);
+    let (result, _, _) = run_in(&inputs, 1, 104, 104);
     let report = result.expect("not refused");
     assert_eq!((report.end as u8, report.steps, report.records), (1, 1, 13));
-    step_reports(&inputs, 72, 4, 7);
-    step_reports(&inputs, 77, 4, 7);
-    step_reports(&inputs, 78, 1, 13);
+    step_reports(&inputs, 96, 4, 7);
+    step_reports(&inputs, 103, 4, 7);
+    step_reports(&inputs, 104, 1, 13);
 }
 
 #[test]
 fn case_i() {
     let inputs = cases::i();
-    assert_eq!(inputs.types[12..16], [3, 1, 1, 0]);
-    assert_eq!(inputs.script[..12], [record(6, 1, 0, 0), record(11, 1, 0, 3)].concat());
+    assert_eq!(inputs.types[18..24], [3, 1, 1, 0, 0, 0]);
+    assert_eq!(inputs.script[..16], [record(6, 1, 0, 0), record(11, 1, 0, 3)].concat());
     check_refuses(&inputs, 23, 1);
     // With group 0 written, which may not read the recursion's type, 21 comes first.
     check_refuses(&cases::i_called_as(0), 21, 1);
@@ -159,13 +160,12 @@ fn case_i() {
     run_reports(&inputs, 1, 1, 1, 13, None);
     // With the result's groups at (1,1) the condition holds.
     let mut types = inputs.types.clone();
-    types[5 * 4 + 1] = 1;
-    types[5 * 4 + 2] = 1;
+    set(&mut types, 5, type_record(0, 1, 1));
     // The body calls itself as group 0, which may not read a function of group 1.
     check_refuses(&Inputs { types: types.clone(), ..inputs.clone() }, 21, 3);
     let mut script = inputs.script.clone();
-    script[3 * 6 + 1] = 1;
-    check_finds(&Inputs { types, script, ..inputs }, &[0, 1, 1, 0]);
+    set(&mut script, 3, record(6, 1, 0, 0));
+    check_finds(&Inputs { types, script, ..inputs }, &type_record(0, 1, 1));
 }
 
 #[test]
@@ -180,7 +180,7 @@ fn case_j() {
     // The same join in typing and in a step: a unit of group 1 protected by group 2.
     let script = [record(10, 0, 2, 0), record(1, 1, 1, 0)].concat();
     let inputs = Inputs { script, ..inputs };
-    check_finds(&inputs, &[0, 3, 3, 0]);
+    check_finds(&inputs, &type_record(0, 3, 3));
     run_reports(&inputs, 1000, 0, 1, 1, Some(&record(1, 3, 3, 0)));
     // And it decides an end: a pair of group 1 protected by group 2 is for group 3, not for the larger of the two.
     let inputs = cases::joined_readers(2);
@@ -189,7 +189,7 @@ fn case_j() {
     assert_eq!(report_of(&inputs), "refused 21 at 0\n");
     let inputs = cases::joined_readers(3);
     assert_eq!(report_of(&inputs), "accepted 1\nend 0 steps 3 records 1\nclosed 0 0\n");
-    check_finds(&inputs, &[0, 3, 3, 0]);
+    check_finds(&inputs, &type_record(0, 3, 3));
     run_reports(&inputs, 1000, 0, 3, 1, Some(&record(1, 3, 3, 0)));
 }
 
@@ -207,6 +207,45 @@ fn case_l() {
     check_refuses(&cases::l(), 7, 0);
     run_refuses(&cases::l(), 7, 0);
     assert_eq!(report_of(&cases::l()), "refused 7 at 0\n");
+}
+
+#[test]
+fn a_page_with_creators() {
+    let inputs = cases::creators();
+    check_finds(
+        &inputs,
+        &[
+            type_record(2, 0, 0),
+            made(type_record(2, 0, 0), 1, 1),
+            UNIT_TYPE,
+            made(type_record(1, 0, 0), 2, 2),
+            UNIT_TYPE,
+            UNIT_TYPE,
+            made(UNIT_TYPE, 1, 0),
+        ]
+        .concat(),
+    );
+    let value = [
+        record(3, 0, 0, 0),
+        made(record(3, 0, 0, 0), 1, 1),
+        made(record(1, 0, 0, 0), 2, 0),
+        made(record(5, 0, 0, 0), 2, 2),
+        record(1, 0, 0, 0),
+        made(record(1, 0, 0, 0), 1, 0),
+    ]
+    .concat();
+    run_reports(&inputs, 1000, 0, 6, 6, Some(&value));
+    // The sheet shows none of them.
+    let shown = "pair 0 0\npair 0 0\nunit 0 0\nsecond 0 0\nunit 0 0\nunit 0 0\n";
+    assert_eq!(report_of(&inputs), format!("accepted 7\nend 0 steps 6 records 6\n{shown}"));
+    for (changed, refused) in [
+        (cases::creators_of_a_type(), "refused 36 at 5\n"),
+        (cases::creators_of_an_object(), "refused 36 at 5\n"),
+        (cases::creators_of_a_recursion(), "refused 23 at 10\n"),
+        (cases::creators_of_an_argument(), "refused 22 at 9\n"),
+    ] {
+        assert_eq!(report_of(&changed), refused);
+    }
 }
 
 #[test]

@@ -1,7 +1,9 @@
 //! Table 3 read the other way: as the set of all types its rules, subsumption included, give a term.
 //! Typing must accept whenever that set has a member, and find its lowest one.
 //!
-//! The sets are taken within a small universe: all types of up to 3 records over a few groups.
+//! The sets are taken within a small universe: all types of up to 3 records over a few groups, either
+//! with all readers, or with all creators. What a rule asks of the two is asked of each apart, so no
+//! derivation needs a type with both.
 
 mod common;
 
@@ -11,16 +13,47 @@ use common::*;
 use wigneld_tests::cases::Inputs;
 use wigneld_tests::generate::*;
 use wigneld_tests::groups::{Group, Groups};
-use wigneld_tests::limits::{ANSWER_BYTES, OWN_TYPE, TYPE_BYTES, WORK_BYTES};
-use wigneld_tests::script::{Side, Term};
-use wigneld_tests::types::{self, raise, read_type, Form, Marks, Tables, Type};
+use wigneld_tests::limits::{ANSWER_BYTES, OWN_TYPE, SCRIPT_BYTES, TYPE_BYTES, WORK_BYTES};
+use wigneld_tests::script::{Record, Side, Term};
+use wigneld_tests::types::{self, raise, read_type, Form, Marks, Raise, Tables, Type};
+
+/// Which groups of objects and types may be other than 0.
+#[derive(Debug, Clone, Copy, PartialEq, Eq)]
+enum Slice {
+    Readers,
+    Creators,
+}
+
+impl Slice {
+    fn marks(self, high: Group, low: Group) -> Marks {
+        match self {
+            Slice::Readers => Marks { r: high, ir: low, ..LOW },
+            Slice::Creators => Marks { c: high, ic: low, ..LOW },
+        }
+    }
+
+    /// The script with the other groups of its objects and protects 0; the nodes' groups stay.
+    fn of_script(self, script: &[u8]) -> Vec<u8> {
+        let within = |bytes: &[u8]| {
+            let mut record = Record::read(bytes);
+            match (self, record.kind) {
+                (Slice::Readers, _) => (record.c, record.ic) = (0, 0),
+                (Slice::Creators, 1..=5) => (record.r, record.ir) = (0, 0),
+                (Slice::Creators, _) => record.ir = 0,
+            }
+            record.write()
+        };
+        script.chunks(SCRIPT_BYTES).flat_map(within).collect()
+    }
+}
 
 /// All types of up to 3 records.
-fn universe(groups: &Groups) -> Vec<Type> {
+fn universe(groups: &Groups, slice: Slice) -> Vec<Type> {
     let count = groups.count() as Group;
     let marks: Vec<Marks> = (0..count)
-        .flat_map(|r| (0..count).map(move |ir| Marks { r, ir }))
-        .filter(|marks| groups.below(marks.ir, marks.r))
+        .flat_map(|high| (0..count).map(move |low| (high, low)))
+        .filter(|&(high, low)| groups.below(low, high))
+        .map(|(high, low)| slice.marks(high, low))
         .collect();
     let units: Vec<Type> = marks.iter().map(|&marks| Type { marks, form: Form::Unit }).collect();
     let mut all = units.clone();
@@ -64,6 +97,8 @@ impl Rules<'_> {
     fn types(&self, context: &[Type], term: &Term) -> Vec<Type> {
         let groups = &self.tables.groups;
         let at = |index: u16| self.tables.types.at(index.into());
+        // What an object with these groups adds to what a node of group g takes from it.
+        let read = |object: Marks, g: Group| Raise { ir: object.ir, ic: groups.meet(object.ic, g) };
         let mut found: Vec<Type> = Vec::new();
         match term {
             Term::Variable(number) => {
@@ -98,7 +133,7 @@ impl Rules<'_> {
                 for one in self.types(context, function) {
                     if let Form::Function(parameter, result) = &one.form {
                         if arguments.contains(parameter) && groups.below(one.marks.r, *r) {
-                            found.push(raise(groups, result, one.marks.ir));
+                            found.push(raise(groups, result, read(one.marks, *r)));
                         }
                     }
                 }
@@ -108,7 +143,7 @@ impl Rules<'_> {
                     if let Form::Pair(left, right) = &one.form {
                         if groups.below(one.marks.r, *r) {
                             let part = if *side == Side::First { left } else { right };
-                            found.push(raise(groups, part, one.marks.ir));
+                            found.push(raise(groups, part, read(one.marks, *r)));
                         }
                     }
                 }
@@ -125,14 +160,14 @@ impl Rules<'_> {
                             let results = first.into_iter().filter(|s| second.contains(s));
                             let fits = |s: &Type| *result == OWN_TYPE || *s == at(*result);
                             let results = results.filter(fits);
-                            found.extend(results.map(|s| raise(groups, &s, one.marks.ir)));
+                            found.extend(results.map(|s| raise(groups, &s, read(one.marks, *r))));
                         }
                     }
                 }
             }
-            Term::Protect(ir, operand) => {
+            Term::Protect(by, operand) => {
                 for one in self.types(context, operand) {
-                    found.push(raise(groups, &one, *ir));
+                    found.push(raise(groups, &one, *by));
                 }
             }
             Term::Recursion(caller, function, body) => {
@@ -140,6 +175,7 @@ impl Rules<'_> {
                 let Form::Function(_, result) = &own.form else { panic!("a function") };
                 if groups.below(own.marks.r, *caller)
                     && groups.below(own.marks.ir, result.marks.ir)
+                    && groups.below(result.marks.c, groups.meet(own.marks.ic, *caller))
                     && self.under(context, &own, body).contains(&own)
                 {
                     found.push(own);
@@ -152,9 +188,9 @@ impl Rules<'_> {
 }
 
 /// A table of small types over the groups, every kind among them.
-fn small_world(rng: &mut Rng, groups: Vec<u8>) -> World {
+fn small_world(rng: &mut Rng, groups: Vec<u8>, slice: Slice) -> World {
     let read = wigneld_tests::groups::read_groups(&groups).expect("accepted");
-    let all = universe(&read);
+    let all = universe(&read, slice);
     let types = (0..rng.between(3, 12)).flat_map(|_| rng.pick(&all).write()).collect();
     World::of(groups, types)
 }
@@ -206,21 +242,28 @@ fn finds_own_type(term: &Term) -> bool {
 }
 
 fn compare(groups: Vec<u8>, count: u64, most: usize) {
+    for slice in [Slice::Readers, Slice::Creators] {
+        compare_within(slice, &groups, count, most);
+    }
+}
+
+fn compare_within(slice: Slice, groups: &[u8], count: u64, most: usize) {
     let (mut typed, mut untyped, mut own_type) = (0, 0, 0);
     let enough = examples(count, |rng| {
-        let world = small_world(rng, groups.clone());
+        let world = small_world(rng, groups.to_vec(), slice);
         let fuel = rng.below(most);
         let mut script = some_typed(rng, &world.tables, fuel).write();
         for _ in 0..rng.below(3) {
             script = near_miss(rng, &world.tables, &script);
         }
+        script = slice.of_script(&script);
         let Ok(term) = wigneld_tests::script::read_script(&world.tables, &script, &[]) else {
             return;
         };
         if term.size() > most {
             return;
         }
-        let rules = Rules { tables: &world.tables, all: universe(&world.tables.groups) };
+        let rules = Rules { tables: &world.tables, all: universe(&world.tables.groups, slice) };
         let given = rules.types(&[], &term);
         let inputs = Inputs { groups: world.groups.clone(), types: world.types.clone(), script };
         let (result, _, answer) = check_in(&inputs, WORK_BYTES, ANSWER_BYTES);

@@ -6,7 +6,7 @@ mod common;
 
 use common::records::*;
 use common::*;
-use wigneld_tests::cases::{record, Inputs};
+use wigneld_tests::cases::{record, type_record, Inputs, UNIT_TYPE};
 use wigneld_tests::generate::{wide_type, words};
 use wigneld_tests::limits::*;
 
@@ -20,9 +20,9 @@ const LARGE_PAIR: u16 = 126;
 fn types() -> Vec<u8> {
     let half = wide_type(31).write();
     [
-        vec![1, 0, 0, 0, 0, 0, 0, 0],
+        [type_record(1, 0, 0), UNIT_TYPE].concat(),
         wide_type(61).write(),
-        vec![3, 0, 0, 0],
+        type_record(3, 0, 0).to_vec(),
         half.clone(),
         half,
         wide_type(63).write(),

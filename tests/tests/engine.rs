@@ -16,6 +16,7 @@ use wigneld_tests::limits::*;
 use wigneld_tests::script::{Side, Term};
 use wigneld_tests::steps::End;
 use wigneld_tests::strip::ONE_GROUP;
+use wigneld_tests::types::Marks;
 use wigneld_tests::words::read_words;
 
 fn inputs_of(world: &World, term: &Term) -> Inputs {
@@ -30,7 +31,7 @@ fn near(rng: &mut Rng, around: usize) -> usize {
         2 => around + 1,
         3 => around + rng.below(300),
         4 => rng.below(around + 1),
-        _ => around + 6 * rng.below(200),
+        _ => around + SCRIPT_BYTES * rng.below(200),
     }
 }
 
@@ -92,10 +93,23 @@ fn compare_all(rng: &mut Rng, inputs: &Inputs) -> usize {
     }
     strip_script(&mut inputs.script.clone());
     strip_types(&mut inputs.types.clone());
-    write_callers(&inputs.types, &mut inputs.script.clone());
     // Four calls with lent buffers, two checks of tables, four and three look-ups, two strippings, the
     // rewriting.
-    16
+    15 + compare_rewriting(rng, &old_form(inputs))
+}
+
+/// The three rewriting calls on inputs of the old form.
+fn compare_rewriting(rng: &mut Rng, old: &Inputs) -> usize {
+    write_callers(&old.types, &mut old.script.clone());
+    let mut room = |old: &[u8], old_width: usize, width: usize| {
+        let length = near(rng, old.len() / old_width * width);
+        rng.bytes(length)
+    };
+    let types = room(&old.types, OLD_TYPE_BYTES, TYPE_BYTES);
+    let script = room(&old.script, OLD_SCRIPT_BYTES, SCRIPT_BYTES);
+    let _ = rewrite_types_with(&old.groups, &old.types, types);
+    let _ = rewrite_script_with(old, script);
+    3
 }
 
 /// Draws examples one way or another and asserts that comparisons were made.
@@ -228,24 +242,51 @@ fn damaged_inputs() {
 }
 
 #[test]
+fn damaged_old_forms() {
+    comparisons(some(12_000), |rng| {
+        let world = World::random(rng);
+        let term =
+            if rng.one_in(2) { typed(rng, &world) } else { untyped_script(rng, &world.tables, 40) };
+        let mut inputs = inputs_of(&world, &term);
+        if rng.one_in(3) {
+            inputs.script = near_miss(rng, &world.tables, &inputs.script);
+        }
+        let mut old = old_form(&inputs);
+        match rng.below(8) {
+            0 => old.groups = damaged(rng, &old.groups),
+            1 | 2 => old.types = damaged(rng, &old.types),
+            3..=5 => old.script = damaged(rng, &old.script),
+            _ => {}
+        }
+        compare_rewriting(rng, &old)
+    });
+}
+
+#[test]
 fn small_raw_bytes() {
     // Small numbers everywhere, so that a good part of them means something.
     comparisons(some(12_000), |rng| {
-        let mut raw = |records: usize, width: usize, most: u64| -> Vec<u8> {
+        let mut raw = |records: usize, width: usize, zeros: &[usize], most: u64| -> Vec<u8> {
             (0..records * width)
                 .map(|at| match at % width {
                     0 => (rng.word() % most) as u8,
-                    3 | 5 => 0,
+                    at if zeros.contains(&at) => 0,
                     _ => (rng.word() % 3) as u8 & (rng.word() % 3) as u8,
                 })
                 .collect()
         };
-        let (types, script) = (raw(3, 4, 4), raw(4, 6, 12));
+        let (types, script) = (raw(3, TYPE_BYTES, &[3], 4), raw(4, SCRIPT_BYTES, &[3, 5], 12));
         let types = if rng.one_in(2) { cases::case_types() } else { types };
-        let mut script = script[..6 * rng.between(1, 4)].to_vec();
-        // Some numbers as a case has that finds its type, of any kind.
-        for record in script.chunks_mut(SCRIPT_BYTES).filter(|_| rng.one_in(6)) {
-            record[4..].copy_from_slice(&OWN_TYPE.to_le_bytes());
+        let mut script = script[..SCRIPT_BYTES * rng.between(1, 4)].to_vec();
+        for record in script.chunks_mut(SCRIPT_BYTES) {
+            // Some numbers as a case has that finds its type, of any kind.
+            if rng.one_in(6) {
+                record[4..6].copy_from_slice(&OWN_TYPE.to_le_bytes());
+            }
+            // Most kinds name no creators.
+            if rng.one_in(2) {
+                record[6..].fill(0);
+            }
         }
         let groups = if rng.one_in(4) { random_groups(rng) } else { cases::two_groups() };
         compare_all(rng, &Inputs { groups, types, script })
@@ -312,39 +353,44 @@ fn every_row_of_three_small_groups() {
 
 #[test]
 fn every_pair_of_small_types() {
-    // All types of up to 3 records over two groups, against each other.
-    let marks = [(0, 0), (1, 0), (1, 1)];
-    let units: Vec<Vec<u8>> = marks.iter().map(|&(r, ir)| vec![0, r, ir, 0]).collect();
-    let mut types = units.clone();
-    for kind in 1..=3 {
-        for &(r, ir) in &marks {
-            for left in &units {
-                for right in &units {
-                    types.push([vec![kind, r, ir, 0], left.clone(), right.clone()].concat());
+    // All types of up to 3 records over two groups, against each other: all readers, then all creators.
+    let pairs = [(0, 0), (1, 0), (1, 1)];
+    let readers = pairs.map(|(r, ir)| Marks { r, ir, ..LOW });
+    let creators = pairs.map(|(c, ic)| Marks { c, ic, ..LOW });
+    for marks in [readers, creators] {
+        let with = |kind, Marks { r, ir, c, ic }| vec![kind, r, ir, 0, c, ic];
+        let units: Vec<Vec<u8>> = marks.iter().map(|&marks| with(0, marks)).collect();
+        let mut types = units.clone();
+        for kind in 1..=3 {
+            for &marks in &marks {
+                for left in &units {
+                    for right in &units {
+                        types.push([with(kind, marks), left.clone(), right.clone()].concat());
+                    }
                 }
             }
         }
-    }
-    let starts: Vec<u64> = types
-        .iter()
-        .scan(0, |at, one| {
-            let start = *at;
-            *at += one.len() as u64 / 4;
-            Some(start)
-        })
-        .collect();
-    let table = types.concat();
-    let mut answers = [0; 3];
-    for &i in &starts {
-        for &j in &starts {
-            let answer = compare(&cases::two_groups(), &table, i, j);
-            answers[answer.expect("both indexes are in the table") as usize] += 1;
+        let starts: Vec<u64> = types
+            .iter()
+            .scan(0, |at, one| {
+                let start = *at;
+                *at += (one.len() / TYPE_BYTES) as u64;
+                Some(start)
+            })
+            .collect();
+        let table = types.concat();
+        let mut answers = [0; 3];
+        for &i in &starts {
+            for &j in &starts {
+                let answer = compare(&cases::two_groups(), &table, i, j);
+                answers[answer.expect("both indexes are in the table") as usize] += 1;
+            }
         }
+        // Of the pairs of the 3 pairs of groups 6 are in order, 3 of them the same; three kinds with two
+        // sides, and units.
+        let (all, ordered, same) = (types.len().pow(2), 3 * 6 * 6 * 6 + 6, 3 * 3 * 3 * 3 + 3);
+        assert_eq!(answers, [all - ordered, ordered - same, same]);
     }
-    // Of the pairs of the 3 pairs of groups 6 are in order, 3 of them the same; three kinds with two
-    // sides, and units.
-    let (all, ordered, same) = (types.len() * types.len(), 3 * 6 * 6 * 6 + 6, 3 * 3 * 3 * 3 + 3);
-    assert_eq!(answers, [all - ordered, ordered - same, same]);
 }
 
 #[test]
@@ -454,8 +500,8 @@ fn growing_runs() {
             let inputs =
                 Inputs { groups: groups.clone(), types: types.clone(), script: term.write() };
             for budget in [0, 1, 2, 3, 10, 100, 1000] {
-                for room in [inputs.script.len(), 300, 3000, REPORT_RUN_BYTES, 60_000] {
-                    let (first, scratch) = (room.max(inputs.script.len()), 60_000);
+                for room in [inputs.script.len(), 300, 3000, REPORT_RUN_BYTES, 80_000] {
+                    let (first, scratch) = (room.max(inputs.script.len()), 80_000);
                     let _ = run_in(&inputs, budget, first, scratch);
                     let _ = run_in(&inputs, budget, scratch, first);
                     made += 2;
@@ -481,7 +527,7 @@ fn substitution_by_far_too_big() {
         let body = pairs(2047, &Rc::new(Term::Variable(0)));
         let function = Rc::new(Term::Function(LOW, 0, body));
         let script = Term::Application(0, function, pairs(2049, &unit())).write();
-        let inputs = Inputs { groups: words(&[1]), types: vec![0; 4], script };
+        let inputs = Inputs { groups: words(&[1]), types: unit_types(1), script };
         let (report, _, _) = run_in(&inputs, 5, REPORT_RUN_BYTES, REPORT_RUN_BYTES);
         assert_eq!(report.expect("not refused").end, End::TooBig);
         let _ = step_in(&inputs, 100);

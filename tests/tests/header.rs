@@ -1,5 +1,5 @@
-//! `include/wigneld.h`: every constant is the engine's, by its Rattle sources, and the second implementation's. Of it and of
-//! `include/wigneld_office.h` every prototype is that of an exported function, and none is missing. The stack's numbers are held by
+//! `include/wigneld.h` and `include/wigneld_office.h`: every constant is the engine's, by its Rattle sources, and the second
+//! implementation's; every prototype is that of an exported function, and none is missing. The stack's numbers are held by
 //! `c/stack.c`, the readers of answers by `c/client.c` and `c/office.c`, which holds the comparison's numbers too.
 
 use std::collections::BTreeMap;
@@ -29,10 +29,10 @@ fn product(text: &str, named: &dyn Fn(&str) -> usize) -> usize {
         .product()
 }
 
-/// The header's constants by name, without their prefix.
-fn constants() -> BTreeMap<String, usize> {
+/// A header's constants by name, without their prefix.
+fn constants_of(archive: &str) -> BTreeMap<String, usize> {
     let mut found = BTreeMap::new();
-    for line in header("wigneld").lines() {
+    for line in header(archive).lines() {
         let Some((name, value)) =
             line.strip_prefix("#define WIGNELD_").and_then(|rest| rest.split_once(' '))
         else {
@@ -44,6 +44,10 @@ fn constants() -> BTreeMap<String, usize> {
         assert_eq!(found.insert(name.to_owned(), value), None, "{name} stands twice");
     }
     found
+}
+
+fn constants() -> BTreeMap<String, usize> {
+    constants_of("wigneld")
 }
 
 /// The constants of the engine's crates: crate, name, value as written.
@@ -85,6 +89,11 @@ fn engine(all: &[(String, String, String)], path: &str) -> usize {
         });
         engine(all, &format!("{at}::{other}"))
     })
+}
+
+/// An engine's constant as the tables below have it: `crate::NAME`, or nothing where the engine has no name for it.
+fn engine_if_named(all: &[(String, String, String)], path: &str) -> Option<usize> {
+    (!path.is_empty()).then(|| engine(all, path))
 }
 
 /// Header, second implementation, engine.
@@ -149,13 +158,21 @@ const SHEETS: (&str, &[(&str, &str)]) = (
     ],
 );
 
+/// Where a record has its fields, by the document's text: header, value, engine.
+const FIELDS: [(&str, usize, &str); 9] = [
+    ("AT_KIND", 0, ""),
+    ("AT_READERS", 1, "types::R"),
+    ("AT_INDIRECT", 2, "types::IR"),
+    ("AT_ZERO", 3, "types::ZERO"),
+    ("AT_NUMBER", 4, ""),
+    ("TYPE_AT_CREATORS", 4, "types::C"),
+    ("TYPE_AT_INDIRECT_CREATORS", 5, "types::IC"),
+    ("SCRIPT_AT_CREATORS", 6, ""),
+    ("SCRIPT_AT_INDIRECT_CREATORS", 7, ""),
+];
+
 /// What the document's text alone gives: header, value.
-const TEXT: [(&str, usize); 18] = [
-    ("AT_KIND", 0),
-    ("AT_READERS", 1),
-    ("AT_INDIRECT", 2),
-    ("AT_ZERO", 3),
-    ("AT_NUMBER", 4),
+const TEXT: [(&str, usize); 13] = [
     ("END_VALUE", End::Value as usize),
     ("END_SPENT", End::Moved as usize),
     ("END_MAY_NOT", End::MayNot as usize),
@@ -181,37 +198,61 @@ const OTHERS: [&str; 6] = [
     "END_REFUSED",
 ];
 
-/// The widths of a row and of type, script and sheet records in each record format, from 1 on. In the second a recursion has a group
-/// in byte 1.
-const FORMATS: [[usize; 4]; 2] = [[4, 4, 6, 4], [4, 4, 6, 4]];
+/// The office's: header, second implementation, engine; and those that are held elsewhere.
+const OLD_WIDTHS: [(&str, usize, &str); 2] = [
+    ("OLD_TYPE_RECORD_BYTES", OLD_TYPE_BYTES, "rewriting::OLD_TYPE_WIDTH"),
+    ("OLD_SCRIPT_RECORD_BYTES", OLD_SCRIPT_BYTES, "rewriting::OLD_SCRIPT_WIDTH"),
+];
+const OFFICE_OTHERS: [&str; 8] = [
+    "COMPARE_STACK_BYTES",
+    "WRITE_CALLERS_STACK_BYTES",
+    "REWRITE_SCRIPT_STACK_BYTES",
+    "REWRITE_TYPES_STACK_BYTES",
+    "COMPARE_NEITHER",
+    "COMPARE_BELOW",
+    "COMPARE_SAME",
+    "COMPARE_REFUSED",
+];
 
-#[test]
-fn every_constant_is_the_engines() {
-    let header = constants();
+/// The widths of a row and of type, script and sheet records in each record format, from 1 on. In the second a recursion has a group
+/// in byte 1, in the third types and scripts have creators.
+const FORMATS: [[usize; 4]; 3] = [[4, 4, 6, 4], [4, 4, 6, 4], [4, 6, 8, 4]];
+
+/// A header has these constants, with these values, `others` and no more.
+fn holds_all(archive: &str, constants: &[(String, usize, &str)], others: &[&str]) {
+    let header = constants_of(archive);
     let engine_has = engine_constants();
-    let mut held: Vec<String> = OTHERS.map(str::to_owned).to_vec();
-    let mut hold = |name: &str, value: usize, path: &str| {
-        let found = *header.get(name).unwrap_or_else(|| panic!("the header has no WIGNELD_{name}"));
-        assert_eq!(found, value, "WIGNELD_{name}");
-        if !path.is_empty() {
-            assert_eq!(found, engine(&engine_has, path), "WIGNELD_{name} and {path}");
+    let mut held: Vec<String> = others.iter().map(|&name| name.to_owned()).collect();
+    for (name, value, path) in constants {
+        let found =
+            *header.get(name).unwrap_or_else(|| panic!("{archive}.h has no WIGNELD_{name}"));
+        assert_eq!(found, *value, "WIGNELD_{name}");
+        if let Some(engines) = engine_if_named(&engine_has, path) {
+            assert_eq!(found, engines, "WIGNELD_{name} and {path}");
         }
-        held.push(name.to_owned());
-    };
-    for (name, value, path) in LIMITS {
-        hold(name, value, path);
-    }
-    for (name, value) in TEXT {
-        hold(name, value, "");
-    }
-    for (prefix, kinds) in [TYPES, KINDS, SHEETS] {
-        for (number, (name, path)) in kinds.iter().enumerate() {
-            hold(&format!("{prefix}{name}"), number, path);
-        }
+        held.push(name.clone());
     }
     held.sort();
     let all: Vec<String> = header.into_keys().collect();
-    assert_eq!(all, held, "constants of the header, and those that are held here");
+    assert_eq!(all, held, "constants of {archive}.h, and those that are held here");
+}
+
+fn owned<'a>(table: &[(&str, usize, &'a str)]) -> Vec<(String, usize, &'a str)> {
+    table.iter().map(|&(name, value, path)| (name.to_owned(), value, path)).collect()
+}
+
+#[test]
+fn every_constant_is_the_engines() {
+    let mut all = owned(&LIMITS);
+    all.extend(owned(&FIELDS));
+    all.extend(TEXT.map(|(name, value)| (name.to_owned(), value, "")));
+    for (prefix, kinds) in [TYPES, KINDS, SHEETS] {
+        for (number, &(name, path)) in kinds.iter().enumerate() {
+            all.push((format!("{prefix}{name}"), number, path));
+        }
+    }
+    holds_all("wigneld", &all, &OTHERS);
+    holds_all("wigneld_office", &owned(&OLD_WIDTHS), &OFFICE_OTHERS);
 }
 
 #[test]
@@ -246,6 +287,10 @@ fn format_says_the_widths() {
     let widths = ["ROW_BYTES", "TYPE_RECORD_BYTES", "SCRIPT_RECORD_BYTES", "SHEET_RECORD_BYTES"];
     assert_eq!(header["FORMAT"], FORMATS.len());
     assert_eq!(widths.map(|name| header[name]), FORMATS[header["FORMAT"] - 1]);
+    // Both older forms have the widths that the rewriting calls read.
+    for [_, types, script, _] in [FORMATS[0], FORMATS[1]] {
+        assert_eq!([types, script], OLD_WIDTHS.map(|(_, width, _)| width));
+    }
 }
 
 /// No run ends as a refusal reads.

@@ -8,7 +8,7 @@ use std::rc::Rc;
 
 use common::records::*;
 use common::*;
-use wigneld_tests::cases::{record, Inputs};
+use wigneld_tests::cases::{case_types, made, record, type_record, Inputs, UNIT_TYPE};
 use wigneld_tests::generate::*;
 use wigneld_tests::groups::{read_groups, Group, Groups};
 use wigneld_tests::limits::*;
@@ -80,11 +80,26 @@ fn shapes(most: usize) -> Vec<Type> {
     found
 }
 
-/// Every (r, ir) with ir ⊑ r.
-fn every_marks(groups: &Groups) -> Vec<Marks> {
+/// Every two groups of which the second is at or below the first.
+fn ordered(groups: &Groups) -> Vec<(Group, Group)> {
     let all = 0..groups.count() as Group;
-    let pairs = all.clone().flat_map(|r| all.clone().map(move |ir| Marks { r, ir }));
-    pairs.filter(|marks| groups.below(marks.ir, marks.r)).collect()
+    let pairs = all.clone().flat_map(|g| all.clone().map(move |h| (g, h)));
+    pairs.filter(|&(g, h)| groups.below(h, g)).collect()
+}
+
+/// Every (r, ir), made by group 0.
+fn every_readers(groups: &Groups) -> Vec<Marks> {
+    ordered(groups).into_iter().map(|(r, ir)| Marks { r, ir, ..LOW }).collect()
+}
+
+/// Every (c, ic), for group 0.
+fn every_creators(groups: &Groups) -> Vec<Marks> {
+    ordered(groups).into_iter().map(|(c, ic)| Marks { c, ic, ..LOW }).collect()
+}
+
+/// A few with both.
+fn some_marks(rng: &mut Rng, groups: &Groups) -> Vec<Marks> {
+    (0..8).map(|_| random_marks(rng, groups)).collect()
 }
 
 /// Every type of this shape.
@@ -117,9 +132,8 @@ struct Universe<'a> {
 }
 
 impl<'a> Universe<'a> {
-    fn of(groups: &'a Groups, shapes: &[Type]) -> Universe<'a> {
-        let marks = every_marks(groups);
-        let all = shapes.iter().flat_map(|shape| of_shape(&marks, shape)).collect();
+    fn of(groups: &'a Groups, marks: &[Marks], shapes: &[Type]) -> Universe<'a> {
+        let all = shapes.iter().flat_map(|shape| of_shape(marks, shape)).collect();
         Universe { groups, all, known: HashMap::new() }
     }
 
@@ -143,6 +157,11 @@ impl<'a> Universe<'a> {
         let both = one.iter().zip(other.iter()).map(|(&one, &other)| one && other);
         match &common {
             Some(least) => {
+                for one in [s, t] {
+                    let (low, high) =
+                        if bound == Bound::LowestAbove { (one, least) } else { (least, one) };
+                    assert!(at_or_below(self.groups, low, high), "{bound:?} {s:?} {t:?}");
+                }
                 let least = self.beyond(bound, least);
                 assert!(both.eq(least.iter().copied()), "{bound:?} {s:?} {t:?}");
             }
@@ -174,9 +193,26 @@ fn common_types_of_all_small_types() {
     // Types of up to three records, over two and three groups.
     for groups in [words(&[3, 2]), words(&[7, 6, 4])] {
         let groups = read_groups(&groups).expect("a lattice");
-        let mut universe = Universe::of(&groups, &shapes(3));
-        let all = universe.all.clone();
-        universe.holds_of(&all);
+        for marks in [every_readers(&groups), every_creators(&groups)] {
+            let mut universe = Universe::of(&groups, &marks, &shapes(3));
+            let all = universe.all.clone();
+            universe.holds_of(&all);
+        }
+    }
+}
+
+/// Some of these types beside all of them.
+fn holds_of_some(rng: &mut Rng, groups: &Groups, marks: &[Marks], shapes: &[Type], count: usize) {
+    let mut universe = Universe::of(groups, marks, shapes);
+    let some: Vec<Type> = (0..count).map(|_| rng.pick(&universe.all).clone()).collect();
+    universe.holds_of(&some);
+}
+
+/// The same with readers alone, with creators alone, and with both.
+fn holds_of_each(rng: &mut Rng, groups: &Groups, shapes: &[Type], count: usize) {
+    let both = some_marks(rng, groups);
+    for marks in [every_readers(groups), every_creators(groups), both] {
+        holds_of_some(rng, groups, &marks, shapes, count);
     }
 }
 
@@ -185,9 +221,11 @@ fn common_types_two_functions_deep() {
     // Functions of five records, each shape by itself, over two groups: parameters of parameters turn back.
     let groups = read_groups(&words(&[3, 2])).expect("a lattice");
     for shape in shapes(5).into_iter().filter(|s| s.kind() == 3 && s.size() == 5) {
-        let mut universe = Universe::of(&groups, &[shape]);
-        let all = universe.all.clone();
-        universe.holds_of(&all);
+        for marks in [every_readers(&groups), every_creators(&groups)] {
+            let mut universe = Universe::of(&groups, &marks, &[shape.clone()]);
+            let all = universe.all.clone();
+            universe.holds_of(&all);
+        }
     }
 }
 
@@ -196,11 +234,7 @@ fn common_types_over_every_small_lattice() {
     // Some of the types of up to three records, beside all of them.
     for table in small_lattices() {
         let groups = read_groups(&table).expect("a lattice");
-        let mut universe = Universe::of(&groups, &shapes(3));
-        drawn(1, |rng| {
-            let some: Vec<Type> = (0..60).map(|_| rng.pick(&universe.all).clone()).collect();
-            universe.holds_of(&some);
-        });
+        drawn(1, |rng| holds_of_each(rng, &groups, &shapes(3), 60));
     }
 }
 
@@ -210,23 +244,18 @@ fn common_types_of_functions_over_case_js_groups() {
     let groups = read_groups(&words(&[15, 10, 12, 8])).expect("case J's groups");
     let function = |s: &Type| s.kind() == 3 && s.sides().is_some_and(|(a, _)| a.kind() == 3);
     for shape in shapes(5).into_iter().filter(function) {
-        let mut universe = Universe::of(&groups, &[shape]);
-        drawn(1, |rng| {
-            let some: Vec<Type> = (0..8).map(|_| rng.pick(&universe.all).clone()).collect();
-            universe.holds_of(&some);
-        });
+        drawn(1, |rng| holds_of_each(rng, &groups, &[shape.clone()], 8));
     }
 }
 
-/// λz : s + t. case z of z | z, the case finding its type. Checking reports the function from the sum to what
-/// it finds.
+/// λz : s + t. case z of z | z, the case finding its type. Made and taken apart by the highest group, the sum
+/// adds nothing, so checking reports the function from the sum to what it finds.
 fn either(groups: &[u8], s: &Type, t: &Type) -> Inputs {
-    let script = [function(0), OWN_CASE, variable(0), variable(0), variable(0)].concat();
-    Inputs {
-        groups: groups.to_vec(),
-        types: [vec![1, 0, 0, 0], s.write(), t.write()].concat(),
-        script,
-    }
+    let top = highest(&read_groups(groups).expect("a lattice"));
+    let case = record(9, top, 0, OWN_TYPE);
+    let sum = made(type_record(1, 0, 0), top, top);
+    let script = [function(0), case, variable(0), variable(0), variable(0)].concat();
+    Inputs { groups: groups.to_vec(), types: [sum.to_vec(), s.write(), t.write()].concat(), script }
 }
 
 /// What checking says of it.
@@ -235,7 +264,10 @@ fn checked_either(groups: &[u8], s: &Type, t: &Type) -> bool {
     let read = read_groups(groups).expect("a lattice");
     match types::common(Bound::LowestAbove, &read, s, t) {
         Some(found) => {
-            check_finds(&inputs, &[vec![3, 0, 0, 0], inputs.types.clone(), found.write()].concat());
+            check_finds(
+                &inputs,
+                &[type_record(3, 0, 0).to_vec(), inputs.types.clone(), found.write()].concat(),
+            );
             true
         }
         None => {
@@ -249,11 +281,13 @@ fn checked_either(groups: &[u8], s: &Type, t: &Type) -> bool {
 fn checking_finds_the_common_type_of_all_small_types() {
     let groups = words(&[3, 2]);
     let read = read_groups(&groups).expect("a lattice");
-    let all = Universe::of(&read, &shapes(3)).all;
-    let pairs = all.iter().flat_map(|s| all.iter().map(move |t| (s, t)));
-    let found = pairs.filter(|(s, t)| checked_either(&groups, s, t)).count();
-    // Of three kinds with sides, and of units.
-    assert_eq!((all.len(), found), (84, 3 * 27 * 27 + 3 * 3));
+    for marks in [every_readers(&read), every_creators(&read)] {
+        let all = Universe::of(&read, &marks, &shapes(3)).all;
+        let pairs = all.iter().flat_map(|s| all.iter().map(move |t| (s, t)));
+        let found = pairs.filter(|(s, t)| checked_either(&groups, s, t)).count();
+        // Of three kinds with sides, and of units.
+        assert_eq!((all.len(), found), (84, 3 * 27 * 27 + 3 * 3));
+    }
 }
 
 #[test]
@@ -285,19 +319,19 @@ fn checking_finds_the_common_type_of_drawn_types() {
 #[rustfmt::skip] // one type on each line
 fn some_types() -> Vec<u8> {
     [
-        [1, 0, 0, 0], [0; 4], [0; 4],
-        [0, 1, 1, 0],
-        [0, 2, 2, 0],
-        [3, 0, 0, 0], [0, 1, 1, 0], [0; 4],
-        [3, 0, 0, 0], [0, 2, 2, 0], [0; 4],
-        [1, 0, 0, 0], [0, 1, 1, 0], [0; 4],
-        [1, 0, 0, 0], [0, 2, 2, 0], [0; 4],
+        type_record(1, 0, 0), UNIT_TYPE, UNIT_TYPE,
+        type_record(0, 1, 1),
+        type_record(0, 2, 2),
+        type_record(3, 0, 0), type_record(0, 1, 1), UNIT_TYPE,
+        type_record(3, 0, 0), type_record(0, 2, 2), UNIT_TYPE,
+        type_record(1, 0, 0), type_record(0, 1, 1), UNIT_TYPE,
+        type_record(1, 0, 0), type_record(0, 2, 2), UNIT_TYPE,
     ]
     .concat()
 }
 
-const ONE: Record = [1, 1, 1, 0, 0, 0];
-const TWO: Record = [1, 2, 2, 0, 0, 0];
+const ONE: Record = [1, 1, 1, 0, 0, 0, 0, 0];
+const TWO: Record = [1, 2, 2, 0, 0, 0, 0, 0];
 
 fn of(records: &[Record]) -> Inputs {
     Inputs { groups: words(&[15, 10, 12, 8]), types: some_types(), script: records.concat() }
@@ -308,7 +342,7 @@ fn own_case(first_branch: &[Record], second_branch: &[Record]) -> Vec<Record> {
     [&[OWN_CASE, first(0), UNIT], first_branch, second_branch].concat()
 }
 
-fn finds(records: &[Record], types: &[[u8; 4]]) {
+fn finds(records: &[Record], types: &[[u8; TYPE_BYTES]]) {
     check_finds(&of(records), &types.concat());
 }
 
@@ -330,32 +364,32 @@ fn refused_by_all(records: &[Record], question: u32, place: u32) {
 #[test]
 fn the_lowest_type_is_found() {
     // Case J: 1 ⊔ 2 = 3, whichever comes first.
-    finds(&own_case(&[ONE], &[TWO]), &[[0, 3, 3, 0]]);
-    finds(&own_case(&[TWO], &[ONE]), &[[0, 3, 3, 0]]);
-    finds(&own_case(&[ONE], &[ONE]), &[[0, 1, 1, 0]]);
-    finds(&own_case(&[UNIT], &[record(1, 1, 0, 0)]), &[[0, 1, 0, 0]]);
+    finds(&own_case(&[ONE], &[TWO]), &[type_record(0, 3, 3)]);
+    finds(&own_case(&[TWO], &[ONE]), &[type_record(0, 3, 3)]);
+    finds(&own_case(&[ONE], &[ONE]), &[type_record(0, 1, 1)]);
+    finds(&own_case(&[UNIT], &[record(1, 1, 0, 0)]), &[type_record(0, 1, 0)]);
     // Parameters: 1 ⊓ 2 = 0, though 1 is the smaller number.
     finds(
         &own_case(&[function(3), UNIT], &[function(4), TWO]),
-        &[[3, 0, 0, 0], [0, 0, 0, 0], [0, 2, 2, 0]],
+        &[type_record(3, 0, 0), type_record(0, 0, 0), type_record(0, 2, 2)],
     );
     // Parameters of parameters turn back: joined.
     finds(
         &own_case(&[function(5), UNIT], &[function(8), UNIT]),
-        &[[3, 0, 0, 0], [3, 0, 0, 0], [0, 3, 3, 0], [0; 4], [0; 4]],
+        &[type_record(3, 0, 0), type_record(3, 0, 0), type_record(0, 3, 3), UNIT_TYPE, UNIT_TYPE],
     );
     // Sides of sums and pairs are joined like their own groups.
     finds(
         &own_case(&[record(4, 1, 0, 11), ONE], &[record(5, 2, 2, 14), UNIT]),
-        &[[1, 3, 2, 0], [0, 3, 3, 0], [0; 4]],
+        &[type_record(1, 3, 2), type_record(0, 3, 3), UNIT_TYPE],
     );
     finds(
         &own_case(&[PAIR, ONE, UNIT], &[PAIR, TWO, ONE]),
-        &[[2, 0, 0, 0], [0, 3, 3, 0], [0, 1, 1, 0]],
+        &[type_record(2, 0, 0), type_record(0, 3, 3), type_record(0, 1, 1)],
     );
     // A branch's variable has its side's type: of type 11, unit (1,1) and unit.
-    finds(&[OWN_CASE, first(11), ONE, variable(0), TWO], &[[0, 3, 3, 0]]);
-    finds(&[OWN_CASE, first(11), ONE, UNIT, variable(0)], &[[0; 4]]);
+    finds(&[OWN_CASE, first(11), ONE, variable(0), TWO], &[type_record(0, 3, 3)]);
+    finds(&[OWN_CASE, first(11), ONE, UNIT, variable(0)], &[UNIT_TYPE]);
 }
 
 #[test]
@@ -363,7 +397,7 @@ fn it_is_raised_by_the_tested_ones_indirect_readers() {
     for (r, ir) in [(0, 0), (1, 0), (1, 1), (3, 2), (3, 3)] {
         let script = [record(9, 3, 0, OWN_TYPE), record(4, r, ir, 0), UNIT, ONE, UNIT];
         let raised = [1, 1, 3, 3][ir as usize];
-        finds(&script, &[[0, raised, raised, 0]]);
+        finds(&script, &[type_record(0, raised, raised)]);
     }
 }
 
@@ -424,7 +458,7 @@ fn drawn_branches_answer_as_they_do_alone() {
         // The table and a sum of units after it, for what is tested.
         let World { groups, types, tables } = World::random(rng);
         let sum = tables.types.count() as u16;
-        let world = World::of(groups, [types, vec![1], vec![0; 11]].concat());
+        let world = World::of(groups, [types, case_types()].concat());
         let with = |script: Vec<u8>| {
             let World { groups, types, .. } = world.clone();
             Inputs { groups, types, script }
@@ -435,7 +469,10 @@ fn drawn_branches_answer_as_they_do_alone() {
             0 => some_typed(rng, &world.tables, fuel).write(),
             _ => near_miss(rng, &world.tables, &one),
         };
-        let all = with([&[OWN_CASE, first(sum), UNIT].concat()[..], &one, &other].concat());
+        // Made and taken apart by the highest group, what is tested adds nothing.
+        let top = highest(&world.tables.groups);
+        let tested = [record(9, top, 0, OWN_TYPE), made(first(sum), top, top), UNIT].concat();
+        let all = with([&tested[..], &one, &other].concat());
         let one = checked(&with(one)).expect("typed by construction");
         let place = (all.script.len() - other.len()) / SCRIPT_BYTES;
         match checked(&with(other)) {
@@ -464,15 +501,15 @@ fn questions_20_to_22_of_a_case_that_finds_its_type() {
     // 20 and 21 as of any case, before a branch is typed.
     ill_typed(&[OWN_CASE, UNIT, PROJECT, UNIT, UNIT], 20, 0);
     ill_typed(&[OWN_CASE, record(4, 1, 0, 0), UNIT, PROJECT, UNIT, UNIT], 21, 0);
-    finds(&[record(9, 1, 0, OWN_TYPE), record(4, 1, 0, 0), UNIT, UNIT, UNIT], &[[0; 4]]);
+    finds(&[record(9, 1, 0, OWN_TYPE), record(4, 1, 0, 0), UNIT, UNIT, UNIT], &[UNIT_TYPE]);
     // 22 isn't asked of its branches, neither above the other nor beside it; of others it is.
-    finds(&own_case(&[ONE], &[UNIT]), &[[0, 1, 1, 0]]);
-    finds(&own_case(&[UNIT], &[ONE]), &[[0, 1, 1, 0]]);
+    finds(&own_case(&[ONE], &[UNIT]), &[type_record(0, 1, 1)]);
+    finds(&own_case(&[UNIT], &[ONE]), &[type_record(0, 1, 1)]);
     ill_typed(&[case(1), first(0), UNIT, ONE, UNIT], 22, 0);
     ill_typed(&own_case(&[first(0), ONE], &[first(0), UNIT]), 22, 3);
     // What it found is asked by 22 around it.
     let around = |parameter| [vec![APPLY, function(parameter), UNIT], own_case(&[ONE], &[UNIT])];
-    finds(&around(3).concat(), &[[0; 4]]);
+    finds(&around(3).concat(), &[UNIT_TYPE]);
     ill_typed(&around(4).concat(), 22, 0);
     // And by 24: a pair of two that have 33 records.
     let large = [[PAIR, UNIT].repeat(16), vec![UNIT]].concat();
@@ -496,26 +533,26 @@ fn question_16_passes_the_number_for_a_case_alone() {
     let script = [record(2, 0, 0, OWN_TYPE), UNIT].concat();
     check_refuses(&Inputs { types, script, ..of(&[]) }, 16, 0);
     // The fields beside it are named as ever.
-    refused_by_all(&[[9, 0, 1, 0, 255, 255], first(0), UNIT, UNIT, UNIT], 14, 0);
-    refused_by_all(&[[9, 4, 0, 0, 255, 255], first(0), UNIT, UNIT, UNIT], 15, 0);
+    refused_by_all(&[record(9, 0, 1, OWN_TYPE), first(0), UNIT, UNIT, UNIT], 14, 0);
+    refused_by_all(&[record(9, 4, 0, OWN_TYPE), first(0), UNIT, UNIT, UNIT], 15, 0);
 }
 
 #[test]
 fn a_case_of_what_such_a_case_found() {
     // The inner case finds the sum of unit (3,3) and unit, which stands nowhere in the table.
     let inner = own_case(&[first(11), ONE], &[first(14), TWO]);
-    finds(&inner, &[[1, 0, 0, 0], [0, 3, 3, 0], [0; 4]]);
+    finds(&inner, &[type_record(1, 0, 0), type_record(0, 3, 3), UNIT_TYPE]);
     // Its sides are the binders' types of the case around it, and so on.
     let around = |tested: &[Record], branches: &[Record]| [&[OWN_CASE], tested, branches].concat();
-    finds(&around(&inner, &[variable(0), UNIT]), &[[0, 3, 3, 0]]);
-    finds(&around(&inner, &[UNIT, variable(0)]), &[[0; 4]]);
+    finds(&around(&inner, &[variable(0), UNIT]), &[type_record(0, 3, 3)]);
+    finds(&around(&inner, &[UNIT, variable(0)]), &[UNIT_TYPE]);
     finds(
         &around(&inner, &[PAIR, variable(0), UNIT, PAIR, UNIT, TWO]),
-        &[[2, 0, 0, 0], [0, 3, 3, 0], [0, 2, 2, 0]],
+        &[type_record(2, 0, 0), type_record(0, 3, 3), type_record(0, 2, 2)],
     );
     let middle = around(&inner, &[first(11), UNIT, second(14), variable(0)]);
-    finds(&middle, &[[1, 0, 0, 0], [0, 3, 3, 0], [0; 4]]);
-    finds(&around(&middle, &[variable(0), ONE]), &[[0, 3, 3, 0]]);
+    finds(&middle, &[type_record(1, 0, 0), type_record(0, 3, 3), UNIT_TYPE]);
+    finds(&around(&middle, &[variable(0), ONE]), &[type_record(0, 3, 3)]);
     // Handed on where unit (1,1) is wanted, unit (3,3) isn't.
     ill_typed(
         &around(&inner, &[first(11), variable(0), first(0), UNIT]),
@@ -657,7 +694,7 @@ fn too_big_counts_two_around_a_redex() {
             let script = [&[head], &put_into(protects, &value)[..], &[UNIT, UNIT]].concat();
             let records = script.len() - if end == 1 { 2 } else { 0 };
             let written = step_reports(&of(&script), REPORT_RUN_BYTES, end, records as u32);
-            assert!(end == 4 || written[..6] == head, "the case's record is kept");
+            assert!(end == 4 || written[..SCRIPT_BYTES] == head, "the case's record is kept");
         }
     }
 }
@@ -739,7 +776,7 @@ fn steps_keep_the_number() {
     // Kind before reader, both before size.
     step_reports(&of(&[OWN_CASE, record(3, 1, 1, 0), UNIT, UNIT, UNIT, UNIT]), 700, 3, 6);
     step_reports(&of(&[OWN_CASE, record(4, 1, 1, 0), UNIT, UNIT, UNIT]), 0, 2, 5);
-    step_reports(&of(&[OWN_CASE, first(0), UNIT, UNIT, UNIT]), 11, 4, 5);
+    step_reports(&of(&[OWN_CASE, first(0), UNIT, UNIT, UNIT]), 15, 4, 5);
 }
 
 #[test]

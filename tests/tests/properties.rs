@@ -11,11 +11,13 @@ use wigneld_tests::generate::*;
 use wigneld_tests::groups::{read_groups, Group, Groups};
 use wigneld_tests::limits::*;
 use wigneld_tests::refusal::Refusal;
-use wigneld_tests::script::{read_script, Record, Term};
+use wigneld_tests::script::{names_type, read_script, Record, Side, Term};
 use wigneld_tests::sheet::CLOSED;
 use wigneld_tests::steps::{is_value, End};
 use wigneld_tests::strip::ONE_GROUP;
-use wigneld_tests::types::{self, raise, raise_marks, read_type, Comparison, Form, Marks, Type};
+use wigneld_tests::types::{
+    self, raise, read_tables, read_type, Comparison, Form, Marks, Raise, Type,
+};
 
 /// The inputs of a term over a world's tables.
 fn inputs_of(world: &World, term: &Term) -> Inputs {
@@ -40,9 +42,10 @@ fn typed(rng: &mut Rng, world: &World) -> Rc<Term> {
 
 /// Is a recursive call of the script made as another group than r of the recursion's type?
 fn calls_as_another(inputs: &Inputs) -> bool {
-    let mut own = inputs.script.clone();
-    write_callers(&inputs.types, &mut own);
-    own != inputs.script
+    let Inputs { types, script, .. } = old_form(inputs);
+    let mut own = script.clone();
+    write_callers(&types, &mut own);
+    own != script
 }
 
 /// Has the script a case that finds its own type?
@@ -233,7 +236,10 @@ fn comparison_of_types_in_one_table() {
         let answer = compare(&world.groups, &table, i, j).expect("a table of two types");
         let back = compare(&world.groups, &table, j, i).expect("a table of two types");
         assert_eq!(compare(&world.groups, &table, i, i), Ok(Comparison::Same));
-        assert_eq!(answer == Comparison::Same, table[..s.size() * 4] == table[s.size() * 4..]);
+        assert_eq!(
+            answer == Comparison::Same,
+            table[..s.size() * TYPE_BYTES] == table[s.size() * TYPE_BYTES..]
+        );
         assert_eq!(answer != Comparison::Neither, types::at_or_below(groups, &s, &t));
         assert_eq!(answer == Comparison::Same, answer.min(back) != Comparison::Neither);
         assert_eq!(answer, least(groups, &s, &t));
@@ -251,7 +257,9 @@ fn comparison_of_types_in_one_table() {
             }
         }
         // No index past the table passes, however wide.
-        for past in [table.len() as u64 / 4, 256, 65_536, 1 << 32, (1 << 32) + i, u64::MAX] {
+        for past in
+            [(table.len() / TYPE_BYTES) as u64, 256, 65_536, 1 << 32, (1 << 32) + i, u64::MAX]
+        {
             assert_eq!(compare(&world.groups, &table, past, j), no(25, 0));
             assert_eq!(compare(&world.groups, &table, i, past), no(25, 1));
         }
@@ -269,8 +277,8 @@ fn raising_is_monotone_and_commutes() {
         let size = 1 + 2 * rng.below(6);
         let s = random_type(rng, groups, size);
         let t = random_variant(rng, groups, &s);
-        let (g, h) = (any_group(rng, groups), any_group(rng, groups));
-        let join = groups.join(g, h);
+        let (g, h) = (random_raise(rng, groups), random_raise(rng, groups));
+        let join = Raise { ir: groups.join(g.ir, h.ir), ic: groups.meet(g.ic, h.ic) };
         assert!(types::at_or_below(groups, &s, &raise(groups, &s, g)), "raising raises");
         assert!(types::at_or_below(groups, &raise(groups, &s, g), &raise(groups, &s, join)));
         if types::at_or_below(groups, &s, &t) {
@@ -280,9 +288,15 @@ fn raising_is_monotone_and_commutes() {
         assert_eq!(both, raise(groups, &raise(groups, &s, h), g));
         assert_eq!(both, raise(groups, &s, join));
         assert_eq!(both.form, s.form, "nowhere deeper");
-        assert_eq!(raise(groups, &s, 0), s, "the lowest group changes nothing");
-        let Marks { r, ir } = raise_marks(groups, s.marks, g);
-        assert!(groups.below(ir, r), "still ir ⊑ r");
+        let nothing = Raise { ir: 0, ic: highest(groups) };
+        assert_eq!(raise(groups, &s, nothing), s, "no reader more, and no creator less");
+        let Marks { r, ir, c, ic } = raise(groups, &s, g).marks;
+        assert!(groups.below(ir, r) && groups.below(ic, c), "still ir ⊑ r and ic ⊑ c");
+        // Each part by itself: readers are joined, creators met.
+        let join = |h| groups.join(h, g.ir);
+        let meet = |h| groups.meet(h, g.ic);
+        assert_eq!((r, ir), (join(s.marks.r), join(s.marks.ir)));
+        assert_eq!((c, ic), (meet(s.marks.c), meet(s.marks.ic)));
     });
 }
 
@@ -303,6 +317,111 @@ fn scripts_read_back_as_written() {
     });
 }
 
+/// Two groups of which the second isn't at or below the first, unless there is only one group.
+fn out_of_order(rng: &mut Rng, groups: &Groups) -> Option<(Group, Group)> {
+    let all = 0..groups.count() as Group;
+    let pairs = all.clone().flat_map(|g| all.clone().map(move |h| (g, h)));
+    let found: Vec<(Group, Group)> = pairs.filter(|&(g, h)| !groups.below(h, g)).collect();
+    (!found.is_empty()).then(|| *rng.pick(&found))
+}
+
+/// Puts a fault into one type record and gives its question, where one can be.
+fn spoil_type(rng: &mut Rng, groups: &Groups, record: &mut [u8]) -> Option<u32> {
+    match rng.below(3) {
+        0 => {
+            record[*rng.pick(&[1, 2, 4, 5])] = groups.count() as u8;
+            Some(9)
+        }
+        1 => {
+            (record[1], record[2]) = out_of_order(rng, groups)?;
+            Some(10)
+        }
+        _ => {
+            (record[4], record[5]) = out_of_order(rng, groups)?;
+            Some(36)
+        }
+    }
+}
+
+/// The same of a script record.
+fn spoil_record(rng: &mut Rng, groups: &Groups, record: &mut [u8]) -> Option<u32> {
+    let kind = record[0];
+    let object = (1..=5).contains(&kind);
+    match rng.below(5) {
+        // A protect has no c, and neither has what isn't an object.
+        0 if !object => {
+            record[6] = rng.below(groups.count()).max(1) as u8;
+            Some(14)
+        }
+        1 if object || kind == 10 => {
+            record[if object { *rng.pick(&[1, 2, 6, 7]) } else { 7 }] = groups.count() as u8;
+            Some(15)
+        }
+        2 if object => {
+            (record[1], record[2]) = out_of_order(rng, groups)?;
+            Some(15)
+        }
+        3 if object => {
+            (record[6], record[7]) = out_of_order(rng, groups)?;
+            Some(36)
+        }
+        _ if names_type(kind) => {
+            record[4..6].copy_from_slice(&(OWN_TYPE - 1).to_le_bytes());
+            Some(16)
+        }
+        _ => None,
+    }
+}
+
+/// Spoils a few records, and gives the first no that is then due: by the order of the questions, then by record.
+fn spoiled(
+    rng: &mut Rng,
+    bytes: &mut [u8],
+    width: usize,
+    order: &[u32],
+    spoil: impl Fn(&mut Rng, &mut [u8]) -> Option<u32>,
+) -> Option<Refusal> {
+    let mut faults = Vec::new();
+    let mut places: Vec<usize> =
+        (0..rng.between(1, 4)).map(|_| rng.below(bytes.len() / width)).collect();
+    places.sort();
+    places.dedup();
+    for place in places {
+        let question = spoil(rng, &mut bytes[place * width..(place + 1) * width]);
+        let position = question.and_then(|question| order.iter().position(|&q| q == question));
+        faults.extend(position.map(|position| (position, place as u32)));
+    }
+    let (position, place) = faults.into_iter().min()?;
+    Some(Refusal { question: order[position], place })
+}
+
+#[test]
+fn each_question_is_put_to_all_records_before_the_next() {
+    let mut seen = [0; LAST_QUESTION + 1];
+    let enough = examples(3000, |rng| {
+        let world = World::random(rng);
+        let groups = groups_of(&world);
+        let mut types = world.types.clone();
+        let due = spoiled(rng, &mut types, TYPE_BYTES, &[9, 10, 36], |rng, record| {
+            spoil_type(rng, groups, record)
+        });
+        assert_eq!(types_check(&world.groups, &types), due.map_or(Ok(()), Err));
+        seen[due.map_or(0, |refusal| refusal.question as usize)] += 1;
+
+        let mut inputs = inputs_of(&world, &untyped_script(rng, &world.tables, 40));
+        let order = [14, 15, 36, 16];
+        let due = spoiled(rng, &mut inputs.script, SCRIPT_BYTES, &order, |rng, record| {
+            spoil_record(rng, groups, record)
+        });
+        let (stepped, _) = step_in(&inputs, 0);
+        assert_eq!(stepped.err(), due);
+        seen[due.map_or(0, |refusal| refusal.question as usize)] += 1;
+    });
+    for question in [0, 9, 10, 14, 15, 16, 36] {
+        assert!(!enough || seen[question] > 0, "question {question} was drawn: {seen:?}");
+    }
+}
+
 #[test]
 fn a_subterm_is_one_whole_part() {
     examples(500, |rng| {
@@ -316,16 +435,20 @@ fn a_subterm_is_one_whole_part() {
         fn walk(term: &Term, script: &[u8], at: usize) -> usize {
             let part = subterm(script, at as u64);
             assert_eq!(part, term.write());
-            assert_eq!(part.as_ptr(), script[at * 6..].as_ptr(), "a part of the caller's script");
+            assert_eq!(
+                part.as_ptr(),
+                script[at * SCRIPT_BYTES..].as_ptr(),
+                "a part of the caller's script"
+            );
             term.operands().iter().fold(at + 1, |at, (operand, _)| walk(operand, script, at))
         }
         assert_eq!(walk(&term, &script, 0), count);
         for past in [count as u64, count as u64 + 1, 1 << 32, u64::MAX] {
             assert_eq!(subterm(&script, past), &[] as &[u8]);
         }
-        let cut = script.len() - 6;
+        let cut = script.len() - SCRIPT_BYTES;
         assert_eq!(subterm(&script[..cut], 0), &[] as &[u8], "cut short");
-        assert_eq!(subterm(&script[..cut + 5], 0), &[] as &[u8], "no whole records");
+        assert_eq!(subterm(&script[..cut + SCRIPT_BYTES - 1], 0), &[] as &[u8], "no whole records");
         let over = [script.clone(), script.clone()].concat();
         assert_eq!(subterm(&over, 0), &[] as &[u8], "left over");
     });
@@ -361,7 +484,7 @@ fn scripts_made_to_be_typed_are_accepted() {
 #[test]
 fn demand_3_holds_of_whole_runs() {
     let mut ends = [0; 5];
-    let (mut longest, mut by_another, mut own_type) = (0, 0, 0);
+    let (mut longest, mut by_another, mut own_type, mut creators) = (0, 0, 0, 0);
     let enough = examples(900, |rng| {
         let world = World::random(rng);
         let inputs = inputs_of(&world, &typed(rng, &world));
@@ -380,6 +503,8 @@ fn demand_3_holds_of_whole_runs() {
         longest = longest.max(report.steps);
         by_another += (report.steps > 0 && calls_as_another(&inputs)) as u32;
         own_type += (report.steps > 0 && finds_own_type(&inputs.script)) as u32;
+        let made = (found.marks.c, found.marks.ic) != (0, 0);
+        creators += (report.steps > 0 && made) as u32;
 
         // Every reached term is accepted at or below the reported type.
         let mut reached = inputs.clone();
@@ -416,6 +541,7 @@ fn demand_3_holds_of_whole_runs() {
     assert!(!enough || longest > 50, "some run is long: {longest}");
     assert!(!enough || by_another > 0, "calls were made as a group above r of their type");
     assert!(!enough || own_type > 0, "cases that find their type were run");
+    assert!(!enough || creators > 20, "creators were left after steps: {creators}");
 }
 
 #[test]
@@ -445,10 +571,19 @@ fn demand_3_holds_of_large_scripts() {
     assert!(!enough || largest > 4000, "some script is large: {largest}");
 }
 
+/// Do the readers of the recursion at this place fulfil its condition?
+fn readers_recur(inputs: &Inputs, at: Refusal) -> bool {
+    let tables = read_tables(&inputs.groups, &inputs.types).expect("accepted");
+    let record = Record::read(&inputs.script[at.place as usize * SCRIPT_BYTES..]);
+    let own = tables.types.at(record.number.into());
+    let (_, result) = own.sides().expect("a function has sides");
+    tables.groups.below(own.marks.ir, result.marks.ir)
+}
+
 #[test]
 fn near_misses_that_pass_obey_demand_3_too() {
     let (mut passed, mut by_another) = (0, 0);
-    let (mut refused, mut refused_recursion) = ([0; LAST_QUESTION + 1], 0);
+    let (mut refused, mut refused_recursion, mut by_creators) = ([0; LAST_QUESTION + 1], 0, 0);
     let enough = examples(4000, |rng| {
         let world = World::random(rng);
         let script = typed(rng, &world).write();
@@ -461,11 +596,14 @@ fn near_misses_that_pass_obey_demand_3_too() {
         match reported(&inputs) {
             Err(refusal) => {
                 check_refuses(&inputs, refusal.question, refusal.place);
-                assert!(refusal.place as usize <= inputs.script.len() / SCRIPT_BYTES);
+                let types = inputs.types.len() / TYPE_BYTES;
+                let script = inputs.script.len() / SCRIPT_BYTES;
+                assert!(refusal.place as usize <= types.max(script));
                 refused[refusal.question as usize] += 1;
                 let at_recursion =
                     inputs.script.get(refusal.place as usize * SCRIPT_BYTES) == Some(&11);
                 refused_recursion += (refusal.question == 21 && at_recursion) as u32;
+                by_creators += (refusal.question == 23 && readers_recur(&inputs, refusal)) as u32;
                 // What stands before typing is asked by a run too.
                 if !refusal.is_of_typing() {
                     run_refuses(&inputs, refusal.question, refusal.place);
@@ -485,7 +623,8 @@ fn near_misses_that_pass_obey_demand_3_too() {
     });
     assert!(!enough || passed > 0 && by_another > 0);
     assert!(!enough || refused_recursion > 0, "21 was answered no at a recursion");
-    for question in [14, 15, 16, 17, 19, 20, 21, 22, 23, 31] {
+    assert!(!enough || by_creators > 0, "23 was answered no by creators alone");
+    for question in [9, 10, 14, 15, 16, 17, 19, 20, 21, 22, 23, 31, 36] {
         assert!(!enough || refused[question] > 0, "question {question} was drawn: {refused:?}");
     }
 }
@@ -493,30 +632,85 @@ fn near_misses_that_pass_obey_demand_3_too() {
 #[test]
 fn the_reported_type_does_not_depend_on_how_the_script_is_wrapped() {
     // Protecting raises, projecting a pair gives its part back, applying the identity the same.
-    examples(500, |rng| {
+    let mut values = 0;
+    let enough = examples(500, |rng| {
         let world = World::random(rng);
         let groups = groups_of(&world);
         let term = typed(rng, &world);
         let found = reported(&inputs_of(&world, &term)).expect("typed by construction");
         let marks = random_marks(rng, groups);
-        let top = (groups.count() - 1) as Group;
 
-        let protect = Term::Protect(marks.ir, term.clone());
+        let by = random_raise(rng, groups);
+        let protect = Term::Protect(by, term.clone());
         let own = reported(&inputs_of(&world, &protect)).expect("typed");
-        assert_eq!(own, raise(groups, &found, marks.ir));
+        assert_eq!(own, raise(groups, &found, by));
 
         if found.size() + 2 <= MOST_TYPE_RECORDS {
-            for side in [wigneld_tests::script::Side::First, wigneld_tests::script::Side::Second] {
+            for side in [Side::First, Side::Second] {
                 let pair = match side {
-                    wigneld_tests::script::Side::First => Term::Pair(marks, term.clone(), unit()),
-                    _ => Term::Pair(marks, unit(), term.clone()),
+                    Side::First => Term::Pair(marks, term.clone(), unit()),
+                    Side::Second => Term::Pair(marks, unit(), term.clone()),
                 };
-                let part = Term::Projection(side, top, Rc::new(pair));
+                // Any group that may read it: it is met with the pair's ic.
+                let node = groups.join(marks.r, any_group(rng, groups));
+                let by = Raise { ir: marks.ir, ic: groups.meet(marks.ic, node) };
+                let part = Term::Projection(side, node, Rc::new(pair));
                 let own = reported(&inputs_of(&world, &part)).expect("typed");
-                assert_eq!(own, raise(groups, &found, marks.ir));
+                assert_eq!(own, raise(groups, &found, by));
+                // Where it is a value, a step protects it by just that.
+                if is_value(&term) {
+                    values += 1;
+                    let protected = Term::Protect(by, term.clone()).write();
+                    let records = term.size() as u32 + 1;
+                    let moved =
+                        step_reports(&inputs_of(&world, &part), protected.len(), 1, records);
+                    assert_eq!(moved, protected);
+                }
             }
         }
     });
+    assert!(!enough || values > 0, "values were wrapped");
+}
+
+#[test]
+fn question_23_asks_what_unrolling_needs() {
+    // λx. (f x)_g with the groups of f's type s, which is what stands for f once μf : s is unrolled: 23 is answered no
+    // exactly where it isn't at or below s.
+    let (mut passed, mut by_readers, mut by_creators) = (0, 0, 0);
+    let enough = examples(3000, |rng| {
+        let bytes = random_groups(rng);
+        let groups = read_groups(&bytes).expect("a lattice");
+        let mut part = || {
+            let size = 1 + 2 * rng.below(2);
+            Rc::new(random_type(rng, &groups, size))
+        };
+        let form = Form::Function(part(), part());
+        let s = Type { marks: random_marks(rng, &groups), form };
+        let g = groups.join(s.marks.r, any_group(rng, &groups));
+        let reported_of = |term: Term| {
+            let (groups, types) = (bytes.clone(), s.write());
+            reported(&Inputs { groups, types, script: term.write() })
+        };
+
+        let call = Term::Application(g, Rc::new(Term::Variable(1)), Rc::new(Term::Variable(0)));
+        let own = Rc::new(Term::Function(s.marks, 1, Rc::new(call)));
+        let around = reported_of(Term::Function(LOW, 0, own.clone())).expect("typed");
+        let (_, found) = around.sides().expect("a function has sides");
+        let fits = types::at_or_below(&groups, found, &s);
+        let answer = reported_of(Term::Recursion(g, 0, own));
+        let expected = if fits { Ok(s.clone()) } else { Err(Refusal { question: 23, place: 0 }) };
+        assert_eq!(answer, expected);
+
+        let (_, result) = s.sides().expect("a function has sides");
+        let tally = match (fits, groups.below(s.marks.ir, result.marks.ir)) {
+            (true, _) => &mut passed,
+            (false, true) => &mut by_creators,
+            (false, false) => &mut by_readers,
+        };
+        *tally += 1;
+    });
+    let all = passed > 0 && by_readers > 0 && by_creators > 0;
+    assert!(!enough || all, "drawn: {passed}, {by_readers}, {by_creators}");
 }
 
 // ---------------------------------------------------------------------------------------------
@@ -598,9 +792,10 @@ fn stripping_clears_groups_and_nothing_else() {
         strip_types(&mut types);
         assert_eq!((script.len(), types.len()), (length, length));
         for at in 0..length {
-            let cleared = [1, 2].contains(&(at % 6));
+            // r, ir, c and ic: kind, zero and number stay.
+            let cleared = ![0, 3, 4, 5].contains(&(at % SCRIPT_BYTES));
             assert_eq!(script[at], if cleared { 0 } else { before[at] });
-            let cleared = [1, 2].contains(&(at % 4));
+            let cleared = ![0, 3].contains(&(at % TYPE_BYTES));
             assert_eq!(types[at], if cleared { 0 } else { before[at] });
         }
     });
@@ -681,7 +876,10 @@ fn sheets_show_more_to_higher_groups() {
         let fuel = rng.below(40);
         let value = untyped_value(rng, &world.tables, fuel);
         let top = whole_sheet(&world, &value, (groups.count() - 1) as Group);
-        assert!(top.chunks(4).all(|record| record[0] != CLOSED), "the top reads everything");
+        assert!(
+            top.chunks(SHEET_BYTES).all(|record| record[0] != CLOSED),
+            "the top reads everything"
+        );
         let (g, h) = (any_group(rng, groups), any_group(rng, groups));
         let (low, high) =
             (whole_sheet(&world, &value, g), whole_sheet(&world, &value, groups.join(g, h)));

@@ -1,15 +1,16 @@
-//! Each question 1 to 27: its place, the order between them, and every lent byte after a no. `own_type.rs` has 31; here is its
-//! place among the others.
+//! Each question 1 to 27, and 36: its place, the order between them, and every lent byte after a no. `own_type.rs` has 31; here is
+//! its place among the others.
 
 mod common;
 
 use common::records::*;
 use common::*;
-use wigneld_tests::cases::{self, record, Inputs};
+use wigneld_tests::cases::{self, made, record, set, type_record, Inputs, UNIT_TYPE};
 use wigneld_tests::generate::*;
 use wigneld_tests::limits::*;
-use wigneld_tests::script::{operand_count, Side, Term, OPERANDS};
-use wigneld_tests::types::{Comparison, Marks};
+use wigneld_tests::refusal::Refusal;
+use wigneld_tests::script::{names_number, operand_count, Side, Term, OPERANDS};
+use wigneld_tests::types::Comparison;
 
 use std::rc::Rc;
 
@@ -24,33 +25,68 @@ fn below(g: u8, h: u8) -> bool {
 }
 
 /// Records: 0 sum of units, 3 function of units, 6 pair of units, 9 unit (3,3), 10 function (3,3)
-/// of units, 13 sum of unit and unit (3,3), all other groups 0.
+/// of units, 13 sum of unit and unit (3,3), 16 sum of a unit made by 1 and unit, 19 function from unit
+/// to a unit made by 1, all other groups 0.
 #[rustfmt::skip] // one type on each line
 fn some_types() -> Vec<u8> {
     [
-        [1, 0, 0, 0], [0; 4], [0; 4],
-        [3, 0, 0, 0], [0; 4], [0; 4],
-        [2, 0, 0, 0], [0; 4], [0; 4],
-        [0, 3, 3, 0],
-        [3, 3, 3, 0], [0; 4], [0; 4],
-        [1, 0, 0, 0], [0; 4], [0, 3, 3, 0],
+        type_record(1, 0, 0), UNIT_TYPE, UNIT_TYPE,
+        type_record(3, 0, 0), UNIT_TYPE, UNIT_TYPE,
+        type_record(2, 0, 0), UNIT_TYPE, UNIT_TYPE,
+        type_record(0, 3, 3),
+        type_record(3, 3, 3), UNIT_TYPE, UNIT_TYPE,
+        type_record(1, 0, 0), UNIT_TYPE, type_record(0, 3, 3),
+        type_record(1, 0, 0), made(UNIT_TYPE, 1, 0), UNIT_TYPE,
+        type_record(3, 0, 0), UNIT_TYPE, made(UNIT_TYPE, 1, 0),
     ]
     .concat()
 }
 
-const TYPE_COUNT: u16 = 16;
+const TYPE_COUNT: u16 = 22;
 
 fn with(script: Vec<u8>) -> Inputs {
     Inputs { groups: diamond_groups(), types: some_types(), script }
 }
 
-fn of(records: &[[u8; 6]]) -> Inputs {
+fn of(records: &[Record]) -> Inputs {
     with(records.concat())
 }
 
 fn accepted(inputs: &Inputs) {
     let (result, _, _) = check_in(inputs, WORK_BYTES, ANSWER_BYTES);
     assert!(result.is_ok(), "{result:?}");
+}
+
+/// The meet of two of these four groups.
+fn meet(g: u8, h: u8) -> u8 {
+    if below(g, h) {
+        g
+    } else if below(h, g) {
+        h
+    } else {
+        0
+    }
+}
+
+/// All pairs of these four groups.
+fn pairs() -> impl Iterator<Item = (u8, u8)> {
+    (0..4).flat_map(|g| (0..4).map(move |h| (g, h)))
+}
+
+/// The rewriting of inputs whose creators are 0 asks what the other calls ask of them, but for the widths in 8 and 13.
+fn refused_in_old_form(inputs: &Inputs, question: u32, place: u32) {
+    let plain = |bytes: &[u8], width: usize| {
+        bytes.len() % width == 0 && bytes.chunks(width).all(|record| record[width - 2..] == [0; 2])
+    };
+    if plain(&inputs.types, TYPE_BYTES) && plain(&inputs.script, SCRIPT_BYTES) {
+        // A buffer that is too short is asked about later.
+        for room in [0, 700] {
+            rewriting_refuses(&old_form(inputs), room, question, place);
+            if question <= 12 {
+                rewriting_of_types_refuses(&old_form(inputs), room, question, place);
+            }
+        }
+    }
 }
 
 /// A no before typing, by every call that asks it.
@@ -64,12 +100,13 @@ fn refused_by_all(inputs: &Inputs, question: u32, place: u32) {
     let (seen, sheet) = sheet_in(inputs, 99, 3);
     assert_eq!(seen, no(question, place));
     assert_eq!(sheet, filled(3));
+    refused_in_old_form(inputs, question, place);
 }
 
 #[test]
 fn the_tables_here_are_accepted() {
     assert_eq!(types_check(&diamond_groups(), &some_types()), Ok(()));
-    assert_eq!(some_types().len(), TYPE_COUNT as usize * 4);
+    assert_eq!(some_types().len(), TYPE_COUNT as usize * TYPE_BYTES);
     accepted(&of(&[UNIT]));
 }
 
@@ -78,31 +115,33 @@ fn the_tables_here_are_accepted() {
 
 #[test]
 fn question_1_work_and_answer_buffer() {
-    assert_eq!((WORK_BYTES, ANSWER_BYTES), (64_512, 252));
+    assert_eq!((WORK_BYTES, ANSWER_BYTES), (96_768, 378));
     let whole = of(&[UNIT]);
     let broken = Inputs { groups: vec![], types: vec![], script: vec![] };
     for inputs in [&whole, &broken] {
         for (work, answer) in [
-            (64_511, 252),
-            (64_512, 251),
-            (64_511, 251),
-            (0, 252),
-            (64_512, 0),
+            (96_767, 378),
+            (96_768, 377),
+            (96_767, 377),
+            (0, 378),
+            (96_768, 0),
             (0, 0),
-            (252, 64_512),
+            (378, 96_768),
+            // As much as was asked before item 10.
+            (64_512, 252),
         ] {
             let (result, work_after, answer_after) = check_in(inputs, work, answer);
             assert_eq!(result, no(1, 0));
             assert_eq!((work_after, answer_after), (filled(work), filled(answer)));
         }
     }
-    let (result, work, answer) = check_in(&whole, 64_512, 252);
+    let (result, work, answer) = check_in(&whole, 96_768, 378);
     assert_eq!(result, Ok(1));
-    assert_eq!(work, vec![0; 64_512]);
-    assert_eq!(answer, [&[0; 4], &filled(252)[4..]].concat());
+    assert_eq!(work, vec![0; 96_768]);
+    assert_eq!(answer, [&UNIT_TYPE, &filled(378)[TYPE_BYTES..]].concat());
     // The whole of a longer buffer is zeroed.
-    let (_, work, _) = check_in(&whole, 70_001, 300);
-    assert_eq!(work, vec![0; 70_001]);
+    let (_, work, _) = check_in(&whole, 100_001, 400);
+    assert_eq!(work, vec![0; 100_001]);
 }
 
 // ---------------------------------------------------------------------------------------------
@@ -216,7 +255,7 @@ fn types_accepted(types: &[u8]) {
 
 #[test]
 fn question_8_whole_records() {
-    for length in [0, 1, 2, 3, 5, 7, 4096 * 4 + 1, 4097 * 4] {
+    for length in [0, 1, 4, 5, 7, 8, 4096 * 6 - 2, 4096 * 6 + 1, 4097 * 6] {
         types_refused(&vec![0; length], 8, 0);
         types_refused(&vec![9; length], 8, 0);
     }
@@ -228,18 +267,28 @@ fn question_8_whole_records() {
 fn question_9_kind_zero_and_groups() {
     let good = some_types();
     for place in 0..TYPE_COUNT as usize {
-        for (byte, values) in
-            [(0, [4, 5, 255]), (1, [4, 32, 255]), (2, [4, 32, 255]), (3, [1, 128, 255])]
-        {
+        let outside = [4, 32, 255];
+        for (byte, values) in [
+            (0, [4, 5, 255]),
+            (1, outside),
+            (2, outside),
+            (3, [1, 128, 255]),
+            (4, outside),
+            (5, outside),
+        ] {
             for value in values {
                 let mut types = good.clone();
-                types[place * 4 + byte] = value;
+                types[place * TYPE_BYTES + byte] = value;
                 types_refused(&types, 9, place as u32);
             }
         }
     }
     // Before question 10, which record 0 fails, and 11, which the last record would.
-    types_refused(&[[0, 0, 1, 0], [0, 0, 0, 0], [4, 0, 0, 0]].concat(), 9, 2);
+    types_refused(
+        &[type_record(0, 0, 1), type_record(0, 0, 0), type_record(4, 0, 0)].concat(),
+        9,
+        2,
+    );
 }
 
 #[test]
@@ -247,51 +296,94 @@ fn question_10_ir_below_r() {
     for place in 0..TYPE_COUNT as usize {
         for (r, ir) in [(0, 1), (0, 2), (0, 3), (1, 2), (2, 1), (1, 3), (2, 3)] {
             let mut types = some_types();
-            types[place * 4 + 1] = r;
-            types[place * 4 + 2] = ir;
+            types[place * TYPE_BYTES + 1] = r;
+            types[place * TYPE_BYTES + 2] = ir;
             types_refused(&types, 10, place as u32);
         }
         for (r, ir) in [(0, 0), (1, 0), (2, 0), (3, 0), (1, 1), (3, 1), (2, 2), (3, 2), (3, 3)] {
             let mut types = some_types();
-            types[place * 4 + 1] = r;
-            types[place * 4 + 2] = ir;
+            types[place * TYPE_BYTES + 1] = r;
+            types[place * TYPE_BYTES + 2] = ir;
             types_accepted(&types);
         }
     }
     // Before question 11.
-    types_refused(&[[1, 0, 0, 0], [0, 0, 0, 0], [1, 0, 1, 0]].concat(), 10, 2);
+    types_refused(
+        &[type_record(1, 0, 0), type_record(0, 0, 0), type_record(1, 0, 1)].concat(),
+        10,
+        2,
+    );
+}
+
+#[test]
+fn question_36_of_types() {
+    let with = |place: usize, c: u8, ic: u8| {
+        let mut types = some_types();
+        types[place * TYPE_BYTES + 4..][..2].copy_from_slice(&[c, ic]);
+        types
+    };
+    for place in 0..TYPE_COUNT as usize {
+        for (c, ic) in pairs() {
+            // Readers play no part: some records are for group 3.
+            if below(ic, c) {
+                types_accepted(&with(place, c, ic));
+            } else {
+                types_refused(&with(place, c, ic), 36, place as u32);
+            }
+        }
+    }
+    // The first of two such records.
+    let mut types = with(3, 1, 2);
+    set(&mut types, 5, made(UNIT_TYPE, 0, 1));
+    types_refused(&types, 36, 3);
+    // All of 9 and all of 10 come before it, of later records too.
+    let mut later = with(0, 0, 3);
+    set(&mut later, 15, made(type_record(0, 0, 1), 0, 3));
+    types_refused(&later, 10, 15);
+    set(&mut later, 15, made(UNIT_TYPE, 4, 0));
+    types_refused(&later, 9, 15);
+    // Before 11 and 12.
+    types_refused(&[UNIT_TYPE, made(type_record(1, 0, 0), 1, 2)].concat(), 36, 1);
+    types_refused(&[&wide_type(65).write()[..], &made(UNIT_TYPE, 2, 3)].concat(), 36, 65);
 }
 
 #[test]
 fn question_11_the_last_type_ends() {
-    types_refused(&[1, 0, 0, 0], 11, 0);
-    types_refused(&[[2, 0, 0, 0], [0; 4]].concat(), 11, 0);
-    types_refused(&[[0; 4], [3, 0, 0, 0], [0; 4]].concat(), 11, 1);
+    types_refused(&type_record(1, 0, 0), 11, 0);
+    types_refused(&[type_record(2, 0, 0), UNIT_TYPE].concat(), 11, 0);
+    types_refused(&[UNIT_TYPE, type_record(3, 0, 0), UNIT_TYPE].concat(), 11, 1);
     // The outermost unfinished one, not those inside it.
-    types_refused(&[[0; 4], [2, 0, 0, 0], [0; 4], [1, 0, 0, 0], [0; 4]].concat(), 11, 1);
-    types_refused(&[[0; 4], [2, 0, 0, 0], [1, 0, 0, 0], [0; 4], [0; 4]].concat(), 11, 1);
-    types_refused(&[some_types(), vec![3, 0, 0, 0]].concat(), 11, TYPE_COUNT as u32);
+    types_refused(
+        &[UNIT_TYPE, type_record(2, 0, 0), UNIT_TYPE, type_record(1, 0, 0), UNIT_TYPE].concat(),
+        11,
+        1,
+    );
+    types_refused(
+        &[UNIT_TYPE, type_record(2, 0, 0), type_record(1, 0, 0), UNIT_TYPE, UNIT_TYPE].concat(),
+        11,
+        1,
+    );
+    types_refused(&[some_types(), type_record(3, 0, 0).to_vec()].concat(), 11, TYPE_COUNT as u32);
     // Before question 12.
-    types_refused(&[wide_type(65).write(), vec![3, 0, 0, 0]].concat(), 11, 65);
-    types_refused(&[2, 0, 0, 0].repeat(4096), 11, 0);
+    types_refused(&[wide_type(65).write(), type_record(3, 0, 0).to_vec()].concat(), 11, 65);
+    types_refused(&type_record(2, 0, 0).repeat(4096), 11, 0);
 }
 
 #[test]
 fn question_12_at_most_63_records() {
     types_accepted(&wide_type(63).write());
     types_refused(&wide_type(65).write(), 12, 0);
-    types_refused(&[vec![0; 8], wide_type(65).write()].concat(), 12, 2);
+    types_refused(&[unit_types(2), wide_type(65).write()].concat(), 12, 2);
     types_refused(&[wide_type(63).write(), wide_type(65).write()].concat(), 12, 63);
     types_refused(&[wide_type(65).write(), wide_type(67).write()].concat(), 12, 0);
     // The outermost one, though the part that is too large starts later.
-    let mut outer = vec![1, 0, 0, 0, 0, 0, 0, 0];
-    outer.extend(wide_type(65).write());
-    types_refused(&[vec![0; 4], outer].concat(), 12, 1);
+    let outer = [&type_record(1, 0, 0)[..], &UNIT_TYPE, &wide_type(65).write()].concat();
+    types_refused(&[UNIT_TYPE.to_vec(), outer].concat(), 12, 1);
     // A comb of 63 records, as deep as a type can be, and one of 65.
     let comb = |size: usize| {
         let nodes = (size - 1) / 2;
-        let mut types = [3, 0, 0, 0].repeat(nodes);
-        types.extend(vec![0; (nodes + 1) * 4]);
+        let mut types = type_record(3, 0, 0).repeat(nodes);
+        types.extend(unit_types(nodes + 1));
         types
     };
     types_accepted(&comb(63));
@@ -304,8 +396,8 @@ fn question_12_at_most_63_records() {
 
 #[test]
 fn question_13_whole_records() {
-    for length in [0, 1, 5, 7, 11, 13, 8192 * 6 - 1, 8192 * 6 + 1, 8193 * 6] {
-        let inputs = with([1, 0, 0, 0, 0, 0].iter().copied().cycle().take(length).collect());
+    for length in [0, 1, 6, 7, 9, 12, 18, 8192 * 8 - 1, 8192 * 8 + 1, 8193 * 8] {
+        let inputs = with(UNIT.iter().copied().cycle().take(length).collect());
         refused_by_all(&inputs, 13, 0);
         assert_eq!(subterm(&inputs.script, 0), &[] as &[u8]);
     }
@@ -317,8 +409,8 @@ fn question_13_whole_records() {
 fn question_13_largest_script() {
     with_large_stack(|| {
         let inputs = with(wide(8192).write());
-        assert_eq!(inputs.script.len(), 49_152);
-        check_finds(&inputs, &[0, 0, 0, 0]);
+        assert_eq!(inputs.script.len(), 65_536);
+        check_finds(&inputs, &UNIT_TYPE);
         let inputs = with(wide(8193).write());
         refused_by_all(&inputs, 13, 0);
     });
@@ -327,21 +419,21 @@ fn question_13_largest_script() {
 #[test]
 fn question_13_in_a_run_asks_both_buffers() {
     let inputs = cases::b();
-    for (first, scratch) in [(41, 42), (42, 41), (0, 42), (42, 0), (0, 0), (41, 9999), (9999, 36)] {
+    for (first, scratch) in [(55, 56), (56, 55), (0, 56), (56, 0), (0, 0), (55, 9999), (9999, 48)] {
         let (result, first_after, scratch_after) = run_in(&inputs, 1000, first, scratch);
         assert_eq!(result, no(13, 0));
         assert_eq!((first_after, scratch_after), (filled(first), filled(scratch)));
     }
-    let (result, _, _) = run_in(&inputs, 1000, 42, 42);
+    let (result, _, _) = run_in(&inputs, 1000, 56, 56);
     assert!(result.is_ok());
     // A step's buffer may be shorter than its script; then only the new term has to fit.
-    step_reports(&inputs, 18, 1, 3);
-    step_reports(&inputs, 17, 4, 7);
+    step_reports(&inputs, 24, 1, 3);
+    step_reports(&inputs, 23, 4, 7);
     step_reports(&inputs, 0, 4, 7);
     // It comes after the tables' questions and before 14.
     let (result, _, _) = run_in(&Inputs { types: vec![], ..inputs.clone() }, 1, 0, 0);
     assert_eq!(result, no(8, 0));
-    let (result, _, _) = run_in(&of(&[[99; 6]]), 1, 5, 6);
+    let (result, _, _) = run_in(&of(&[[99; SCRIPT_BYTES]]), 1, 7, 8);
     assert_eq!(result, no(13, 0));
 }
 
@@ -350,19 +442,24 @@ fn question_14_kinds_and_unnamed_fields() {
     let unnamed_r = [0, 10];
     let unnamed_ir = [0, 6, 7, 8, 9, 11];
     let unnamed_number = [1, 3, 6, 7, 8, 10];
+    // Kinds 1 to 5 name both creators, and a protect its indirect ones.
+    let unnamed_c = [0, 6, 7, 8, 9, 10, 11];
+    let unnamed_ic = [0, 6, 7, 8, 9, 11];
     for kind in 0..=11u8 {
-        for byte in 1..6 {
+        for byte in 1..SCRIPT_BYTES {
             for value in [1, 2, 255] {
-                let mut damaged = [kind, 0, 0, 0, 0, 0];
+                let mut damaged = bare(kind);
                 damaged[byte] = value;
                 let unnamed = match byte {
                     1 => unnamed_r.contains(&kind),
                     2 => unnamed_ir.contains(&kind),
                     3 => true,
-                    _ => unnamed_number.contains(&kind),
+                    4 | 5 => unnamed_number.contains(&kind),
+                    6 => unnamed_c.contains(&kind),
+                    _ => unnamed_ic.contains(&kind),
                 };
                 // Behind a pair and a unit, so that the place is 2.
-                let inputs = of(&[[3, 0, 0, 0, 0, 0], UNIT, damaged]);
+                let inputs = of(&[PAIR, UNIT, damaged]);
                 if unnamed {
                     refused_by_all(&inputs, 14, 2);
                 } else {
@@ -373,10 +470,10 @@ fn question_14_kinds_and_unnamed_fields() {
         }
     }
     for kind in 12..=255u8 {
-        refused_by_all(&of(&[UNIT, [kind, 0, 0, 0, 0, 0]]), 14, 1);
+        refused_by_all(&of(&[UNIT, bare(kind)]), 14, 1);
     }
     // The first record counts; and before 15, which record 0 fails.
-    refused_by_all(&of(&[[1, 9, 0, 0, 0, 0], [12; 6], [13; 6]]), 14, 1);
+    refused_by_all(&of(&[record(1, 9, 0, 0), [12; SCRIPT_BYTES], [13; SCRIPT_BYTES]]), 14, 1);
 }
 
 #[test]
@@ -387,7 +484,7 @@ fn question_15_named_groups() {
         {
             let (names_r, names_ir) = (kind != 10, kind <= 5 || kind == 10);
             let (r, ir) = (if names_r { r } else { 0 }, if names_ir { ir } else { 0 });
-            let inputs = of(&[[3, 3, 0, 0, 0, 0], UNIT, record(kind, r, ir, 0)]);
+            let inputs = of(&[record(3, 3, 0, 0), UNIT, record(kind, r, ir, 0)]);
             let bad_group = r >= 4 || ir >= 4;
             let bad_order = kind <= 5 && matches!((r, ir), (0, 1) | (1, 2));
             if bad_group || bad_order {
@@ -395,6 +492,18 @@ fn question_15_named_groups() {
             } else {
                 let (result, _, _) = check_in(&inputs, WORK_BYTES, ANSWER_BYTES);
                 assert_ne!(result, no(15, 2));
+            }
+        }
+    }
+    // So are creators, of kinds 1 to 5 both, and the indirect ones of a protect.
+    for kind in (1..=5).chain([10]) {
+        for (c, ic) in [(4, 0), (3, 4), (4, 4), (255, 0), (3, 32)] {
+            let c = if kind == 10 { 0 } else { c };
+            let inputs = of(&[PAIR, UNIT, made(record(kind, 0, 0, 0), c, ic)]);
+            if c >= 4 || ic >= 4 {
+                refused_by_all(&inputs, 15, 2);
+            } else {
+                refused_by_all(&inputs, 17, 3);
             }
         }
     }
@@ -413,11 +522,49 @@ fn question_15_named_groups() {
 }
 
 #[test]
+fn question_36_of_scripts() {
+    for kind in 1..=5 {
+        for (c, ic) in pairs() {
+            // Behind a pair and a unit for others, so that the place is 2; readers play no part.
+            let own = made(record(kind, 3, 1, 0), c, ic);
+            let inputs = of(&[PAIR, record(1, 2, 0, 0), own]);
+            if !below(ic, c) {
+                refused_by_all(&inputs, 36, 2);
+            } else if kind == 1 {
+                accepted(&inputs);
+            } else {
+                refused_by_all(&inputs, 17, 3);
+            }
+        }
+    }
+    // A protect has indirect creators alone, whatever they are.
+    for ic in 0..4 {
+        accepted(&of(&[made(PROTECT, 0, ic), UNIT]));
+    }
+    // The first of two such records.
+    refused_by_all(&of(&[PAIR, made(UNIT, 0, 1), made(UNIT, 1, 2)]), 36, 1);
+    // All of 14 and all of 15 come before it, of later records too.
+    let before = |last| of(&[made(PAIR, 0, 1), UNIT, last]);
+    refused_by_all(&before(made(PROTECT, 1, 0)), 14, 2);
+    refused_by_all(&before(made(variable(0), 0, 1)), 14, 2);
+    refused_by_all(&before(record(1, 0, 1, 0)), 15, 2);
+    refused_by_all(&before(record(6, 4, 0, 0)), 15, 2);
+    refused_by_all(&before(made(PROTECT, 0, 4)), 15, 2);
+    // Before 16 of an earlier record, 17, 18 and 19.
+    refused_by_all(&of(&[function(99), made(UNIT, 1, 3)]), 36, 1);
+    refused_by_all(&of(&[UNIT, made(UNIT, 1, 3)]), 36, 1);
+    refused_by_all(&of(&[PAIR, made(UNIT, 1, 3)]), 36, 1);
+    let deep = [vec![PROTECT; 300], vec![made(UNIT, 1, 3)]].concat();
+    refused_by_all(&of(&deep), 36, 300);
+    refused_by_all(&of(&[PAIR, variable(0), made(UNIT, 1, 3)]), 36, 2);
+}
+
+#[test]
 fn question_16_named_types() {
     for (kind, good) in
         [(2, 0), (2, 9), (2, 15), (4, 0), (4, 13), (5, 0), (9, 9), (11, 3), (11, 10)]
     {
-        let inputs = of(&[[3, 0, 0, 0, 0, 0], UNIT, record(kind, 0, 0, good)]);
+        let inputs = of(&[PAIR, UNIT, record(kind, 0, 0, good)]);
         let (result, _, _) = check_in(&inputs, WORK_BYTES, ANSWER_BYTES);
         assert_eq!(result, no(17, 3), "the type is fine and the term is cut short");
     }
@@ -425,7 +572,7 @@ fn question_16_named_types() {
         for number in [TYPE_COUNT, TYPE_COUNT + 1, 256, 4096, OWN_TYPE - 1, OWN_TYPE] {
             // A case's largest number names no type and passes: only the term is cut short.
             let (question, place) = if (kind, number) == (9, OWN_TYPE) { (17, 3) } else { (16, 2) };
-            let inputs = of(&[[3, 0, 0, 0, 0, 0], UNIT, record(kind, 0, 0, number)]);
+            let inputs = of(&[PAIR, UNIT, record(kind, 0, 0, number)]);
             refused_by_all(&inputs, question, place);
         }
     }
@@ -434,7 +581,7 @@ fn question_16_named_types() {
         for kind in [4, 5, 11] {
             let wanted = if kind == 11 { 3 } else { 1 };
             let inputs = of(&[record(kind, 0, 0, number)]);
-            if some_types()[number as usize * 4] == wanted {
+            if some_types()[number as usize * TYPE_BYTES] == wanted {
                 refused_by_all(&inputs, 17, 1);
             } else {
                 refused_by_all(&inputs, 16, 0);
@@ -481,15 +628,15 @@ fn question_17_one_whole_term() {
 #[test]
 fn question_18_depth() {
     with_large_stack(|| {
-        check_finds(&with(deep(256).write()), &[0, 0, 0, 0]);
+        check_finds(&with(deep(256).write()), &UNIT_TYPE);
         refused_by_all(&with(deep(257).write()), 18, 256);
         refused_by_all(&with(deep(8192).write()), 18, 256);
         // The first deeper record, here in the second operand.
-        let script = [&[3, 0, 0, 0, 0, 0], &deep(255).write()[..], &deep(256).write()].concat();
+        let script = [&PAIR, &deep(255).write()[..], &deep(256).write()].concat();
         refused_by_all(&with(script), 18, 256 + 255);
-        let script = [&[3, 0, 0, 0, 0, 0], &deep(256).write()[..], &deep(256).write()].concat();
+        let script = [&PAIR, &deep(256).write()[..], &deep(256).write()].concat();
         refused_by_all(&with(script), 18, 256);
-        let script = [&[3, 0, 0, 0, 0, 0], &deep(255).write()[..], &deep(255).write()].concat();
+        let script = [&PAIR, &deep(255).write()[..], &deep(255).write()].concat();
         accepted(&with(script));
         // Under binders, and before 19: record 1 is unbound.
         let mut records = vec![record(3, 0, 0, 0), record(0, 0, 0, 5)];
@@ -508,7 +655,7 @@ fn question_19_binders() {
     let variable = |number| record(0, 0, 0, number);
     let function = record(2, 0, 0, 0);
     let recursion = record(11, 0, 0, 3);
-    let closed = |records: &[[u8; 6]]| {
+    let closed = |records: &[Record]| {
         let (result, _) = step_in(&of(records), 0);
         assert!(result.is_ok(), "{result:?}");
     };
@@ -552,25 +699,25 @@ fn question_19_binders() {
 // 20 to 24
 
 /// A no in typing: only checking asks it, so the other calls go on.
-fn ill_typed(records: &[[u8; 6]], question: u32, place: u32) {
+fn ill_typed(records: &[Record], question: u32, place: u32) {
     let inputs = of(records);
     check_refuses(&inputs, question, place);
     let (ran, _, _) = run_in(&inputs, 10, REPORT_RUN_BYTES, REPORT_RUN_BYTES);
     assert!(ran.is_ok(), "a run types nothing");
 }
 
-fn finds(records: &[[u8; 6]], types: &[[u8; 4]]) {
+fn finds(records: &[Record], types: &[[u8; TYPE_BYTES]]) {
     check_finds(&of(records), &types.concat());
 }
 
-fn high_unit() -> [u8; 6] {
+fn high_unit() -> Record {
     record(1, 3, 3, 0)
 }
 
 #[test]
 fn question_20_what_is_taken_apart() {
     // Every kind of first operand under every destructor.
-    let objects: [(u8, Vec<[u8; 6]>); 4] = [
+    let objects: [(u8, Vec<Record>); 4] = [
         (0, vec![UNIT]),
         (1, vec![first(0), UNIT]),
         (2, vec![PAIR, UNIT, UNIT]),
@@ -585,7 +732,7 @@ fn question_20_what_is_taken_apart() {
         ] {
             let records = [vec![PAIR, UNIT, node], object.clone(), rest].concat();
             if *kind == wanted {
-                finds(&records, &[[2, 0, 0, 0], [0; 4], [0; 4]]);
+                finds(&records, &[type_record(2, 0, 0), UNIT_TYPE, UNIT_TYPE]);
             } else {
                 ill_typed(&records, 20, 2);
             }
@@ -604,7 +751,7 @@ fn question_21_readers() {
     for object in 0..4 {
         for node in 0..4 {
             for ir in [0, object] {
-                let cases: [Vec<[u8; 6]>; 4] = [
+                let cases: [Vec<Record>; 4] = [
                     vec![record(6, node, 0, 0), record(2, object, ir, 1), variable(0), UNIT],
                     vec![record(7, node, 0, 0), record(3, object, ir, 0), UNIT, UNIT],
                     vec![record(8, node, 0, 0), record(3, object, ir, 0), UNIT, UNIT],
@@ -613,7 +760,7 @@ fn question_21_readers() {
                 for records in cases {
                     if below(object, node) {
                         // The result is raised by ir, not by r.
-                        finds(&records, &[[0, ir, ir, 0]]);
+                        finds(&records, &[type_record(0, ir, ir)]);
                     } else {
                         ill_typed(&records, 21, 0);
                     }
@@ -633,7 +780,7 @@ fn question_21_at_a_recursion() {
     // group is none of the type's.
     for r in 0..4 {
         for (written, ir) in (0..4).flat_map(|written| [(written, 0), (written, r)]) {
-            let types = [[3, r, ir, 0], [0; 4], [0, r, ir, 0]].concat();
+            let types = [type_record(3, r, ir), UNIT_TYPE, type_record(0, r, ir)].concat();
             let script = [record(11, written, 0, 0), function(1), UNIT].concat();
             let inputs = Inputs { groups: diamond_groups(), types, script };
             if below(r, written) {
@@ -657,16 +804,16 @@ fn question_21_at_a_recursion() {
 #[test]
 fn question_22_what_is_wanted() {
     // An injection's operand at or below its side; the other side is not asked.
-    finds(&[second(13), high_unit()], &[[1, 0, 0, 0], [0; 4], [0, 3, 3, 0]]);
-    finds(&[second(13), UNIT], &[[1, 0, 0, 0], [0; 4], [0, 3, 3, 0]]);
+    finds(&[second(13), high_unit()], &[type_record(1, 0, 0), UNIT_TYPE, type_record(0, 3, 3)]);
+    finds(&[second(13), UNIT], &[type_record(1, 0, 0), UNIT_TYPE, type_record(0, 3, 3)]);
     ill_typed(&[first(13), high_unit()], 22, 0);
     ill_typed(&[PAIR, UNIT, first(0), PAIR, UNIT, UNIT], 22, 2);
     // Its sum's own groups aren't read: the found ones are the injection's.
-    finds(&[record(5, 3, 1, 13), UNIT], &[[1, 3, 1, 0], [0; 4], [0, 3, 3, 0]]);
+    finds(&[record(5, 3, 1, 13), UNIT], &[type_record(1, 3, 1), UNIT_TYPE, type_record(0, 3, 3)]);
 
     // An argument.
-    finds(&[APPLY, function(9), variable(0), high_unit()], &[[0, 3, 3, 0]]);
-    finds(&[APPLY, function(9), variable(0), UNIT], &[[0, 3, 3, 0]]);
+    finds(&[APPLY, function(9), variable(0), high_unit()], &[type_record(0, 3, 3)]);
+    finds(&[APPLY, function(9), variable(0), UNIT], &[type_record(0, 3, 3)]);
     ill_typed(&[APPLY, function(1), variable(0), high_unit()], 22, 0);
     // After the argument is typed.
     ill_typed(&[APPLY, function(1), variable(0), PROJECT, UNIT], 20, 3);
@@ -678,37 +825,141 @@ fn question_22_what_is_wanted() {
     ill_typed(&[case(1), first(0), UNIT, UNIT, PROJECT, UNIT], 20, 4);
     ill_typed(&[case(1), first(0), UNIT, PROJECT, UNIT, high_unit()], 20, 3);
     // The case has its result type, though both branches are lower.
-    finds(&[case(9), first(0), UNIT, UNIT, UNIT], &[[0, 3, 3, 0]]);
+    finds(&[case(9), first(0), UNIT, UNIT, UNIT], &[type_record(0, 3, 3)]);
     // Each branch's variable has its side's type: of type 13, the second side's.
-    finds(&[case(9), first(13), UNIT, variable(0), variable(0)], &[[0, 3, 3, 0]]);
+    finds(&[case(9), first(13), UNIT, variable(0), variable(0)], &[type_record(0, 3, 3)]);
     ill_typed(&[case(1), first(13), UNIT, variable(0), variable(0)], 22, 0);
-    finds(&[case(1), first(13), UNIT, variable(0), UNIT], &[[0; 4]]);
+    finds(&[case(1), first(13), UNIT, variable(0), UNIT], &[UNIT_TYPE]);
 
     // A recursion's body.
-    finds(&[record(11, 0, 0, 3), function(4), variable(0)], &[[3, 0, 0, 0], [0; 4], [0; 4]]);
+    finds(
+        &[record(11, 0, 0, 3), function(4), variable(0)],
+        &[type_record(3, 0, 0), UNIT_TYPE, UNIT_TYPE],
+    );
     ill_typed(&[record(11, 0, 0, 3), record(2, 1, 0, 4), variable(0)], 22, 0);
     ill_typed(&[record(11, 0, 0, 3), UNIT], 22, 0);
     ill_typed(&[record(11, 0, 0, 3), function(4), high_unit()], 22, 0);
     // Parameters the other way round: one that takes more serves, one that takes other things not.
-    finds(&[record(11, 0, 0, 3), function(9), UNIT], &[[3, 0, 0, 0], [0; 4], [0; 4]]);
+    finds(&[record(11, 0, 0, 3), function(9), UNIT], &[type_record(3, 0, 0), UNIT_TYPE, UNIT_TYPE]);
     ill_typed(&[record(11, 0, 0, 3), function(0), UNIT], 22, 0);
+}
+
+/// A unit's type with these creators.
+fn unit_made(c: u8, ic: u8) -> [u8; TYPE_BYTES] {
+    made(UNIT_TYPE, c, ic)
+}
+
+#[test]
+fn creators_of_found_types() {
+    // Values have their own. Of an injection's sum, the sides'; its own record's aren't read.
+    finds(&[made(UNIT, 3, 1)], &[unit_made(3, 1)]);
+    finds(
+        &[made(PAIR, 2, 0), made(UNIT, 1, 1), UNIT],
+        &[made(type_record(2, 0, 0), 2, 0), unit_made(1, 1), UNIT_TYPE],
+    );
+    finds(
+        &[made(function(1), 3, 2), made(UNIT, 1, 0)],
+        &[made(type_record(3, 0, 0), 3, 2), UNIT_TYPE, unit_made(1, 0)],
+    );
+    let types = [made(type_record(1, 0, 0), 3, 3), unit_made(1, 1), unit_made(2, 0)].concat();
+    let script = [made(first(0), 2, 0), made(UNIT, 3, 1)].concat();
+    let sum = [made(type_record(1, 0, 0), 2, 0), unit_made(1, 1), unit_made(2, 0)].concat();
+    check_finds(&Inputs { groups: diamond_groups(), types, script }, &sum);
+
+    // What reads an object meets its ic and the node's group into both; a protect its own.
+    for (ic, node) in pairs() {
+        let (whole, part) = (|head| made(head, 3, ic), made(UNIT, 3, 1));
+        let m = meet(ic, node);
+        let found = unit_made(m, meet(1, m));
+        finds(&[record(6, node, 0, 0), whole(function(1)), part, UNIT], &[found]);
+        finds(&[record(7, node, 0, 0), whole(PAIR), part, UNIT], &[found]);
+        finds(&[record(8, node, 0, 0), whole(PAIR), UNIT, part], &[found]);
+        finds(&[record(9, node, 0, OWN_TYPE), whole(first(0)), UNIT, part, part], &[found]);
+        finds(&[made(PROTECT, 0, m), part], &[found]);
+        // The first record alone.
+        let inside = [part, part];
+        let pair = [&[made(PROTECT, 0, m), made(PAIR, 3, 1)], &inside[..]].concat();
+        let first = made(type_record(2, 0, 0), m, meet(1, m));
+        finds(&pair, &[first, unit_made(3, 1), unit_made(3, 1)]);
+    }
+    // A case with a type of the table has that one's, so raised; branches with more serve.
+    let types = [case_sum(), unit_made(1, 1).to_vec()].concat();
+    let branch = made(UNIT, 3, 1);
+    for (node, c) in [(0, 0), (1, 1), (2, 0), (3, 1)] {
+        let tested = made(first(0), 3, 3);
+        let script = [record(9, node, 0, 3), tested, UNIT, branch, branch].concat();
+        let inputs = Inputs { groups: diamond_groups(), types: types.clone(), script };
+        check_finds(&inputs, &unit_made(c, c));
+    }
+    // Two branches: creators in common, by meets.
+    finds(&[OWN_CASE, first(0), UNIT, branch, UNIT], &[UNIT_TYPE]);
+    let common = |one: Record, other: Record| {
+        [record(9, 3, 0, OWN_TYPE), made(first(0), 3, 3), UNIT, one, other]
+    };
+    finds(&common(made(UNIT, 3, 1), made(UNIT, 1, 1)), &[unit_made(1, 1)]);
+    finds(&common(made(UNIT, 1, 1), made(UNIT, 2, 0)), &[unit_made(0, 0)]);
+}
+
+/// The sum of two units, all groups 0.
+fn case_sum() -> Vec<u8> {
+    [type_record(1, 0, 0), UNIT_TYPE, UNIT_TYPE].concat()
+}
+
+#[test]
+fn creators_are_compared_the_other_way_round() {
+    // Units 0 to 3 of each c, a function to each from 4 on, a function from each from 16 on.
+    let unit = |c| unit_made(c, 0);
+    let function = type_record(3, 0, 0);
+    let units = (0..4).flat_map(unit);
+    let to = (0..4).flat_map(|c| [function, UNIT_TYPE, unit(c)].concat());
+    let from = (0..4).flat_map(|c| [function, unit(c), UNIT_TYPE].concat());
+    let types: Vec<u8> = units.chain(to).chain(from).collect();
+    let groups = diamond_groups();
+    let judged = |low: bool, same: bool| match (same, low) {
+        (true, _) => Comparison::Same,
+        (false, true) => Comparison::Below,
+        (false, false) => Comparison::Neither,
+    };
+    for (c, d) in pairs() {
+        let (i, j) = (u64::from(c), u64::from(d));
+        let down = judged(below(d, c), c == d);
+        assert_eq!(compare(&groups, &types, i, j), Ok(down));
+        assert_eq!(compare(&groups, &types, 4 + 3 * i, 4 + 3 * j), Ok(down));
+        let up = judged(below(c, d), c == d);
+        assert_eq!(compare(&groups, &types, 16 + 3 * i, 16 + 3 * j), Ok(up));
+        // ic alone, too.
+        let types = [unit_made(3, c), unit_made(3, d)].concat();
+        assert_eq!(compare(&groups, &types, 0, 1), Ok(down));
+        // 22 of an argument: one that passed through more hands serves.
+        let types = unit_made(d, 0).to_vec();
+        let script = [APPLY, bare(2), UNIT, made(UNIT, c, 0)].concat();
+        let inputs = Inputs { groups: groups.clone(), types, script };
+        if below(d, c) {
+            check_finds(&inputs, &UNIT_TYPE);
+        } else {
+            check_refuses(&inputs, 22, 0);
+        }
+    }
 }
 
 #[test]
 fn question_22_parameters_are_compared_the_other_way_round() {
     // Types: 0 function from unit (0,0) to unit; 3 function from unit (3,3) to unit.
-    let types = [[3, 0, 0, 0], [0; 4], [0; 4], [3, 0, 0, 0], [0, 3, 3, 0], [0; 4]].concat();
+    let head = type_record(3, 0, 0);
+    let function_of_units = [head, UNIT_TYPE, UNIT_TYPE].concat();
+    let function_of_closed = [head, type_record(0, 3, 3), UNIT_TYPE].concat();
+    let types = [function_of_units.clone(), function_of_closed.clone()].concat();
     let groups = diamond_groups();
     assert_eq!(compare(&groups, &types, 3, 0), Ok(Comparison::Below));
     assert_eq!(compare(&groups, &types, 0, 3), Ok(Comparison::Neither));
     // Two functions deep the order turns back.
     let deeper = [
-        vec![3, 0, 0, 0],
-        types[..12].to_vec(),
-        vec![0; 4],
-        vec![3, 0, 0, 0],
-        types[12..].to_vec(),
-        vec![0; 4],
+        type_record(3, 0, 0).to_vec(),
+        function_of_units.clone(),
+        UNIT_TYPE.to_vec(),
+        type_record(3, 0, 0).to_vec(),
+        function_of_closed,
+        UNIT_TYPE.to_vec(),
     ]
     .concat();
     assert_eq!(compare(&groups, &deeper, 0, 5), Ok(Comparison::Below));
@@ -720,7 +971,7 @@ fn question_23_recursion() {
     // Types: function of each (r, ir) to unit of each (r, ir), over the diamond.
     for ir in 0..4 {
         for result in 0..4 {
-            let types = [[3, 3, ir, 0], [0; 4], [0, 3, result, 0]].concat();
+            let types = [type_record(3, 3, ir), UNIT_TYPE, type_record(0, 3, result)].concat();
             // The body is refused by 20 at 2, but only after 23.
             let script = [record(11, 3, 0, 0), function(1), PROJECT, UNIT].concat();
             let inputs = Inputs { groups: diamond_groups(), types, script };
@@ -740,10 +991,42 @@ fn question_23_recursion() {
 }
 
 #[test]
+fn question_23_creators() {
+    // c of the result against ic of the type met with the written group, over the diamond. c of the
+    // type and ic of the result, the highest and the lowest that they can be, play no part.
+    for (ic, written) in pairs() {
+        for c in 0..4 {
+            for (own_c, result_ic) in [(3, 0), (ic, c)] {
+                let own = made(type_record(3, 0, 0), own_c, ic);
+                let types = [own, UNIT_TYPE, made(UNIT_TYPE, c, result_ic)].concat();
+                let recursion = record(11, written, 0, 0);
+                // The body is refused by 20 at 2, but only after 23.
+                let script = [recursion, function(1), PROJECT, UNIT].concat();
+                let inputs = Inputs { groups: diamond_groups(), types, script };
+                if below(c, meet(ic, written)) {
+                    check_refuses(&inputs, 20, 2);
+                    let script = [recursion, made(function(1), 3, 3), made(UNIT, 3, 3)].concat();
+                    check_finds(&Inputs { script, ..inputs.clone() }, &inputs.types);
+                } else {
+                    check_refuses(&inputs, 23, 0);
+                }
+            }
+        }
+    }
+    // 21 comes before it.
+    let types = [made(type_record(3, 1, 0), 3, 0), UNIT_TYPE, made(UNIT_TYPE, 1, 0)].concat();
+    let script = [record(11, 2, 0, 0), function(1), UNIT].concat();
+    let inputs = Inputs { groups: diamond_groups(), types, script };
+    check_refuses(&inputs, 21, 0);
+    let script = [record(11, 1, 0, 0), function(1), UNIT].concat();
+    check_refuses(&Inputs { script, ..inputs }, 23, 0);
+}
+
+#[test]
 fn question_24_found_types() {
     // Types: 0 a pair of 61 records, 61 one of 63, 124 one of 59.
     let types = [wide_type(61).write(), wide_type(63).write(), wide_type(59).write()].concat();
-    let check = |records: Vec<[u8; 6]>, expected: Result<u32, u32>| {
+    let check = |records: Vec<Record>, expected: Result<u32, u32>| {
         let inputs =
             Inputs { groups: diamond_groups(), types: types.clone(), script: records.concat() };
         match expected {
@@ -772,7 +1055,7 @@ fn question_24_found_types() {
 #[test]
 fn question_24_in_pairs_and_last_of_all() {
     // Nested pairs with 32 units have 63 records, with 33 they have 65.
-    let nest = |units: usize| -> Vec<[u8; 6]> {
+    let nest = |units: usize| -> Vec<Record> {
         let mut records = Vec::new();
         for _ in 1..units {
             records.extend([PAIR, UNIT]);
@@ -782,7 +1065,7 @@ fn question_24_in_pairs_and_last_of_all() {
     };
     let (result, _, answer) = check_in(&of(&nest(32)), WORK_BYTES, ANSWER_BYTES);
     assert_eq!(result, Ok(63));
-    assert!(answer.chunks(4).all(|record| record[1..] == [0; 3]), "the answer is full");
+    assert!(answer.chunks(TYPE_BYTES).all(|record| record[1..] == [0; 5]), "the answer is full");
     ill_typed(&nest(33), 24, 0);
     ill_typed(&nest(35), 24, 4);
     ill_typed(&[vec![PROJECT], nest(33)].concat(), 24, 1);
@@ -838,7 +1121,7 @@ fn question_25_groups() {
 
 #[test]
 fn question_26_values() {
-    let values: [Vec<[u8; 6]>; 6] = [
+    let values: [Vec<Record>; 6] = [
         vec![UNIT],
         vec![function(0), APPLY, variable(0), PROJECT, UNIT],
         vec![PAIR, UNIT, PAIR, UNIT, UNIT],
@@ -846,7 +1129,7 @@ fn question_26_values() {
         vec![second(0), PAIR, UNIT, UNIT],
         vec![PAIR, first(0), UNIT, second(0), UNIT],
     ];
-    let others: [Vec<[u8; 6]>; 9] = [
+    let others: [Vec<Record>; 9] = [
         vec![APPLY, function(1), variable(0), UNIT],
         vec![PROJECT, PAIR, UNIT, UNIT],
         vec![record(8, 0, 0, 0), PAIR, UNIT, UNIT],
@@ -931,6 +1214,119 @@ fn question_26_is_asked_inside_closed_objects() {
 }
 
 // ---------------------------------------------------------------------------------------------
+// The rewriting of the old form
+
+#[test]
+fn the_old_form_is_rewritten_with_group_0() {
+    let old = old_form(&of(&[record(6, 3, 0, 0), record(2, 3, 1, 9), variable(0), UNIT]));
+    assert_eq!(old.types.len(), TYPE_COUNT as usize * 4);
+    assert_eq!(
+        old.script,
+        [6, 3, 0, 0, 0, 0, 2, 3, 1, 0, 9, 0, 0, 0, 0, 0, 0, 0, 1, 0, 0, 0, 0, 0]
+    );
+    let script = [record(6, 3, 0, 0), record(2, 3, 1, 9), variable(0), UNIT].concat();
+    let (answer, rewritten) = rewrite_script_in(&old, 32);
+    assert_eq!((answer, rewritten), (Ok(4), script.clone()));
+    let (answer, rewritten) = rewrite_script_in(&old, 50);
+    assert_eq!((answer, rewritten), (Ok(4), [&script, &filled(50)[32..]].concat()));
+    // Their creators are gone from types 17 and 21; all else stays.
+    let mut types = some_types();
+    set(&mut types, 17, UNIT_TYPE);
+    set(&mut types, 21, UNIT_TYPE);
+    let length = types.len();
+    let (answer, rewritten) = rewrite_types_in(&old.groups, &old.types, length + 7);
+    assert_eq!(answer, Ok(TYPE_COUNT.into()));
+    assert_eq!(rewritten, [&types, &filled(length + 7)[length..]].concat());
+    // Cases A to L so rewritten, but for those that the questions before refuse.
+    for (letter, inputs) in cases::all() {
+        let old = old_form(&inputs);
+        let room = inputs.script.len();
+        match letter {
+            'D' => rewriting_refuses(&old, room, 15, 1),
+            'F' => rewriting_refuses(&old, room, 19, 0),
+            'K' => rewriting_refuses(&old, room, 6, 0),
+            'L' => rewriting_refuses(&old, room, 7, 0),
+            _ => {
+                let (answer, rewritten) = rewrite_script_in(&old, room);
+                assert_eq!((answer, rewritten), (Ok(room as u32 / 8), inputs.script));
+            }
+        }
+    }
+}
+
+#[test]
+fn question_27_of_the_rewriting() {
+    let old = old_form(&of(&[PAIR, UNIT, UNIT]));
+    // Room for the old form, and all but a byte of the new one.
+    for room in [0, 1, 8, 18, 23] {
+        rewriting_refuses(&old, room, 27, 0);
+    }
+    assert_eq!(rewrite_script_in(&old, 24).0, Ok(3));
+    let types = TYPE_COUNT as usize * TYPE_BYTES;
+    for room in [0, 6, TYPE_COUNT as usize * 4, types - 1] {
+        rewriting_of_types_refuses(&old, room, 27, 0);
+    }
+    assert_eq!(rewrite_types_in(&old.groups, &old.types, types).0, Ok(TYPE_COUNT.into()));
+    // The largest of both.
+    with_large_stack(|| {
+        let most = Inputs {
+            groups: diamond_groups(),
+            types: unit_types(4096),
+            script: wide(8192).write(),
+        };
+        let old = old_form(&most);
+        assert_eq!(rewrite_script_in(&old, 65_536), (Ok(8192), most.script));
+        rewriting_refuses(&old, 65_535, 27, 0);
+        let (answer, types) = rewrite_types_in(&old.groups, &old.types, 24_576);
+        assert_eq!((answer, types), (Ok(4096), most.types));
+        rewriting_of_types_refuses(&old, 24_575, 27, 0);
+    });
+}
+
+#[test]
+fn questions_8_and_13_of_the_rewriting_ask_for_the_old_widths() {
+    let old = old_form(&of(&[UNIT]));
+    for length in [0, 1, 2, 3, 5, 6, 7, 4096 * 4 - 1, 4096 * 4 + 1, 4097 * 4, 4096 * 6] {
+        let types = vec![0; length];
+        rewriting_of_types_refuses(&Inputs { types: types.clone(), ..old.clone() }, 700, 8, 0);
+        rewriting_refuses(&Inputs { types, ..old.clone() }, 700, 8, 0);
+    }
+    for length in [0, 1, 5, 7, 8, 16, 8192 * 6 - 1, 8192 * 6 + 1, 8193 * 6, 8192 * 8] {
+        let script = old.script.iter().copied().cycle().take(length).collect();
+        rewriting_refuses(&Inputs { script, ..old.clone() }, 700, 13, 0);
+    }
+    // 8 comes before 9, 13 before 14, and both after the questions before them.
+    rewriting_of_types_refuses(&Inputs { types: vec![255; 6], ..old.clone() }, 700, 8, 0);
+    rewriting_refuses(&Inputs { script: vec![255; 8], ..old.clone() }, 700, 13, 0);
+    rewriting_refuses(&Inputs { groups: vec![], types: vec![], script: vec![] }, 0, 2, 0);
+    rewriting_refuses(&Inputs { types: vec![9; 4], script: vec![], ..old }, 0, 9, 0);
+}
+
+#[test]
+fn the_rewriting_asks_what_is_asked_today() {
+    // Item 6's byte and item 3's number pass in the old form too; other kinds are refused as ever.
+    let own_case = record(9, 0, 0, OWN_TYPE);
+    for records in [
+        vec![record(11, 2, 0, 3), function(4), variable(0)],
+        vec![own_case, first(0), UNIT, UNIT, UNIT],
+    ] {
+        let inputs = of(&records);
+        let (answer, rewritten) = rewrite_script_in(&old_form(&inputs), inputs.script.len());
+        assert_eq!((answer, rewritten), (Ok(records.len() as u32), inputs.script));
+    }
+    let refused = |records: &[Record], question, place| {
+        rewriting_refuses(&old_form(&of(records)), 700, question, place);
+    };
+    refused(&[record(11, 4, 0, 3), function(4), variable(0)], 15, 0);
+    refused(&[function(OWN_TYPE), UNIT], 16, 0);
+    refused(&[record(10, 1, 0, 0), UNIT], 14, 0);
+    refused(&[bare(12)], 14, 0);
+    // Depth counts two for a case that finds its type.
+    let deep = [vec![PROTECT; 254], vec![own_case, first(0), UNIT, UNIT, UNIT]].concat();
+    refused(&deep, 18, 255);
+}
+
+// ---------------------------------------------------------------------------------------------
 // Order between the questions
 
 /// A part of a script, and the question it fails when it does.
@@ -938,18 +1334,18 @@ struct Slot {
     fails: Option<u32>,
     /// Which of the part's records is the place.
     at: usize,
-    records: Vec<[u8; 6]>,
+    records: Vec<Record>,
 }
 
 fn slot(rng: &mut Rng) -> Slot {
-    let make = |question, at, records: &[[u8; 6]]| Slot {
+    let make = |question, at, records: &[Record]| Slot {
         fails: Some(question),
         at,
         records: records.to_vec(),
     };
-    match rng.below(34) {
-        0 => make(14, 0, &[[12, 0, 0, 0, 0, 0]]),
-        1 => make(14, 1, &[function(0), [0, 0, 1, 0, 0, 0]]),
+    match rng.below(42) {
+        0 => make(14, 0, &[bare(12)]),
+        1 => make(14, 1, &[function(0), record(0, 0, 1, 0)]),
         2 => make(15, 0, &[record(1, 4, 0, 0)]),
         3 => make(15, 1, &[function(0), record(1, 0, 1, 0)]),
         4 => make(16, 0, &[function(TYPE_COUNT), UNIT]),
@@ -973,6 +1369,12 @@ fn slot(rng: &mut Rng) -> Slot {
         ),
         19 => make(16, 0, &[function(OWN_TYPE), UNIT]),
         20 => make(20, 0, &[OWN_CASE, UNIT, UNIT, PROJECT, UNIT]),
+        22 => make(36, 0, &[made(UNIT, 1, 2)]),
+        23 => make(36, 1, &[function(0), made(UNIT, 0, 1)]),
+        24 => make(14, 0, &[made(PROTECT, 1, 0), UNIT]),
+        25 => make(15, 0, &[made(PROTECT, 0, 4), UNIT]),
+        26 => make(22, 0, &[first(16), UNIT]),
+        27 => make(23, 0, &[record(11, 3, 0, 19), function(20), made(UNIT, 1, 0)]),
         21 => {
             Slot { fails: None, at: 0, records: vec![OWN_CASE, first(0), UNIT, UNIT, high_unit()] }
         }
@@ -988,7 +1390,12 @@ fn the_first_no_is_given() {
             // A right comb of pairs with a part in each place.
             let count = rng.between(1, 12);
             let mut script = Vec::new();
-            let mut found: Vec<(u32, u32)> = Vec::new();
+            // Each with its position. That of 36 isn't its number: it comes after 10, or after 15.
+            let mut found: Vec<(u32, u32, u32)> = Vec::new();
+            let positioned = |directly_after: u32, question: u32, place: usize| {
+                let position = if question == 36 { 2 * directly_after + 1 } else { 2 * question };
+                (position, question, place as u32)
+            };
             let mut typing = None;
             for place in 0..count {
                 let last = place + 1 == count;
@@ -996,7 +1403,7 @@ fn the_first_no_is_given() {
                     script.extend(PAIR);
                 }
                 let Slot { fails, at, mut records } = slot(rng);
-                let start = script.len() / 6;
+                let start = script.len() / SCRIPT_BYTES;
                 if fails == Some(18) {
                     // As deep as it takes; its last record must be a unit.
                     records.push(UNIT);
@@ -1005,39 +1412,41 @@ fn the_first_no_is_given() {
                 match fails {
                     Some(18) => {
                         let depth = if last { place + 1 } else { place + 2 };
-                        found.push((18, (start + 257 - depth) as u32));
+                        found.push(positioned(15, 18, start + 257 - depth));
                     }
-                    Some(question) if question >= 20 => {
+                    Some(question) if (Refusal { question, place: 0 }).is_of_typing() => {
                         // Typing goes left to right, so the first one counts whatever its number.
                         typing = typing.or(Some((question, (start + at) as u32)));
                     }
-                    Some(question) => found.push((question, (start + at) as u32)),
+                    Some(question) => found.push(positioned(15, question, start + at)),
                     None => {}
                 }
             }
             if rng.one_in(6) {
-                found.push((17, (script.len() / 6) as u32));
+                found.push(positioned(15, 17, script.len() / SCRIPT_BYTES));
                 script.extend(UNIT);
             }
             if rng.one_in(12) {
-                found.push((13, 0));
+                found.push(positioned(15, 13, 0));
                 script.push(0);
             }
             let mut inputs = with(script);
             if rng.one_in(8) {
-                let bad: [(u32, u32, Vec<u8>); 5] = [
+                let bad: [(u32, usize, Vec<u8>); 7] = [
                     (8, 0, vec![0; 9]),
-                    (9, 1, vec![0, 0, 1, 0, 1, 9, 0, 0]),
-                    (10, 1, vec![0, 0, 0, 0, 1, 0, 1, 0]),
-                    (11, 65, [wide_type(65).write(), vec![1, 0, 0, 0]].concat()),
-                    (12, 1, [vec![0; 4], wide_type(65).write()].concat()),
+                    (36, 0, made(type_record(1, 0, 0), 0, 1).to_vec()),
+                    (10, 1, [made(UNIT_TYPE, 1, 2), type_record(0, 0, 1)].concat()),
+                    (9, 1, [type_record(0, 0, 1), type_record(1, 9, 0)].concat()),
+                    (10, 1, [UNIT_TYPE, type_record(1, 0, 1)].concat()),
+                    (11, 65, [wide_type(65).write(), type_record(1, 0, 0).to_vec()].concat()),
+                    (12, 1, [UNIT_TYPE.to_vec(), wide_type(65).write()].concat()),
                 ];
                 let (question, place, types) = rng.pick(&bad).clone();
-                found.push((question, place));
+                found.push(positioned(10, question, place));
                 inputs.types = types;
             }
             if rng.one_in(8) {
-                let bad: [(u32, u32, Vec<u8>); 6] = [
+                let bad: [(u32, usize, Vec<u8>); 6] = [
                     (2, 0, vec![1, 0, 0]),
                     (3, 1, words(&[1, 6])),
                     (4, 0, words(&[2, 2])),
@@ -1046,12 +1455,12 @@ fn the_first_no_is_given() {
                     (7, 0, words(&[5, 6, 4])),
                 ];
                 let (question, place, groups) = rng.pick(&bad).clone();
-                found.push((question, place));
+                found.push(positioned(10, question, place));
                 inputs.groups = groups;
             }
             found.sort();
             match (found.first(), typing) {
-                (Some(&(question, place)), _) => {
+                (Some(&(_, question, place)), _) => {
                     seen[question as usize] += 1;
                     refused_by_all(&inputs, question, place);
                 }
@@ -1065,7 +1474,7 @@ fn the_first_no_is_given() {
                 }
             }
         });
-        for question in (2..24).chain([0, 31]) {
+        for question in (2..24).chain([0, 31, 36]) {
             assert!(!enough || seen[question] > 0, "question {question} was drawn: {seen:?}");
         }
     });
@@ -1086,8 +1495,8 @@ fn ends_3_then_2_then_4() {
     step_reports(&inputs, 0, 2, 4);
     // Only what moves can be too big.
     let inputs = of(&[record(6, 3, 0, 0), record(2, 3, 0, 0), variable(0), UNIT]);
-    step_reports(&inputs, 11, 4, 4);
-    assert_eq!(step_reports(&inputs, 12, 1, 2), [record(10, 0, 0, 0), UNIT].concat());
+    step_reports(&inputs, 15, 4, 4);
+    assert_eq!(step_reports(&inputs, 16, 1, 2), [record(10, 0, 0, 0), UNIT].concat());
 }
 
 #[test]
@@ -1160,7 +1569,7 @@ fn taking_apart_protects_by_ir() {
     let pair = record(3, 3, 1, 0);
     let (one, two) = (record(1, 2, 0, 0), record(1, 2, 2, 0));
     let protect = record(10, 0, 1, 0);
-    let step = |records: &[[u8; 6]], expected: &[[u8; 6]]| {
+    let step = |records: &[Record], expected: &[Record]| {
         let moved = step_reports(&of(records), 600, 1, expected.len() as u32);
         assert_eq!(moved, expected.concat());
     };
@@ -1172,6 +1581,72 @@ fn taking_apart_protects_by_ir() {
     );
     step(&[record(9, 3, 0, 9), record(4, 3, 1, 0), one, variable(0), UNIT], &[protect, one]);
     step(&[record(9, 3, 0, 9), record(5, 3, 1, 0), one, UNIT, variable(0)], &[protect, one]);
+}
+
+#[test]
+fn creators_in_steps() {
+    let step = |records: &[Record], expected: &[Record]| {
+        let moved = step_reports(&of(records), 600, 1, expected.len() as u32);
+        assert_eq!(moved, expected.concat());
+    };
+    let part = made(record(1, 2, 0, 0), 3, 2);
+    for (ic, node) in pairs() {
+        // Taking an object (0, 0, 3, ic) apart protects by its ir and by ic ⊓ the node's group.
+        let (whole, protect) = (|head| made(head, 3, ic), made(PROTECT, 0, meet(ic, node)));
+        step(&[record(6, node, 0, 0), whole(function(9)), variable(0), part], &[protect, part]);
+        step(&[record(7, node, 0, 0), whole(PAIR), part, UNIT], &[protect, part]);
+        step(&[record(8, node, 0, 0), whole(PAIR), UNIT, part], &[protect, part]);
+        step(&[record(9, node, 0, 9), whole(first(0)), part, variable(0), UNIT], &[protect, part]);
+        step(
+            &[record(9, node, 0, OWN_TYPE), whole(second(0)), part, UNIT, variable(0)],
+            &[protect, part],
+        );
+    }
+    // With ir beside it: the two come from the object's indirect groups, not from r and c.
+    let pair = made(record(3, 3, 1, 0), 3, 2);
+    step(&[record(7, 3, 0, 0), pair, part, UNIT], &[made(record(10, 0, 1, 0), 0, 2), part]);
+    // A protect raises its value's own record, here for (3, 0), by just its two.
+    for (c, ic) in pairs().filter(|&(c, ic)| below(ic, c)) {
+        for (ir, m) in pairs() {
+            let protect = made(record(10, 0, ir, 0), 0, m);
+            for kind in 1..=5 {
+                let number = if names_number(kind) { 13 } else { 0 };
+                let value = |ir, c, ic| {
+                    let head = made(record(kind, 3, ir, number), c, ic);
+                    [vec![head], vec![part; operand_count(kind)]].concat()
+                };
+                let before = [vec![protect], value(0, c, ic)].concat();
+                step(&before, &value(ir, meet(c, m), meet(ic, m)));
+            }
+        }
+    }
+    // What a protect is around moves inside it, and it stays as it is.
+    let outer = made(record(10, 0, 1, 0), 0, 2);
+    step(&[outer, PROTECT, UNIT], &[outer, UNIT]);
+    // The unrolled function has all its type's groups.
+    let own = made(type_record(3, 3, 1), 3, 2);
+    let types = [own, UNIT_TYPE, UNIT_TYPE].concat();
+    let script = [record(11, 2, 0, 0), variable(0)].concat();
+    let inputs = Inputs { groups: diamond_groups(), types, script };
+    let unrolled = [
+        made(record(2, 3, 1, 1), 3, 2),
+        record(6, 2, 0, 0),
+        record(11, 2, 0, 0),
+        variable(0),
+        variable(0),
+    ];
+    assert_eq!(step_reports(&inputs, 600, 1, 5), unrolled.concat());
+}
+
+#[test]
+fn sheets_show_no_creators() {
+    let value = |c, ic| of(&[made(record(3, 1, 0, 0), c, ic), made(UNIT, c, ic), high_unit()]);
+    for group in 0..4 {
+        let plain = sheet_in(&value(0, 0), group, 20);
+        for (c, ic) in [(3, 3), (3, 0), (1, 1)] {
+            assert_eq!(sheet_in(&value(c, ic), group, 20), plain);
+        }
+    }
 }
 
 #[test]
@@ -1260,19 +1735,19 @@ fn too_big_by_records() {
             let x = Rc::new(Term::Variable(0));
             let mut body = Rc::new(Term::Pair(LOW, x.clone(), x));
             for _ in 0..extra {
-                body = Rc::new(Term::Protect(0, body));
+                body = Rc::new(Term::Protect(LOW_RAISE, body));
             }
             let function = Rc::new(Term::Function(LOW, 0, body));
             with(Term::Application(0, function, value_of(size)).write())
         };
         // v of 4,095 records: the new term has 8,192 and fits only just.
         let inputs = doubled(4095, 0);
-        step_reports(&inputs, 49_152, 1, 8192);
-        step_reports(&inputs, 60_000, 1, 8192);
-        step_reports(&inputs, 49_151, 4, 4100);
-        step_reports(&doubled(4095, 1), 60_000, 4, 4101);
+        step_reports(&inputs, 65_536, 1, 8192);
+        step_reports(&inputs, 80_000, 1, 8192);
+        step_reports(&inputs, 65_535, 4, 4100);
+        step_reports(&doubled(4095, 1), 80_000, 4, 4101);
         run_reports(&inputs, 1, 1, 1, 8192, None);
-        let (ran, first, scratch) = run_in(&inputs, 5, 60_000, 49_151);
+        let (ran, first, scratch) = run_in(&inputs, 5, 80_000, 65_535);
         let report = ran.expect("not refused");
         assert_eq!((report.end as u8, report.steps, report.records), (4, 0, 4100));
         assert_eq!(first[..inputs.script.len()], inputs.script[..]);
@@ -1302,8 +1777,8 @@ fn too_big_by_far() {
         }
         let function = Rc::new(Term::Function(LOW, 0, occurrences(2047)));
         let inputs = with(Term::Application(0, function, value_of(4097)).write());
-        assert_eq!(inputs.script.len() / 6, 8192);
-        step_reports(&inputs, 49_152, 4, 8192);
+        assert_eq!(inputs.script.len() / SCRIPT_BYTES, 8192);
+        step_reports(&inputs, 65_536, 4, 8192);
         run_reports(&inputs, 7, 4, 0, 8192, Some(&inputs.script));
     });
 }
@@ -1315,22 +1790,22 @@ fn too_big_by_depth() {
         let application = |protects: usize, depth: usize| {
             let mut body = Rc::new(Term::Variable(0));
             for _ in 0..protects {
-                body = Rc::new(Term::Protect(0, body));
+                body = Rc::new(Term::Protect(LOW_RAISE, body));
             }
             let mut value = unit();
             for _ in 1..depth {
                 value = Rc::new(Term::Injection(Side::First, LOW, 0, value));
             }
-            let function = Rc::new(Term::Function(Marks { r: 0, ir: 0 }, 0, body));
+            let function = Rc::new(Term::Function(LOW, 0, body));
             with(Term::Application(0, function, value).write())
         };
         // The new term: a protect, the protects, the value.
         let inputs = application(155, 100);
-        step_reports(&inputs, 49_152, 1, 256);
+        step_reports(&inputs, 65_536, 1, 256);
         let inputs = application(156, 100);
-        step_reports(&inputs, 49_152, 4, 259);
+        step_reports(&inputs, 65_536, 4, 259);
         let inputs = application(253, 255);
-        step_reports(&inputs, 49_152, 4, 511);
+        step_reports(&inputs, 65_536, 4, 511);
     });
 }
 

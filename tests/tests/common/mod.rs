@@ -9,7 +9,7 @@ pub mod records;
 
 use wigneld_tests::calls::{self, RunReport, StepReport};
 use wigneld_tests::cases::Inputs;
-use wigneld_tests::limits::{ANSWER_BYTES, REPORT_RUN_BYTES, WORK_BYTES};
+use wigneld_tests::limits::{ANSWER_BYTES, REPORT_RUN_BYTES, SCRIPT_BYTES, TYPE_BYTES, WORK_BYTES};
 use wigneld_tests::refusal::{Answer, Refusal};
 use wigneld_tests::types::Comparison;
 
@@ -77,6 +77,29 @@ pub fn write_callers(types: &[u8], script: &mut [u8]) -> u64 {
     #[cfg(feature = "engine")]
     compared::write_callers(types, &before, written, script);
     written
+}
+
+/// The rewriting of a types table of the old form in this buffer: the answer, and what it holds afterwards.
+pub fn rewrite_types_with(
+    groups: &[u8],
+    types: &[u8],
+    rewritten: Vec<u8>,
+) -> (Answer<u32>, Vec<u8>) {
+    let mut after = rewritten.clone();
+    let result = calls::rewrite_types(groups, types, &mut after);
+    #[cfg(feature = "engine")]
+    compared::rewrite_types(groups, types, &rewritten, &result, &after);
+    (result, after)
+}
+
+/// The same of a script of the old form, over such a table.
+pub fn rewrite_script_with(old: &Inputs, rewritten: Vec<u8>) -> (Answer<u32>, Vec<u8>) {
+    let Inputs { groups, types, script } = old;
+    let mut after = rewritten.clone();
+    let result = calls::rewrite_script(groups, types, script, &mut after);
+    #[cfg(feature = "engine")]
+    compared::rewrite_script(old, &rewritten, &result, &after);
+    (result, after)
 }
 
 /// Checking with these buffers: the answer, and what the buffers hold afterwards.
@@ -150,7 +173,7 @@ pub fn check_refuses(inputs: &Inputs, question: u32, place: u32) {
 /// Asserts the type checking finds, and all lent bytes after it.
 pub fn check_finds(inputs: &Inputs, found: &[u8]) {
     let (result, work, answer) = check_in(inputs, WORK_BYTES + 3, ANSWER_BYTES + 5);
-    assert_eq!(result, Ok(found.len() as u32 / 4));
+    assert_eq!(result, Ok((found.len() / TYPE_BYTES) as u32));
     assert!(work.iter().all(|&byte| byte == 0), "the work buffer is filled with zeros");
     assert_eq!(&answer[..found.len()], found);
     assert_eq!(
@@ -182,7 +205,7 @@ pub fn run_reports(
     let (result, first, scratch) = run_in(inputs, budget, REPORT_RUN_BYTES, REPORT_RUN_BYTES + 1);
     let report = result.expect("the run is not refused");
     assert_eq!((report.end as u8, report.steps, report.records), (end, steps, records));
-    let length = records as usize * 6;
+    let length = records as usize * SCRIPT_BYTES;
     if let Some(last) = last {
         assert_eq!(&first[..length], last, "the first buffer holds the last term");
     }
@@ -208,9 +231,28 @@ pub fn step_reports(inputs: &Inputs, room: usize, end: u8, records: u32) -> Vec<
     let (result, written) = step_in(inputs, room);
     let report = result.expect("the step is not refused");
     assert_eq!((report.end as u8, report.records), (end, records));
-    let length = if end == 1 { records as usize * 6 } else { 0 };
+    let length = if end == 1 { records as usize * SCRIPT_BYTES } else { 0 };
     assert_eq!(written[length..], filled(room)[length..], "later bytes keep their content");
     written[..length].to_vec()
+}
+
+pub fn rewrite_types_in(groups: &[u8], types: &[u8], length: usize) -> (Answer<u32>, Vec<u8>) {
+    rewrite_types_with(groups, types, filled(length))
+}
+
+pub fn rewrite_script_in(old: &Inputs, length: usize) -> (Answer<u32>, Vec<u8>) {
+    rewrite_script_with(old, filled(length))
+}
+
+/// Asserts a refusal by the rewriting of a script, and that no lent byte changes.
+pub fn rewriting_refuses(old: &Inputs, room: usize, question: u32, place: u32) {
+    assert_eq!(rewrite_script_in(old, room), (no(question, place), filled(room)));
+}
+
+/// The same of a types table.
+pub fn rewriting_of_types_refuses(old: &Inputs, room: usize, question: u32, place: u32) {
+    let answer = rewrite_types_in(&old.groups, &old.types, room);
+    assert_eq!(answer, (no(question, place), filled(room)));
 }
 
 pub fn sheet_in(inputs: &Inputs, group: u64, length: usize) -> (Answer<u32>, Vec<u8>) {
@@ -361,6 +403,36 @@ mod compared {
         same(own.take("types"), types, "types are only read");
     }
 
+    pub fn rewrite_types(
+        groups: &[u8],
+        types: &[u8],
+        lent: &[u8],
+        expected: &Answer<u32>,
+        after: &[u8],
+    ) {
+        let (mut one, mut two) = (Guarded::new(groups), Guarded::new(types));
+        let mut rewritten = Guarded::new(lent);
+        let found = engine::rewrite_types(one.lend(), two.lend(), rewritten.lend());
+        answers(found, packed_count(expected), "rewrite types");
+        same(rewritten.take("rewritten"), after, "rewrite types");
+        same(one.take("groups"), groups, "groups are only read");
+        same(two.take("types"), types, "types are only read");
+    }
+
+    pub fn rewrite_script(old: &Inputs, lent: &[u8], expected: &Answer<u32>, after: &[u8]) {
+        let mut given = Given::of(old);
+        let mut rewritten = Guarded::new(lent);
+        let found = engine::rewrite_script(
+            given.groups.lend(),
+            given.types.lend(),
+            given.script.lend(),
+            rewritten.lend(),
+        );
+        answers(found, packed_count(expected), "rewrite script");
+        same(rewritten.take("rewritten"), after, "rewrite script");
+        given.unchanged(old);
+    }
+
     pub fn check(inputs: &Inputs, lent: [&[u8]; 2], expected: &Answer<u32>, after: [&[u8]; 2]) {
         let mut given = Given::of(inputs);
         let [mut work, mut answer] = lent.map(Guarded::new);
@@ -385,7 +457,7 @@ mod compared {
         after: [&[u8]; 2],
     ) {
         // Room for the step count and more, for just it, for a part of it, for nothing.
-        let length = [11, 8, 5, 0][(inputs.script.len() / 6 + budget as usize % 4) % 4];
+        let length = [11, 8, 5, 0][(inputs.script.len() / SCRIPT_BYTES + budget as usize % 4) % 4];
         let mut given = Given::of(inputs);
         let [mut first, mut scratch] = lent.map(Guarded::new);
         let before = filled(length);

@@ -2,18 +2,26 @@
 #![allow(dead_code)]
 
 use wigneld_tests::cases::record;
-use wigneld_tests::script::operand_count;
+use wigneld_tests::limits::SCRIPT_BYTES;
+use wigneld_tests::script::{operand_count, Record as Fields};
 
-pub type Record = [u8; 6];
+pub type Record = [u8; SCRIPT_BYTES];
 
-pub const UNIT: Record = [1, 0, 0, 0, 0, 0];
-pub const PAIR: Record = [3, 0, 0, 0, 0, 0];
-pub const APPLY: Record = [6, 0, 0, 0, 0, 0];
-pub const PROJECT: Record = [7, 0, 0, 0, 0, 0];
-pub const PROJECT_SECOND: Record = [8, 0, 0, 0, 0, 0];
-pub const PROTECT: Record = [10, 0, 0, 0, 0, 0];
+/// A record of this kind, all its other bytes 0.
+pub const fn bare(kind: u8) -> Record {
+    let mut record = [0; SCRIPT_BYTES];
+    record[0] = kind;
+    record
+}
+
+pub const UNIT: Record = bare(1);
+pub const PAIR: Record = bare(3);
+pub const APPLY: Record = bare(6);
+pub const PROJECT: Record = bare(7);
+pub const PROJECT_SECOND: Record = bare(8);
+pub const PROTECT: Record = bare(10);
 /// A case that finds its own type.
-pub const OWN_CASE: Record = [9, 0, 0, 0, 255, 255];
+pub const OWN_CASE: Record = [9, 0, 0, 0, 255, 255, 0, 0];
 
 pub fn variable(number: u16) -> Record {
     record(0, 0, 0, number)
@@ -48,7 +56,7 @@ pub fn depths(records: &[Record]) -> Vec<usize> {
     for record in records {
         let depth = around.last().map_or(1, |&(_, depth)| depth);
         depths.push(depth);
-        let own_type = record[0] == 9 && record[4..] == [255, 255];
+        let own_type = Fields::read(record).finds_own_type();
         around.push((operand_count(record[0]), depth + if own_type { 2 } else { 1 }));
         while around.last().is_some_and(|&(left, _)| left == 0) {
             around.pop();
