@@ -56,11 +56,12 @@ static struct file load(const char *folder, const char *name, size_t longest)
 }
 
 /* A refusal in words; the place is shown where it counts something. */
-static void show_refusal(uint64_t answer)
+static void show_refusal(const struct document *d, uint64_t answer)
 {
     static const char *const places[] = { "", "group", "type record", "script record", "type or script record", "word", "script",
                                           "entry" };
-    unsigned question = wigneld_question(answer), counted = wigneld_place_kind(question);
+    unsigned question = wigneld_question(answer);
+    unsigned counted = wigneld_place_kind_over(question, d->groups.bytes, d->groups.length, d->types.bytes, d->types.length);
 
     printf("refused, question %u: it is not so that %s", question, wigneld_asked(question));
     if (counted != WIGNELD_PLACE_NOTHING)
@@ -68,20 +69,34 @@ static void show_refusal(uint64_t answer)
     putchar('\n');
 }
 
+/* The groups of a type record: readers and indirect readers, and then, where they say something, creators and indirect ones. */
+static void show_groups(const uint8_t *record)
+{
+    unsigned c = record[WIGNELD_TYPE_AT_CREATORS], ic = record[WIGNELD_TYPE_AT_INDIRECT_CREATORS];
+
+    printf("(%u,%u", record[WIGNELD_AT_READERS], record[WIGNELD_AT_INDIRECT]);
+    if (c != 0 || ic != 0)
+        printf(" by %u,%u", c, ic);
+    putchar(')');
+}
+
 /* A type in one line; gives the record after it. */
 static const uint8_t *show_type(const uint8_t *record)
 {
-    unsigned kind = record[WIGNELD_AT_KIND], r = record[WIGNELD_AT_READERS], ir = record[WIGNELD_AT_INDIRECT];
+    const uint8_t *own = record;
+    unsigned kind = own[WIGNELD_AT_KIND];
 
+    record += WIGNELD_TYPE_RECORD_BYTES;
     if (kind == WIGNELD_TYPE_UNIT) {
-        printf("unit(%u,%u)", r, ir);
-        return record + WIGNELD_TYPE_RECORD_BYTES;
+        fputs("unit", stdout);
+    } else {
+        putchar('(');
+        record = show_type(record);
+        fputs(kind == WIGNELD_TYPE_SUM ? " or " : kind == WIGNELD_TYPE_PAIR ? " and " : " to ", stdout);
+        record = show_type(record);
+        putchar(')');
     }
-    putchar('(');
-    record = show_type(record + WIGNELD_TYPE_RECORD_BYTES);
-    fputs(kind == WIGNELD_TYPE_SUM ? " or " : kind == WIGNELD_TYPE_PAIR ? " and " : " to ", stdout);
-    record = show_type(record);
-    printf(")(%u,%u)", r, ir);
+    show_groups(own);
     return record;
 }
 
@@ -97,7 +112,7 @@ static int check(const struct document *d)
         show_type(type);
         putchar('\n');
     } else {
-        show_refusal(answer);
+        show_refusal(d, answer);
     }
     free(work);
     free(type);
@@ -117,7 +132,7 @@ static uint32_t run(const struct document *d, uint64_t budget, uint8_t *last)
 
     free(scratch);
     if (end == WIGNELD_END_REFUSED)
-        show_refusal(answer);
+        show_refusal(d, answer);
     else
         printf("%s after %" PRIu64 " steps, %" PRIu32 " records\n", ends[end], wigneld_run_steps(answer, steps),
                wigneld_run_count(answer));
@@ -133,7 +148,7 @@ static void show_sheet(const struct document *d, const uint8_t *value, uint32_t 
     uint32_t i, count = wigneld_count(answer);
 
     if (wigneld_question(answer) != 0)
-        show_refusal(answer);
+        show_refusal(d, answer);
     for (i = 0; i < count; i++) {
         const uint8_t *line = sheet + (size_t)i * WIGNELD_SHEET_RECORD_BYTES;
 

@@ -1,34 +1,50 @@
 /*
  * Writes the example folders' files groups, types and script, and words where a studio has its own:
  *
- *     cc -o make examples/make.c && ./make examples
+ *     rt staticlib wigneld_office
+ *     cc -std=c99 -Iinclude -o make examples/make.c target/staticlib/libwigneld_office.a && ./make examples
  *
- * A script is written in its own order, each record followed by its operands; the indent below follows the operands.
+ * A script is written in its own order, each record followed by its operands; the indent below follows the operands. All but the
+ * last example were saved in an older form (WIGNELD_FORMAT): they are written as they were and rewritten by the engine's own calls.
+ * A second folder, if one is named, gets an example as it was saved in form 1.
  */
 #include <stdint.h>
 #include <stdio.h>
 #include <stdlib.h>
 
+#include "wigneld_office.h"
+
+#if WIGNELD_FORMAT != 3
+#error "the last example is written in form 3"
+#endif
+
 /* Who reads: anyone; the bench, where objects are treated; the lender's office; the registrar, who may read what either may. */
 enum { ANYONE, BENCH, LENDER, REGISTRAR };
 
-static FILE *file;
+struct bytes {
+    uint8_t at[WIGNELD_SCRIPT_LONGEST_BYTES];
+    size_t length;
+};
 
-static void start(const char *folder, const char *example, const char *name)
-{
-    char path[4096];
-
-    snprintf(path, sizeof path, "%s/%s/%s", folder, example, name);
-    file = fopen(path, "wb");
-    if (file == NULL) {
-        perror(path);
-        exit(1);
-    }
-}
+/* What is being written. */
+static struct bytes *written;
 
 static void byte(unsigned b)
 {
-    fputc((int)b, file);
+    written->at[written->length++] = (uint8_t)b;
+}
+
+static void save(const char *folder, const char *example, const char *name, const struct bytes *bytes)
+{
+    char path[4096];
+    FILE *file;
+
+    snprintf(path, sizeof path, "%s/%s/%s", folder, example, name);
+    file = fopen(path, "wb");
+    if (file == NULL || fwrite(bytes->at, 1, bytes->length, file) != bytes->length || fclose(file) != 0) {
+        perror(path);
+        exit(1);
+    }
 }
 
 /* A group's row: a bit for each group that is at least as secret. */
@@ -40,17 +56,15 @@ static void row(uint32_t word)
     byte(word >> 24);
 }
 
-static void groups(const char *folder, const char *example)
+static void groups(void)
 {
-    start(folder, example, "groups");
     row(1u << ANYONE | 1u << BENCH | 1u << LENDER | 1u << REGISTRAR);
     row(1u << BENCH | 1u << REGISTRAR);
     row(1u << LENDER | 1u << REGISTRAR);
     row(1u << REGISTRAR);
-    fclose(file);
 }
 
-/* Records of types. Readers and indirect readers are one group throughout. */
+/* Records of types, in the older form. Readers and indirect readers are one group throughout. */
 static void type(unsigned kind, unsigned who)
 {
     byte(kind);
@@ -78,7 +92,7 @@ static void number_type(unsigned who)
         choice_type(who);
 }
 
-/* Records of scripts. */
+/* Records of scripts, in the older form. */
 static void record(unsigned kind, unsigned r, unsigned ir, unsigned number)
 {
     byte(kind);
@@ -256,11 +270,10 @@ static void other_side(void)
     choice(0, BENCH, SIDE);
 }
 
-/* After no day the panel is face up, and otherwise on the other side than after a day less. Whoever calls the rule, the panel is
-   turned by the registrar's people: the rule calls itself as the registrar. */
-static void turning_rule(void)
+/* After no day the panel is face up, and otherwise on the other side than after a day less. */
+static void turning_rule(unsigned caller)
 {
-    recursion(REGISTRAR, TURNING);
+    recursion(caller, TURNING);
         function(BENCH, DAYS);
             when(BENCH, SIDE); /* is the low bit 0? */
                 second_of(BENCH);
@@ -284,7 +297,7 @@ static void turning_rule(void)
                     other_side();
 }
 
-static void panel_script(void)
+static void panel(unsigned caller)
 {
     apply(ANYONE);
         function(ANYONE, PANEL_ENTRY);
@@ -292,13 +305,19 @@ static void panel_script(void)
                 first_of(ANYONE); /* drying or not */
                     variable(0);
                 apply(BENCH); /* the bench asks which side is up in the end */
-                    turning_rule();
+                    turning_rule(caller);
                     second_of(ANYONE);
                         variable(0);
         pair(ANYONE); /* the entry: drying, for 3 days */
             choice(0, ANYONE, DRYING);
             number(3, BENCH, SIDE);
 }
+
+/* Whoever calls the rule, the panel is turned by the registrar's people: the rule calls itself as the registrar. */
+static void panel_script(void) { panel(REGISTRAR); }
+
+/* In form 1 a rule called itself as whoever may read its type, and had 0 there. */
+static void first_panel_script(void) { panel(0); }
 
 /* ---- a page in a studio's own words */
 
@@ -318,40 +337,154 @@ static void page_script(void)
 }
 
 /* Six records of 12 bytes: the letters of a word, then zero bytes. The order is that of the sheet's kinds. */
-static void own_words(const char *folder, const char *name)
+static void own_words(void)
 {
     static const char words[6][13] = { "einheit", "erstes", "zweites", "paar", "funktion", "verschlossen" };
 
-    start(folder, name, "words");
     for (int i = 0; i < 6; i++)
         for (int j = 0; j < 12; j++)
             byte((unsigned char)words[i][j]);
-    fclose(file);
 }
 
-static void example(const char *folder, const char *name, void (*types)(void), void (*script)(void))
+/* ---- two statements about an object, and who made them: in form 3 */
+
+enum { BENCH_SAYS = 0, LENDER_SAYS = 3, STATEMENTS = 6, FITNESS = 13 };
+
+/* Anyone may read all of it. Creators and indirect creators are one group throughout: whose hands it passed through. */
+static void made_type(unsigned kind, unsigned maker)
 {
-    groups(folder, name);
-    start(folder, name, "types");
-    types();
-    fclose(file);
-    start(folder, name, "script");
-    script();
-    fclose(file);
+    type(kind, ANYONE);
+    byte(maker);
+    byte(maker);
+}
+
+static void made_choice_type(unsigned maker)
+{
+    made_type(1, maker);
+    made_type(0, maker);
+    made_type(0, maker);
+}
+
+static void hands_types(void)
+{
+    made_choice_type(BENCH);     /* BENCH_SAYS: sound, or loose */
+    made_choice_type(LENDER);    /* LENDER_SAYS: the same */
+    made_type(2, REGISTRAR);     /* STATEMENTS: both, put together by the registrar */
+        made_choice_type(BENCH);
+        made_choice_type(LENDER);
+    made_choice_type(REGISTRAR); /* FITNESS: fit to travel, or not; the registrar's words */
+}
+
+static void made(unsigned kind, unsigned maker, unsigned number)
+{
+    record(kind, ANYONE, ANYONE, number);
+    byte(maker);
+    byte(maker);
+}
+
+static void made_choice(unsigned second, unsigned maker, unsigned type_index)
+{
+    made(4 + second, maker, type_index);
+    made(1, maker, 0);
+}
+
+/* What is not made but passed on or read: its creators are found. */
+static void passed(unsigned kind, unsigned reader, unsigned number)
+{
+    record(kind, reader, 0, number);
+    byte(0);
+    byte(0);
+}
+
+static void hands_script(void)
+{
+    passed(6, REGISTRAR, 0); /* the registrar applies the script to the entry */
+        made(2, REGISTRAR, STATEMENTS);
+            made(3, REGISTRAR, 0);
+                passed(6, REGISTRAR, 0);
+                    made(2, REGISTRAR, BENCH_SAYS); /* the line about travel: it takes what the bench says, and nobody else */
+                        passed(9, REGISTRAR, FITNESS);
+                            passed(0, 0, 0);
+                            made_choice(0, REGISTRAR, FITNESS); /* sound: fit */
+                            made_choice(1, REGISTRAR, FITNESS); /* loose: not fit */
+                    passed(7, REGISTRAR, 0); /* the bench's statement, taken out of the entry by the registrar */
+                        passed(0, 0, 0);
+                passed(8, REGISTRAR, 0); /* the lender's statement, as it is */
+                    passed(0, 0, 0);
+        made(3, REGISTRAR, 0); /* the entry: the bench says sound, the lender loose */
+            made_choice(0, BENCH, BENCH_SAYS);
+            made_choice(1, LENDER, LENDER_SAYS);
+}
+
+/* ---- */
+
+static void put(struct bytes *into, void (*what)(void))
+{
+    into->length = 0;
+    written = into;
+    what();
+}
+
+/* How many bytes a rewriting filled. */
+static size_t filled(uint64_t answer, size_t width)
+{
+    if (wigneld_question(answer) != 0) {
+        fprintf(stderr, "make: it is not so that %s\n", wigneld_asked(wigneld_question(answer)));
+        exit(1);
+    }
+    return wigneld_count(answer) * width;
+}
+
+/* A folder with these files, as they are. */
+static void as_written(const char *folder, const char *name, void (*types)(void), void (*script)(void))
+{
+    static struct bytes g, t, s;
+
+    put(&g, groups);
+    put(&t, types);
+    put(&s, script);
+    save(folder, name, "groups", &g);
+    save(folder, name, "types", &t);
+    save(folder, name, "script", &s);
+}
+
+/* A folder with these files, which were saved in form 1 or 2. */
+static void rewritten(const char *folder, const char *name, int form, void (*types)(void), void (*script)(void))
+{
+    static struct bytes g, t, s, new_t, new_s;
+
+    put(&g, groups);
+    put(&t, types);
+    put(&s, script);
+    if (form == 1)
+        wigneld_write_callers(t.at, t.length, s.at, s.length);
+    new_s.length = filled(wigneld_rewrite_script(g.at, g.length, t.at, t.length, s.at, s.length, new_s.at, sizeof new_s.at),
+                          WIGNELD_SCRIPT_RECORD_BYTES);
+    new_t.length = filled(wigneld_rewrite_types(g.at, g.length, t.at, t.length, new_t.at, sizeof new_t.at),
+                          WIGNELD_TYPE_RECORD_BYTES);
+    save(folder, name, "groups", &g);
+    save(folder, name, "types", &new_t);
+    save(folder, name, "script", &new_s);
 }
 
 int main(int count, char **words)
 {
-    if (count != 2) {
-        fputs("usage: make FOLDER\n", stderr);
+    static struct bytes bytes;
+
+    if (count != 2 && count != 3) {
+        fputs("usage: make FOLDER [FOLDER]\n", stderr);
         return 2;
     }
-    example(words[1], "bench-record", bench_types, bench_script);
-    example(words[1], "page-lines", bench_types, lines_script);
-    example(words[1], "loan-sheet", loan_types, loan_script);
-    example(words[1], "loan-leak", loan_types, leak_script);
-    example(words[1], "drying-panel", panel_types, panel_script);
-    example(words[1], "own-words", page_types, page_script);
-    own_words(words[1], "own-words");
+    rewritten(words[1], "bench-record", 1, bench_types, bench_script);
+    rewritten(words[1], "page-lines", 2, bench_types, lines_script);
+    rewritten(words[1], "loan-sheet", 1, loan_types, loan_script);
+    rewritten(words[1], "loan-leak", 1, loan_types, leak_script);
+    rewritten(words[1], "drying-panel", 2, panel_types, panel_script);
+    rewritten(words[1], "own-words", 2, page_types, page_script);
+    put(&bytes, own_words);
+    save(words[1], "own-words", "words", &bytes);
+    as_written(words[1], "whose-hands", hands_types, hands_script);
+    if (count == 3)
+        as_written(words[2], ".", panel_types, first_panel_script);
     return 0;
 }

@@ -22,12 +22,13 @@ extern "C" {
 #endif
 
 /* Raised whenever a constant, a prototype or an answer changes. */
-#define WIGNELD_VERSION 4
+#define WIGNELD_VERSION 5
 
 /* The form of rows and records. Raised whenever a width below changes, or what a byte of a record means: files of another form
-   are to be rewritten before they are lent. No file says its form, so keep it beside them. In form 1 byte 1 of a recursion was 0;
-   wigneld_write_callers (wigneld_office.h) rewrites such scripts. */
-#define WIGNELD_FORMAT 2
+   are to be rewritten before they are lent. No file says its form, so keep it beside them. In form 2 type records had 4 bytes and
+   script records 6: those below without creators. In form 1, of the same widths, byte 1 of a recursion was 0. wigneld_office.h has
+   the calls that rewrite such files, and their order. */
+#define WIGNELD_FORMAT 3
 
 /*
  * The groups table: rows, one for each group, numbered from 0. A row is a word of 4 bytes, lowest byte first: byte 0 has bits 0 to 7,
@@ -39,12 +40,17 @@ extern "C" {
 /*
  * Type, script and sheet records start alike:
  *
- *     byte            0      1   2    3   4 and 5
- *     type record     kind   r   ir   0
- *     script record   kind   r   ir   0   number, lowest byte first
+ *     byte            0      1   2    3   4                            5    6   7
+ *     type record     kind   r   ir   0   c                            ic
+ *     script record   kind   r   ir   0   number, lowest byte first         c   ic
  *     sheet record    kind   r   ir   0
  *
  * The readers r are who may read an object, the indirect readers ir who may be influenced by it; both are groups, ir at or below r.
+ *
+ * The creators c are whose hands an object passed through, the indirect creators ic who may have had a say in it; both are groups,
+ * ic at or below c. A group stands here for itself and all above it: higher creators say more, and group 0 says nothing. So an
+ * object may be taken for one with higher readers or with lower creators, never the other way round, and what is made by reading an
+ * object has creators at or below its indirect creators and the group that read.
  */
 #define WIGNELD_AT_KIND 0
 #define WIGNELD_AT_READERS 1
@@ -55,7 +61,9 @@ extern "C" {
  * The types table: whole types one after another. Each but a unit is followed by its left and then its right type. Every record
  * starts a type and is named by its index, counted from 0.
  */
-#define WIGNELD_TYPE_RECORD_BYTES 4
+#define WIGNELD_TYPE_RECORD_BYTES 6
+#define WIGNELD_TYPE_AT_CREATORS 4
+#define WIGNELD_TYPE_AT_INDIRECT_CREATORS 5
 
 #define WIGNELD_TYPE_UNIT 0
 #define WIGNELD_TYPE_SUM 1
@@ -67,25 +75,28 @@ extern "C" {
  *
  *     kind                operands                            fields
  *     variable            none                                number: binders outward, 0 the nearest
- *     unit                none                                r, ir
- *     function            body, under a binder                r, ir, number: parameter type
- *     pair                first, second                       r, ir
- *     injections          the injected                        r, ir, number: sum type
+ *     unit                none                                r, ir, c, ic
+ *     function            body, under a binder                r, ir, c, ic, number: parameter type
+ *     pair                first, second                       r, ir, c, ic
+ *     injections          the injected                        r, ir, c, ic, number: sum type
  *     application         function, argument                  r
  *     projections         the pair                            r
  *     case                tested, two branches, each under    r, number: result type, or WIGNELD_OWN_TYPE
  *                         a binder
- *     protect             the protected                       ir
+ *     protect             the protected                       ir, ic
  *     recursion           body, under a binder                r, number: function type
  *
- * r of an application, a projection or a case is the group that reads. r of a recursion is the group that it calls itself as,
- * whoever calls it; it is at or above r of the function type.
+ * r of an application, a projection or a case is the group that reads: what comes out is raised by ir of the object read, and its
+ * creators are lowered by ic of that object and by this group. A protect raises by its ir and lowers by its ic. r of a recursion is
+ * the group that it calls itself as, whoever calls it; it is at or above r of the function type.
  *
  * A case with WIGNELD_OWN_TYPE finds its result type: the lowest at or above the types of both branches, which has to exist
  * (question 31) and need not stand in the types table. Its operands, all three, are two levels below it and not one.
  */
-#define WIGNELD_SCRIPT_RECORD_BYTES 6
+#define WIGNELD_SCRIPT_RECORD_BYTES 8
 #define WIGNELD_AT_NUMBER 4
+#define WIGNELD_SCRIPT_AT_CREATORS 6
+#define WIGNELD_SCRIPT_AT_INDIRECT_CREATORS 7
 
 #define WIGNELD_KIND_VARIABLE 0
 #define WIGNELD_KIND_UNIT 1
@@ -103,7 +114,7 @@ extern "C" {
 #define WIGNELD_OWN_TYPE 65535 /* the number of a case that finds its result type; no types table has so many records */
 
 /* A sheet: a record for each object of a value that is shown, in the script's order. A closed one has groups 0 and stands for its
-   object and every part of it. */
+   object and every part of it. Creators aren't shown: a client reads them in the value. */
 #define WIGNELD_SHEET_RECORD_BYTES 4
 
 #define WIGNELD_SHEET_UNIT 0
@@ -138,7 +149,7 @@ extern "C" {
 /*
  * The free stack that each function needs, whatever it is lent: the bytes between the caller's stack pointer, before the
  * arguments are put down, and the end of the stack. The deepest scripts, of depth 256 with types of 63 records, were seen to take
- * 118,720, 49,376 and 45,280 bytes; the numbers are these and at least a sixteenth more, in whole pages.
+ * 126,880, 49,392 and 45,280 bytes; the numbers are these and at least a sixteenth more, in whole pages.
  *
  * A thread's stack holds more than that: its own frames, and what the C library keeps there. With glibc
  * pthread_attr_setstacksize(&attributes, PTHREAD_STACK_MIN + WIGNELD_CHECK_STACK_BYTES) is enough for a thread that calls
@@ -149,10 +160,10 @@ extern "C" {
 #define WIGNELD_SHEET_STACK_BYTES 49152
 
 /*
- * Checks a script: questions 1 to 24, and 31 right after the second branch of a case that finds its type. Accepted: the record
- * count of its type, which then stands in front of `answer`; later bytes of `answer` are kept. `work` has at least
- * WIGNELD_WORK_BYTES bytes and ends as zeros once typing has begun, which is with questions 20 to 24 and 31; `answer` has at least
- * WIGNELD_ANSWER_BYTES.
+ * Checks a script: questions 1 to 24, with 36 right after 10 and after 15, and 31 right after the second branch of a case that
+ * finds its type. A range of questions below has 36 at these places too. Accepted: the record count of its type, which then stands
+ * in front of `answer`; later bytes of `answer` are kept. `work` has at least WIGNELD_WORK_BYTES bytes and ends as zeros once
+ * typing has begun, which is with questions 20 to 24 and 31; `answer` has at least WIGNELD_ANSWER_BYTES.
  */
 uint64_t wigneld_check(const uint8_t *groups, size_t groups_length, const uint8_t *types, size_t types_length,
                        const uint8_t *script, size_t script_length, uint8_t *work, size_t work_length, uint8_t *answer,
@@ -191,7 +202,7 @@ static inline uint32_t wigneld_place(uint64_t answer)
     return wigneld_question(answer) != 0 ? (uint32_t)answer : 0;
 }
 
-/* Of a check: the type's record count. Of a sheet: its record count. 0 where the call was refused. */
+/* Of a check: the type's record count. Of a sheet, or of what was rewritten: its record count. 0 where the call was refused. */
 static inline uint32_t wigneld_count(uint64_t answer)
 {
     return wigneld_question(answer) != 0 ? 0 : (uint32_t)answer;
@@ -229,12 +240,12 @@ static inline uint64_t wigneld_run_steps(uint64_t answer, const uint8_t *steps)
     return made;
 }
 
-/* What the place of a refusal counts. The last four are for calls that don't exist yet. */
+/* What the place of a refusal counts. The last two are for calls that don't exist yet. */
 #define WIGNELD_PLACE_NOTHING 0       /* the place is 0 and says nothing */
 #define WIGNELD_PLACE_ROW 1           /* a group, by its row */
 #define WIGNELD_PLACE_TYPE_RECORD 2   /* a record of the types table */
 #define WIGNELD_PLACE_SCRIPT_RECORD 3 /* a record of the script; for question 17 it may be the one after the last */
-#define WIGNELD_PLACE_EITHER_RECORD 4 /* a record of the types table or of the script */
+#define WIGNELD_PLACE_EITHER_RECORD 4 /* a record of the types table or of the script: see wigneld_place_kind_over */
 #define WIGNELD_PLACE_WORD 5          /* a word of a table of words */
 #define WIGNELD_PLACE_LISTED_SCRIPT 6 /* a script of a list */
 #define WIGNELD_PLACE_ENTRY 7         /* an entry of a list of amendments */
@@ -249,13 +260,35 @@ static inline unsigned wigneld_place_kind(unsigned question)
         return WIGNELD_PLACE_TYPE_RECORD;
     case 14: case 15: case 16: case 17: case 18: case 19: case 20: case 21: case 22: case 23: case 24: case 31:
         return WIGNELD_PLACE_SCRIPT_RECORD;
+    case 36:
+        return WIGNELD_PLACE_EITHER_RECORD;
+    case 33: case 34:
+        return WIGNELD_PLACE_WORD;
     default:
         return WIGNELD_PLACE_NOTHING;
     }
 }
 
-/* The last question there is. 28 to 30 are none yet. */
-#define WIGNELD_LAST_QUESTION 31
+/*
+ * The same, for a refused call over these tables, with the two places of question 36 told apart. All type records are asked it before
+ * any script is looked at, so the place is a type record just where the tables are refused 36 by themselves: by wigneld_compare of
+ * types 0 and 0 (wigneld_office.h), or here by a sheet of no value, which tables that pass are refused by 13. It needs the stack of
+ * wigneld_sheet.
+ */
+static inline unsigned wigneld_place_kind_over(unsigned question, const uint8_t *groups, size_t groups_length,
+                                               const uint8_t *types, size_t types_length)
+{
+    unsigned kind = wigneld_place_kind(question);
+
+    if (kind != WIGNELD_PLACE_EITHER_RECORD)
+        return kind;
+    return wigneld_question(wigneld_sheet(groups, groups_length, types, types_length, NULL, 0, 0, NULL, 0)) == question
+               ? WIGNELD_PLACE_TYPE_RECORD
+               : WIGNELD_PLACE_SCRIPT_RECORD;
+}
+
+/* The last question there is. 28 to 30 and 35 are none yet; 32 to 34 are the report program's, of its file of words. */
+#define WIGNELD_LAST_QUESTION 36
 
 /* A question in a few words: what is not so, when it is the one that an answer names. */
 static inline const char *wigneld_asked(unsigned question)
@@ -271,7 +304,7 @@ static inline const char *wigneld_asked(unsigned question)
         "two groups have a lowest group above both",                       /* 6, place: the first of them */
         "group 0 is below every group",                                    /* 7 */
         "the types table has whole records, 1 to 4,096",                   /* 8 */
-        "a type record's kind, groups and last byte are right",            /* 9 */
+        "a type record's kind, groups and byte 3 are right",               /* 9 */
         "a type's indirect readers are at or below its readers",           /* 10 */
         "the last type is finished",                                       /* 11, place: where it starts */
         "a type has at most 63 records",                                   /* 12, place: where it starts */
@@ -285,7 +318,7 @@ static inline const char *wigneld_asked(unsigned question)
         "what is applied, projected or tested has the form for it",        /* 20 */
         "who reads an object is one of its readers",                       /* 21, also of a recursion and who it calls itself as */
         "what is handed on is at or below the type that is wanted",        /* 22 */
-        "a recursion's result is as secret as the recursion",              /* 23 */
+        "a recursion's result is as secret as it, its creators no higher", /* 23, than ic of its type and who it calls itself as */
         "the type of a function or a pair has at most 63 records",         /* 24 */
         "the index or the group is in its table",                          /* 25, place: 1 for the second of two */
         "the script is a value",                                           /* 26 */
@@ -294,6 +327,11 @@ static inline const char *wigneld_asked(unsigned question)
         none,                                                              /* 29 */
         none,                                                              /* 30 */
         "the branches of a case that finds its type have a common one",    /* 31 */
+        "the table of words has 72 bytes",                                 /* 32 */
+        "a word is 1 to 12 letters a to z and then zero bytes",            /* 33 */
+        "a word is none of the earlier ones",                              /* 34 */
+        none,                                                              /* 35 */
+        "a record's indirect creators are at or below its creators",       /* 36 */
     };
 
     return question <= WIGNELD_LAST_QUESTION ? words[question] : none;

@@ -7,8 +7,8 @@
 #include "hold.h"
 #include "wigneld.h"
 
-#if WIGNELD_FORMAT != 2
-#error "the records below are of form 2"
+#if WIGNELD_FORMAT != 3
+#error "the records below are of form 3"
 #endif
 
 /* Two groups: anyone, and the lender above. */
@@ -24,7 +24,7 @@ struct bytes {
     size_t length;
 };
 
-static void put_type(struct bytes *types, unsigned kind, unsigned r, unsigned ir)
+static void put_made_type(struct bytes *types, unsigned kind, unsigned r, unsigned ir, unsigned c, unsigned ic)
 {
     uint8_t *record = types->at + types->length;
 
@@ -32,10 +32,17 @@ static void put_type(struct bytes *types, unsigned kind, unsigned r, unsigned ir
     record[WIGNELD_AT_READERS] = (uint8_t)r;
     record[WIGNELD_AT_INDIRECT] = (uint8_t)ir;
     record[WIGNELD_AT_ZERO] = 0;
+    record[WIGNELD_TYPE_AT_CREATORS] = (uint8_t)c;
+    record[WIGNELD_TYPE_AT_INDIRECT_CREATORS] = (uint8_t)ic;
     types->length += WIGNELD_TYPE_RECORD_BYTES;
 }
 
-static void put_record(struct bytes *script, unsigned kind, unsigned r, unsigned ir, unsigned number)
+static void put_type(struct bytes *types, unsigned kind, unsigned r, unsigned ir)
+{
+    put_made_type(types, kind, r, ir, 0, 0);
+}
+
+static void put_made(struct bytes *script, unsigned kind, unsigned r, unsigned ir, unsigned number, unsigned c, unsigned ic)
 {
     uint8_t *record = script->at + script->length;
 
@@ -45,7 +52,14 @@ static void put_record(struct bytes *script, unsigned kind, unsigned r, unsigned
     record[WIGNELD_AT_ZERO] = 0;
     record[WIGNELD_AT_NUMBER] = (uint8_t)(number & 0xff);
     record[WIGNELD_AT_NUMBER + 1] = (uint8_t)(number >> 8);
+    record[WIGNELD_SCRIPT_AT_CREATORS] = (uint8_t)c;
+    record[WIGNELD_SCRIPT_AT_INDIRECT_CREATORS] = (uint8_t)ic;
     script->length += WIGNELD_SCRIPT_RECORD_BYTES;
+}
+
+static void put_record(struct bytes *script, unsigned kind, unsigned r, unsigned ir, unsigned number)
+{
+    put_made(script, kind, r, ir, number, 0, 0);
 }
 
 /* A yes or no that anyone may read, and one of the lender's. */
@@ -121,6 +135,16 @@ static int is_record(const uint8_t *record, unsigned kind, unsigned r, unsigned 
 {
     return record[WIGNELD_AT_KIND] == kind && record[WIGNELD_AT_READERS] == r && record[WIGNELD_AT_INDIRECT] == ir
            && record[WIGNELD_AT_ZERO] == 0;
+}
+
+static int is_made_type(const uint8_t *record, unsigned c, unsigned ic)
+{
+    return record[WIGNELD_TYPE_AT_CREATORS] == c && record[WIGNELD_TYPE_AT_INDIRECT_CREATORS] == ic;
+}
+
+static int is_made(const uint8_t *record, unsigned c, unsigned ic)
+{
+    return record[WIGNELD_SCRIPT_AT_CREATORS] == c && record[WIGNELD_SCRIPT_AT_INDIRECT_CREATORS] == ic;
 }
 
 /* Accepted, run to its value, and shown to both groups. */
@@ -286,6 +310,126 @@ static void own_type(void)
     HOLD(wigneld_question(check(&types, &script)) == 16);
 }
 
+/* The meet of two groups, where there are no more. */
+static unsigned least(unsigned a, unsigned b)
+{
+    return a < b ? a : b;
+}
+
+/* A reading of an object with creators c and ic, out of which comes a unit of the lender's making. */
+static struct bytes reading(unsigned kind, unsigned reader, unsigned c, unsigned ic)
+{
+    struct bytes script;
+
+    memset(&script, 0, sizeof script);
+    put_record(&script, kind, reader, 0, kind == WIGNELD_KIND_CASE ? WIGNELD_OWN_TYPE : 0);
+    switch (kind) {
+    case WIGNELD_KIND_APPLICATION:
+        put_made(&script, WIGNELD_KIND_FUNCTION, 0, 0, 1, c, ic);
+        put_made(&script, WIGNELD_KIND_UNIT, 0, 0, 0, 1, 1);
+        put_record(&script, WIGNELD_KIND_UNIT, 0, 0, 0);
+        break;
+    case WIGNELD_KIND_CASE:
+        put_made(&script, WIGNELD_KIND_FIRST_INJECTION, 0, 0, PUBLIC, c, ic);
+        put_record(&script, WIGNELD_KIND_UNIT, 0, 0, 0);
+        put_made(&script, WIGNELD_KIND_UNIT, 0, 0, 0, 1, 1);
+        put_made(&script, WIGNELD_KIND_UNIT, 0, 0, 0, 1, 1);
+        break;
+    default:
+        put_made(&script, WIGNELD_KIND_PAIR, 0, 0, 0, c, ic);
+        put_made(&script, WIGNELD_KIND_UNIT, 0, 0, 0, 1, 1);
+        put_made(&script, WIGNELD_KIND_UNIT, 0, 0, 0, 1, 1);
+        break;
+    }
+    return script;
+}
+
+/* What comes out of a reading has creators at or below ic of the object and the group that reads. */
+static void creators(void)
+{
+    static const unsigned readings[] = { WIGNELD_KIND_APPLICATION, WIGNELD_KIND_FIRST_PROJECTION, WIGNELD_KIND_SECOND_PROJECTION,
+                                         WIGNELD_KIND_CASE };
+    struct bytes types = tables(), script;
+    unsigned i, reader, c, ic;
+    uint64_t answer;
+
+    for (i = 0; i < sizeof readings / sizeof readings[0]; i++)
+        for (reader = 0; reader < 2; reader++)
+            for (c = 0; c < 2; c++)
+                for (ic = 0; ic <= c; ic++) {
+                    unsigned left = least(ic, reader);
+
+                    script = reading(readings[i], reader, c, ic);
+                    answer = check(&types, &script);
+                    HOLD(wigneld_count(answer) == 1 && is_made_type(found, left, left));
+                    /* One step leaves a protect, which has no creators of its own; the next the unit. */
+                    answer = run(&types, &script, 1);
+                    HOLD(wigneld_run_count(answer) == 2 && is_record(first, WIGNELD_KIND_PROTECT, 0, 0) && is_made(first, 0, left));
+                    HOLD(is_made(first + WIGNELD_SCRIPT_RECORD_BYTES, 1, 1));
+                    answer = run(&types, &script, 1000);
+                    HOLD(wigneld_run_count(answer) == 1 && is_record(first, WIGNELD_KIND_UNIT, 0, 0) && is_made(first, left, left));
+                }
+
+    /* A protect lowers by its ic. */
+    for (ic = 0; ic < 2; ic++) {
+        memset(&script, 0, sizeof script);
+        put_made(&script, WIGNELD_KIND_PROTECT, 0, 0, 0, 0, ic);
+        put_made(&script, WIGNELD_KIND_UNIT, 0, 0, 0, 1, 1);
+        HOLD(wigneld_count(check(&types, &script)) == 1 && is_made_type(found, ic, ic));
+    }
+}
+
+/* A function of a unit with these creators, given one with those: lower ones are wanted, never higher ones. */
+static void taken(void)
+{
+    unsigned c, ic, given_c, given_ic;
+
+    for (c = 0; c < 2; c++)
+        for (ic = 0; ic <= c; ic++)
+            for (given_c = 0; given_c < 2; given_c++)
+                for (given_ic = 0; given_ic <= given_c; given_ic++) {
+                    struct bytes types, script;
+                    uint64_t answer;
+                    unsigned question = c <= given_c && ic <= given_ic ? 0 : 22;
+
+                    memset(&types, 0, sizeof types);
+                    put_made_type(&types, WIGNELD_TYPE_UNIT, 0, 0, c, ic);
+                    memset(&script, 0, sizeof script);
+                    put_record(&script, WIGNELD_KIND_APPLICATION, 0, 0, 0);
+                    put_record(&script, WIGNELD_KIND_FUNCTION, 0, 0, 0);
+                    put_record(&script, WIGNELD_KIND_VARIABLE, 0, 0, 0);
+                    put_made(&script, WIGNELD_KIND_UNIT, 0, 0, 0, given_c, given_ic);
+                    answer = check(&types, &script);
+                    HOLD(wigneld_question(answer) == question && wigneld_place(answer) == 0);
+                }
+}
+
+/* A recursion's result has creators at or below ic of its type and the group that it calls itself as. */
+static void recursive_creators(void)
+{
+    unsigned c, ic, result, caller;
+
+    for (c = 0; c < 2; c++)
+        for (ic = 0; ic <= c; ic++)
+            for (result = 0; result < 2; result++)
+                for (caller = 0; caller < 2; caller++) {
+                    struct bytes types, script = endless(caller);
+                    uint64_t answer;
+                    unsigned question = result <= least(ic, caller) ? 0 : 23;
+
+                    memset(&types, 0, sizeof types);
+                    put_made_type(&types, WIGNELD_TYPE_FUNCTION, 0, 0, c, ic);
+                    put_type(&types, WIGNELD_TYPE_UNIT, 0, 0);
+                    put_made_type(&types, WIGNELD_TYPE_UNIT, 0, 0, result, 0);
+                    memset(script.at + 2 * WIGNELD_SCRIPT_RECORD_BYTES + WIGNELD_SCRIPT_AT_CREATORS, 1, 2);
+                    answer = check(&types, &script);
+                    HOLD(wigneld_question(answer) == question && wigneld_place(answer) == (question != 0 ? 1u : 0u));
+                    /* What stands for the rule has its type's creators. */
+                    answer = run(&types, &script, 1);
+                    HOLD(wigneld_run_count(answer) == 13 && is_made(first + 3 * WIGNELD_SCRIPT_RECORD_BYTES, c, ic));
+                }
+}
+
 /* Protects above a case that finds its type: its operands are two levels below it, the unit in the tested one a level more. */
 static struct bytes deep(unsigned protects)
 {
@@ -314,6 +458,80 @@ static void own_depth(void)
         HOLD(wigneld_question(check(&types, &script)) == 18);
         HOLD(wigneld_place(check(&types, &script)) == WIGNELD_MOST_DEPTH - 4 + more + (more == 1 ? 2 : 1));
     }
+}
+
+/* A check that is refused so leaves all as it was, and so is a run. */
+static void refuses(const struct bytes *types, const struct bytes *script, unsigned question, uint32_t place, unsigned kind)
+{
+    uint64_t answer = check(types, script);
+
+    HOLD(wigneld_question(answer) == question && wigneld_place(answer) == place);
+    HOLD(wigneld_place_kind_over(question, groups, sizeof groups, types->at, types->length) == kind);
+    HOLD(all(work, sizeof work, OLD) && all(found, sizeof found, OLD));
+    HOLD(run(types, script, 1000) == answer);
+}
+
+/* Creators in the records: which kinds have them (14), that they are in the table (9, 15), indirect ones at or below (36), and the
+   order of these. */
+static void written_creators(void)
+{
+    const unsigned of_types = WIGNELD_PLACE_TYPE_RECORD, of_script = WIGNELD_PLACE_SCRIPT_RECORD;
+    struct bytes types = tables(), script = turned(1);
+    uint8_t *type = types.at + 4 * WIGNELD_TYPE_RECORD_BYTES, *record;
+    unsigned i;
+
+    /* Of two records the later one's earlier question is named. */
+    type[WIGNELD_TYPE_AT_INDIRECT_CREATORS] = 1;
+    refuses(&types, &script, 36, 4, of_types);
+    types.at[5 * WIGNELD_TYPE_RECORD_BYTES + WIGNELD_AT_INDIRECT] = 1;
+    refuses(&types, &script, 10, 5, of_types);
+    types.at[5 * WIGNELD_TYPE_RECORD_BYTES + WIGNELD_TYPE_AT_CREATORS] = 2;
+    refuses(&types, &script, 9, 5, of_types);
+    types = tables();
+    type[WIGNELD_TYPE_AT_INDIRECT_CREATORS] = 2;
+    refuses(&types, &script, 9, 4, of_types);
+    /* A type that isn't finished is named after it, and a script's record too. */
+    types = tables();
+    type[WIGNELD_TYPE_AT_INDIRECT_CREATORS] = 1;
+    types.length -= WIGNELD_TYPE_RECORD_BYTES;
+    script.at[WIGNELD_AT_KIND] = 12;
+    refuses(&types, &script, 36, 4, of_types);
+
+    types = tables();
+    for (i = 0; i < 9; i++) {
+        script = turned(1);
+        record = script.at + i * WIGNELD_SCRIPT_RECORD_BYTES;
+        if (record[WIGNELD_AT_KIND] >= WIGNELD_KIND_UNIT && record[WIGNELD_AT_KIND] <= WIGNELD_KIND_SECOND_INJECTION) {
+            record[WIGNELD_SCRIPT_AT_INDIRECT_CREATORS] = 1;
+            refuses(&types, &script, 36, i, of_script);
+            record[WIGNELD_SCRIPT_AT_CREATORS] = 1;
+            HOLD(wigneld_question(check(&types, &script)) == 0);
+            record[WIGNELD_SCRIPT_AT_CREATORS] = 2;
+            refuses(&types, &script, 15, i, of_script);
+        } else {
+            record[WIGNELD_SCRIPT_AT_INDIRECT_CREATORS] = 1;
+            refuses(&types, &script, 14, i, of_script);
+            record[WIGNELD_SCRIPT_AT_INDIRECT_CREATORS] = 0;
+            record[WIGNELD_SCRIPT_AT_CREATORS] = 1;
+            refuses(&types, &script, 14, i, of_script);
+        }
+    }
+    /* A protect has indirect creators alone, and nothing for them to be below. */
+    script = deep(1);
+    script.at[WIGNELD_SCRIPT_AT_INDIRECT_CREATORS] = 1;
+    HOLD(wigneld_question(check(&types, &script)) == 0);
+    script.at[WIGNELD_SCRIPT_AT_INDIRECT_CREATORS] = 2;
+    refuses(&types, &script, 15, 0, of_script);
+    script.at[WIGNELD_SCRIPT_AT_CREATORS] = 1;
+    refuses(&types, &script, 14, 0, of_script);
+
+    /* After 15 of a later record, before 16 of an earlier one. */
+    script = turned(1);
+    script.at[4 * WIGNELD_SCRIPT_RECORD_BYTES + WIGNELD_SCRIPT_AT_INDIRECT_CREATORS] = 1;
+    script.at[2 * WIGNELD_SCRIPT_RECORD_BYTES + WIGNELD_AT_NUMBER] = 6;
+    refuses(&types, &script, 36, 4, of_script);
+    script.at[7 * WIGNELD_SCRIPT_RECORD_BYTES + WIGNELD_AT_INDIRECT] = 1;
+    refuses(&types, &script, 15, 7, of_script);
 }
 
 /* A refused run is no value, has no records and no steps, and writes nothing. */
@@ -381,16 +599,18 @@ static void every_refusal(void)
 /* What each question's place counts, and that each has its words. */
 static void places(void)
 {
-    /* - nothing, g a row, t a type record, s a script record; by number from 0. */
-    static const char counted[] = "---gggg--tttt-sssssssssss------s";
+    /* - nothing, g a row, t a type record, s a script record, e either, w a word; by number from 0. */
+    static const char counted[] = "---gggg--tttt-sssssssssss------s-ww-e";
     unsigned question;
 
     HOLD(sizeof counted - 1 == WIGNELD_LAST_QUESTION + 1);
     for (question = 0; question <= WIGNELD_LAST_QUESTION; question++) {
         unsigned kind = wigneld_place_kind(question);
 
-        HOLD(kind <= WIGNELD_PLACE_SCRIPT_RECORD && counted[question] == "-gts"[kind]);
-        HOLD((strcmp(wigneld_asked(question), "no such question") == 0) == (question >= 28 && question <= 30));
+        HOLD(kind <= WIGNELD_PLACE_WORD && counted[question] == "-gtsew"[kind]);
+        HOLD(kind == WIGNELD_PLACE_EITHER_RECORD || wigneld_place_kind_over(question, NULL, 0, NULL, 0) == kind);
+        HOLD((strcmp(wigneld_asked(question), "no such question") == 0)
+             == ((question >= 28 && question <= 30) || question == 35));
     }
     HOLD(strcmp(wigneld_asked(WIGNELD_LAST_QUESTION + 1), "no such question") == 0);
     HOLD(wigneld_place_kind(WIGNELD_LAST_QUESTION + 1) == WIGNELD_PLACE_NOTHING);
@@ -403,6 +623,10 @@ int main(void)
     recursive();
     own_type();
     own_depth();
+    creators();
+    taken();
+    recursive_creators();
+    written_creators();
     refused_run();
     refused_sheet();
     every_refusal();

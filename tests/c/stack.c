@@ -33,6 +33,19 @@ enum { RECORDS_OF_A_COMB = WIGNELD_MOST_TYPE_RECORDS, COMBS = 6 };
 static const uint8_t groups[WIGNELD_ROW_BYTES] = { 1, 0, 0, 0 };
 static uint8_t types[COMBS * RECORDS_OF_A_COMB * WIGNELD_TYPE_RECORD_BYTES];
 
+/* The same, and the script of a call, with records of the older widths. */
+static uint8_t old_types[COMBS * RECORDS_OF_A_COMB * WIGNELD_OLD_TYPE_RECORD_BYTES];
+static uint8_t old_script[WIGNELD_MOST_SCRIPT_RECORDS * WIGNELD_OLD_SCRIPT_RECORD_BYTES];
+
+/* Records without their creators. */
+static void put_old(uint8_t *to, size_t old_width, const uint8_t *from, size_t width, size_t count)
+{
+    size_t i;
+
+    for (i = 0; i < count; i++)
+        memcpy(to + i * old_width, from + i * width, old_width);
+}
+
 /* Where the comb of this kind starts whose left (right) sides have sides in turn. */
 static unsigned comb(unsigned kind, int right)
 {
@@ -52,6 +65,7 @@ static void put_types(void)
             right[2 * i * WIGNELD_TYPE_RECORD_BYTES + WIGNELD_AT_KIND] = (uint8_t)kind;
         }
     }
+    put_old(old_types, WIGNELD_OLD_TYPE_RECORD_BYTES, types, WIGNELD_TYPE_RECORD_BYTES, COMBS * RECORDS_OF_A_COMB);
 }
 
 /* A script while it is built: its records, and the count of units that are owed after the innermost ones. */
@@ -260,12 +274,13 @@ static void sheet_script(struct script *s, enum way way)
 
 /* The calls, in buffers that stand apart from the stack. */
 
-enum call { CHECK, RUN, SHEET, COMPARE, WRITE_CALLERS, CALLS };
+enum call { CHECK, RUN, SHEET, COMPARE, WRITE_CALLERS, REWRITE_SCRIPT, REWRITE_TYPES, CALLS };
 
 static const char *const names[CALLS] = { "wigneld_check", "wigneld_run", "wigneld_sheet", "wigneld_compare",
-                                          "wigneld_write_callers" };
+                                          "wigneld_write_callers", "wigneld_rewrite_script", "wigneld_rewrite_types" };
 static const size_t promised[CALLS] = { WIGNELD_CHECK_STACK_BYTES, WIGNELD_RUN_STACK_BYTES, WIGNELD_SHEET_STACK_BYTES,
-                                        WIGNELD_COMPARE_STACK_BYTES, WIGNELD_WRITE_CALLERS_STACK_BYTES };
+                                        WIGNELD_COMPARE_STACK_BYTES, WIGNELD_WRITE_CALLERS_STACK_BYTES,
+                                        WIGNELD_REWRITE_SCRIPT_STACK_BYTES, WIGNELD_REWRITE_TYPES_STACK_BYTES };
 
 /* No promise up to this is too high: it is less than a caller's own frames are apart. */
 enum { NEXT_TO_NONE = 512 };
@@ -287,6 +302,7 @@ __attribute__((noinline)) static void make_call(struct job *job)
 {
     const uint8_t *script = job->script->bytes;
     size_t length = job->script->count * WIGNELD_SCRIPT_RECORD_BYTES;
+    size_t old_length = job->script->count * WIGNELD_OLD_SCRIPT_RECORD_BYTES;
     uintptr_t here;
 
     /* Named as changed, rbx is saved before and not between this and the call. */
@@ -307,7 +323,14 @@ __attribute__((noinline)) static void make_call(struct job *job)
         job->answer = wigneld_compare(groups, sizeof groups, types, sizeof types, job->script->type, job->script->type);
         break;
     case WRITE_CALLERS:
-        job->answer = wigneld_write_callers(types, sizeof types, first, length);
+        job->answer = wigneld_write_callers(old_types, sizeof old_types, old_script, old_length);
+        break;
+    case REWRITE_SCRIPT:
+        job->answer = wigneld_rewrite_script(groups, sizeof groups, old_types, sizeof old_types, old_script, old_length, first,
+                                             sizeof first);
+        break;
+    case REWRITE_TYPES:
+        job->answer = wigneld_rewrite_types(groups, sizeof groups, old_types, sizeof old_types, first, sizeof first);
         break;
     case CALLS: break;
     }
@@ -329,7 +352,7 @@ static void *in_thread(void *given)
     size_t here = (uintptr_t)__builtin_frame_address(0) - job->end;
 
     /* A script to rewrite; the copy is made here, where there is stack enough for it. */
-    memcpy(first, job->script->bytes, sizeof first);
+    put_old(old_script, WIGNELD_OLD_SCRIPT_RECORD_BYTES, job->script->bytes, WIGNELD_SCRIPT_RECORD_BYTES, job->script->count);
     if (job->wanted == 0)
         make_call_below(job, 0);
     else /* an array is aligned to 16 bytes: rather less free stack than more */
@@ -464,6 +487,9 @@ static int script_of(enum call call, unsigned number, struct script *s)
             return 0;
         run_script(s, (enum way)number, UNROLLED);
         return 1;
+    case REWRITE_SCRIPT:
+        return script_of(RUN, number, s);
+    case REWRITE_TYPES: return number < 1;
     case CALLS: break;
     }
     return 0;
@@ -501,12 +527,14 @@ static unsigned hold(enum call call)
         if (answer != job.answer)
             fail("two threads, two answers");
         /* Refused before anything goes deep, a script tries nothing. */
-        if (wigneld_question(answer) != 0 && wigneld_question(answer) < 20)
+        if (wigneld_question(answer) != 0 && (wigneld_question(answer) < 20 || wigneld_question(answer) == 36))
             fail("a script is no whole term of depth 256");
         if (call == COMPARE && wigneld_comparison(answer) != WIGNELD_COMPARE_SAME)
             fail("a type is not the same as itself");
         if (call == WRITE_CALLERS && answer != recursions(&s))
             fail("a recursion was not rewritten");
+        if ((call == REWRITE_SCRIPT && answer != s.count) || (call == REWRITE_TYPES && answer != COMBS * RECORDS_OF_A_COMB))
+            fail("a record was not rewritten");
     }
     return number;
 }
