@@ -93,7 +93,7 @@ unfolding accepted-line run-text refusal-line running sizeT
 checked-text w g t s (accepted type) = accepted-line (sizeT type) ++ run-text w g t (running g t s report-budget report-buffer report-buffer)
 checked-text w g t s (refused q p) = refusal-line q p
 
--- "Checks, runs in two buffers of 65,536 bytes with budget 1,000, sheet for group 0 in a buffer of 8,192 sheet records."
+-- "Checks, runs in two buffers .. with budget 1,000, sheet for group 0 in a buffer of 8,192 sheet records"; item 10: "the report's run buffers have 65,536 bytes"
 unfoldable pub script-text : Bytes → Bytes → Bytes → Bytes → Bytes
 unfolding checked-text checking
 script-text w groups types script = checked-text w groups types script (verdict groups types script)

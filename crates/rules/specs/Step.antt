@@ -24,7 +24,7 @@ end-number may-not = 2
 end-number wrong-kind = 3
 end-number too-big = 4
 
--- "Too big means the new term has more than 8,192 records, more than the written buffer's length divided by 8, or depth over 256."
+-- "Too big means the new term has more than 8,192 records, more than the written buffer's length divided by" a record's bytes, "or depth over 256"; item 10: "too big divides by 8"
 unfoldable pub exceeds : ℕ → Term → Bool
 exceeds room e = ltb script-limit (size e) || (ltb (room / script-width) (size e) || ltb depth-limit (depth e))
 
