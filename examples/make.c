@@ -1,7 +1,7 @@
 /*
  * Writes the example folders' files groups, types and script, and words where a studio has its own:
  *
- *     rt staticlib wigneld_office
+ *     ./archives wigneld_office
  *     cc -std=c99 -Iinclude -o make examples/make.c target/staticlib/libwigneld_office.a && ./make examples
  *
  * A script is written in its own order, each record followed by its operands; the indent below follows the operands. All but the

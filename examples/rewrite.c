@@ -8,7 +8,7 @@
  * NEW never has files of two forms because of a refusal. Exits with 0 where they are written, 1 where a call refuses a file, and 2
  * where a file can't be read or written.
  *
- *     rt staticlib wigneld_office
+ *     ./archives wigneld_office
  *     cc -std=c99 -O2 -Iinclude -o target/rewrite examples/rewrite.c target/staticlib/libwigneld_office.a
  */
 #include <errno.h>

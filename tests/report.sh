@@ -9,19 +9,22 @@ trap 'rm -rf "$work"' EXIT
 passed=0
 
 # A checkout: the script, an example, and a PATH with nothing but what is put there.
-mkdir -p "$work/checkout/examples/loan-sheet" "$work/checkout/target/bin" "$work/tools" "$work/elsewhere/loan" "$work/empty"
+mkdir -p "$work/checkout/examples/loan-sheet" "$work/checkout/crates/report/out" "$work/tools" "$work/elsewhere/loan" "$work/empty"
 cp ../report "$work/checkout/report"
 touch "$work/checkout/examples/loan-sheet/script" "$work/elsewhere/loan/groups"
 for tool in bash cat dirname env mkdir readlink sed tee; do ln -s "$(command -v "$tool")" "$work/tools/$tool"; done
 printf '#!/bin/sh\nexit 0\n' >"$work/tools/cc"
 cat >"$work/tools/rt" <<'EOF'
 #!/bin/sh
-[ "$*" = 'check report' ] && [ -f report ] || exit 9
-echo 'rt: calculus proved (3 s)'
-echo 'rt: something else'
+[ "$*" = run ] && [ -x ../../report ] && [ -d out ] || exit 9
+echo 'crate calculus: modules loaded=0 checked=33'
+echo 'logic=proved functions=1'
+echo 'logic=proved functions=2'
+echo 'crate rules: modules loaded=0 checked=33'
+echo 'logic=not-proved functions=1'
 EOF
-printf '#!/bin/sh\ncat "%s"\n' "$work/prints" >"$work/checkout/target/bin/report"
-chmod +x "$work/tools/cc" "$work/tools/rt" "$work/checkout/target/bin/report"
+printf '#!/bin/sh\ncat "%s"\n' "$work/prints" >"$work/checkout/crates/report/out/report"
+chmod +x "$work/tools/cc" "$work/tools/rt" "$work/checkout/crates/report/out/report"
 
 fail() {
     printf 'report.sh: %s\n' "$*" >&2
@@ -47,7 +50,7 @@ report() { env PATH="$work/tools" "$work/checkout/report" "$@"; }
 printf 'accepted 3\nend 0 steps 2 records 2\n' >"$work/prints"
 try 'no argument' 0 'The report of examples/loan-sheet' report
 printed 'accepted 3\nend 0 steps 2 records 2\n'
-grep -q '^  calculus proved (3 s)$' "$work/told" || fail "a crate that is proved isn't named"
+[ "$(grep -c ' proved$' "$work/told")" = 1 ] && grep -q '^  calculus proved$' "$work/told" || fail "a crate that is proved isn't named, or another is"
 try 'a folder' 0 "The report of $work/elsewhere/loan" report "$work/elsewhere/loan"
 
 cd "$work/elsewhere"

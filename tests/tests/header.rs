@@ -328,7 +328,7 @@ fn prototypes(archive: &str) -> BTreeMap<String, String> {
 fn exports(archive: &str) -> BTreeMap<String, String> {
     let path = root().join(format!("crates/{archive}/src/lib.rt"));
     let text = fs::read_to_string(&path).unwrap_or_else(|e| panic!("{path:?}: {e}"));
-    let starts = text.match_indices("#[no_mangle]\npub extern \"C\" fn ");
+    let starts = text.match_indices("#[unsafe(no_mangle)]\npub extern \"C\" fn ");
     starts
         .map(|(at, start)| {
             let rest = &text[at + start.len()..];

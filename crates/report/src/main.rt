@@ -3,7 +3,9 @@
 // `write_report` makes the whole text of the files' bytes in a lent buffer, and `main` only reads, calls it and writes. Each function
 // has the buffers of the call that it makes, so that the text's is all that is lent for writing.
 
-ghost use Rattle.std.specs.Prelude.{◌≡◌, ℕ, ◌+◌, ◌≤◌, length};
+#![tactic(auto)]
+
+ghost use Rattle.std.specs.Prelude.{◌≡◌, ℕ, ◌+◌, ◌≤◌, length, IfOk};
 ghost use Rattle.rules.specs.Limits.{words_length, report_budget, report_buffer};
 ghost use Rattle.rules.specs.Script.{encode};
 ghost use Rattle.rules.specs.Run.{Ran};
@@ -18,10 +20,12 @@ use answer::Checked;
 use evaluation::RunAnswer;
 use inference::{Found, SLOT};
 use lattice::{GROUP_LIMIT, ROW_WIDTH};
-use libc::STDOUT_FILENO;
 use records::SCRIPT_WIDTH;
 use script::SCRIPT_LIMIT;
 use sheet::{SHEET_WIDTH, Sheet};
+use std::fs::Files;
+use std::io::Read;
+use std::{fs, io};
 use types::TYPE_WIDTH;
 use types_table::TABLE_LIMIT;
 use typing::WORK_LENGTH;
@@ -169,53 +173,66 @@ fn write_report(
 }
 
 // What came of a file: so many of its bytes at the front of a buffer, no such file, or an error.
-#[derive(Drop)]
+#[derive(Clone, Copy)]
 enum Loaded {
     Bytes(usize),
     Missing,
     Failed,
 }
 
+// Tells an error on standard error. Where that takes nothing there is nobody to tell.
+fn tell(rt: &impl Eprint, what: &str, error: io::Error) {
+    let _ = eprintln!(rt; "{what}: {error}");
+}
+
 // A file that can't be opened is missing, or has an error, which is told on standard error.
-fn unopened(path: &[u8]) -> Loaded
+fn unopened(rt: &impl Eprint, path: &str, error: io::Error) -> Loaded
     ensures { (n : ℕ) → result ≡ Bytes n → ⊥ }
 {
-    if os::errno() == libc::ENOENT {
+    if error.kind() == io::ErrorKind::NotFound {
         return Loaded::Missing;
     }
-    os::fail(path);
+    tell(rt, path, error);
     Loaded::Failed
 }
 
-// Whether nothing is left to read: a short read alone may be an error.
-fn at_end(fd: i32) -> bool {
-    let mut next = [0u8; 1];
-    libc::read(fd, &mut next) == 0
+// Fills the buffer from the front until it is full or nothing is left to read. The answer is how many bytes there are.
+fn fill(file: &mut impl Read, buffer: &mut [u8]) -> io::Result<usize>
+    ensures { IfOk result (λ n. n ≤ length buffer.new) }
+{
+    let mut n = 0;
+    while n < buffer.len() {
+        let more = file.read(&mut buffer[n..])?;
+        if more == 0 {
+            break;
+        }
+        n += more;
+    }
+    Ok(n)
 }
 
 // The bytes of a file, as many as the buffer takes.
-fn load(path: &[u8], buffer: &mut [u8]) -> Loaded
+fn load<R: Files + Eprint>(rt: &R, path: &str, buffer: &mut [u8]) -> Loaded
     ensures { (n : ℕ) → result ≡ Bytes n → n ≤ length buffer.new }
 {
-    let fd = os::open_read(path);
-    if fd < 0 {
-        return unopened(path);
+    let mut file = match fs::open(rt, path) {
+        Ok(file) => file,
+        Err(error) => return unopened(rt, path, error),
+    };
+    match fill(&mut file, buffer) {
+        Ok(n) => Loaded::Bytes(n),
+        Err(error) => {
+            tell(rt, path, error);
+            Loaded::Failed
+        }
     }
-    let n = io::read_full(fd, buffer);
-    if n < buffer.len() && !at_end(fd) {
-        os::fail(path);
-        libc::close(fd);
-        return Loaded::Failed;
-    }
-    libc::close(fd);
-    Loaded::Bytes(n)
 }
 
 // A table or a script that is missing is empty.
-fn load_or_empty(path: &[u8], buffer: &mut [u8]) -> Loaded
+fn load_or_empty<R: Files + Eprint>(rt: &R, path: &str, buffer: &mut [u8]) -> Loaded
     ensures { (n : ℕ) → result ≡ Bytes n → n ≤ length buffer.new }
 {
-    let a = load(path, buffer);
+    let a = load(rt, path, buffer);
     let Loaded::Missing = a else {
         return a;
     };
@@ -223,41 +240,48 @@ fn load_or_empty(path: &[u8], buffer: &mut [u8]) -> Loaded
 }
 
 // The report of the files' bytes, on standard output.
-fn print_report(supplied: bool, words: &[u8], groups: &[u8], types: &[u8], script: &[u8]) {
+fn print_report<R: Print + Eprint>(
+    rt: &R,
+    supplied: bool,
+    words: &[u8],
+    groups: &[u8],
+    types: &[u8],
+    script: &[u8],
+) {
     let mut out = [0u8; REPORT_LENGTH];
     let end = write_report(supplied, words, groups, types, script, &mut out);
-    if !io::write_all(STDOUT_FILENO, &out[..end]) {
-        os::fail(b"standard output");
+    if let Err(error) = rt.write_all(&out[..end]) {
+        tell(rt, "standard output", error);
     }
 }
 
 // Reads the file `words` and prints the report. A missing one means ours, and an empty one is refused.
-fn report_in_words(groups: &[u8], types: &[u8], script: &[u8]) {
+fn report_in_words<R: Files + Print + Eprint>(rt: &R, groups: &[u8], types: &[u8], script: &[u8]) {
     let mut words = [0u8; WORDS_ROOM];
-    let w = load(b"words", &mut words);
+    let w = load(rt, "words", &mut words);
     match w {
-        Loaded::Bytes(n) => print_report(true, &words[..n], groups, types, script),
-        Loaded::Missing => print_report(false, &words[..0], groups, types, script),
+        Loaded::Bytes(n) => print_report(rt, true, &words[..n], groups, types, script),
+        Loaded::Missing => print_report(rt, false, &words[..0], groups, types, script),
         Loaded::Failed => {}
     }
 }
 
 // Reads the files and prints their report.
-fn main() {
+fn main(rt: HostRuntime) {
     let mut groups = [0u8; GROUPS_LENGTH];
-    let g = load_or_empty(b"groups", &mut groups);
+    let g = load_or_empty(&rt, "groups", &mut groups);
     let Loaded::Bytes(rows) = g else {
         return;
     };
     let mut types = [0u8; TYPES_LENGTH];
-    let t = load_or_empty(b"types", &mut types);
+    let t = load_or_empty(&rt, "types", &mut types);
     let Loaded::Bytes(named) = t else {
         return;
     };
     let mut script = [0u8; SCRIPT_LENGTH];
-    let s = load_or_empty(b"script", &mut script);
+    let s = load_or_empty(&rt, "script", &mut script);
     let Loaded::Bytes(written) = s else {
         return;
     };
-    report_in_words(&groups[..rows], &types[..named], &script[..written]);
+    report_in_words(&rt, &groups[..rows], &types[..named], &script[..written]);
 }
