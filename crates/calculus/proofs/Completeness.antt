@@ -142,22 +142,22 @@ module _ {S : Security} {tab : ℕ → Ty} (L : Laws S) (T : Table S tab) where
 
   -- in a narrower context too, without which the branches of a case do not go through
   pub typed_inferred : {Γ Δ : List Ty} {e : Term} {t : Ty} → HasType S tab Δ e t → Narrower S Γ Δ → InferredBelow S tab Γ e t
-  typed_inferred (t_sub p b h) N =
-      let x = typed_inferred p N in record { least = x.least; inferred = x.inferred; below = directed_trans L x.below (subtype_directed L b) }
-  typed_inferred (t_var {n = n} h) N = var_below n N h
-  typed_inferred (t_unit {k = k} h) N = unit_below k h
-  typed_inferred (t_lam {k = k} {i = i} {e = e} h p f) N = lam_below k i e h (typed_inferred p (extend_table i N)) f
-  typed_inferred (t_pair {k = k} {a = a} {b = b} h p q f) N = pair_below k a b h (typed_inferred p N) (typed_inferred q N) f
-  typed_inferred (t_inj {d = d} {k = k} {l = l} {i = i} h e p) N = inj_below d k l i h e (typed_inferred p N)
-  typed_inferred (t_app {w = w} p q m) N =
-      let x = typed_inferred p N in let y = typed_inferred q N in app_below w x.inferred x.below y.inferred y.below m
-  typed_inferred (t_proj {d = d} {w = w} p m) N = let x = typed_inferred p N in proj_below d w x.inferred x.below m
-  typed_inferred (t_case {w = w} {i = i} p m z q q') N =
-      let x = typed_inferred p N in
+  typed_inferred {Γ = Γ} (t_sub p b h) N =
+      let x = typed_inferred {Γ = Γ} p N in record { least = x.least; inferred = x.inferred; below = directed_trans L x.below (subtype_directed L b) }
+  typed_inferred {Γ = Γ} (t_var {n = n} h) N = var_below n N h
+  typed_inferred {Γ = Γ} (t_unit {k = k} h) N = unit_below k h
+  typed_inferred {Γ = Γ} (t_lam {k = k} {i = i} {e = e} h p f) N = lam_below k i e h (typed_inferred {Γ = tab i ∷ Γ} p (extend_table i N)) f
+  typed_inferred {Γ = Γ} (t_pair {k = k} {a = a} {b = b} h p q f) N = pair_below k a b h (typed_inferred {Γ = Γ} p N) (typed_inferred {Γ = Γ} q N) f
+  typed_inferred {Γ = Γ} (t_inj {d = d} {k = k} {l = l} {i = i} h e p) N = inj_below d k l i h e (typed_inferred {Γ = Γ} p N)
+  typed_inferred {Γ = Γ} (t_app {w = w} p q m) N =
+      let x = typed_inferred {Γ = Γ} p N in let y = typed_inferred {Γ = Γ} q N in app_below w x.inferred x.below y.inferred y.below m
+  typed_inferred {Γ = Γ} (t_proj {d = d} {w = w} p m) N = let x = typed_inferred {Γ = Γ} p N in proj_below d w x.inferred x.below m
+  typed_inferred {Γ = Γ} (t_case {w = w} {i = i} p m z q q') N =
+      let x = typed_inferred {Γ = Γ} p N in
       case_below w i x.inferred x.below m z
-      (λ s z. typed_inferred q (n_extend (directed_subtype z) N)) (λ t z. typed_inferred q' (n_extend (directed_subtype z) N))
-  typed_inferred (t_protect {m = m} h p) N = protect_below m h (typed_inferred p N)
-  typed_inferred (t_mu {w = w} {i = i} e m h p) N = mu_below w i e m h (typed_inferred p (extend_table i N))
+      (λ s z. typed_inferred {Γ = s ∷ Γ} q (n_extend (directed_subtype z) N)) (λ t z. typed_inferred {Γ = t ∷ Γ} q' (n_extend (directed_subtype z) N))
+  typed_inferred {Γ = Γ} (t_protect {m = m} h p) N = protect_below m h (typed_inferred {Γ = Γ} p N)
+  typed_inferred {Γ = Γ} (t_mu {w = w} {i = i} e m h p) N = mu_below w i e m h (typed_inferred {Γ = tab i ∷ Γ} p (extend_table i N))
 
   same_context : {Γ : List Ty} → SecureContext S Γ → Narrower S Γ Γ
   same_context sc_empty = n_empty

@@ -103,9 +103,27 @@ module _ {S : Security} (L : Laws S) where
   le_antisym below k l p q = L.le_antisym k l p q
   le_antisym above k l p q = L.le_antisym k l q p
 
+  -- by the test, which reads the two formers apart
+  test_antisym : (d : Direction) (s t : Ty) → So (subtype S d s t) → So (subtype S d t s) → s ≡ t
+  unfolding subtype
+  test_antisym d (one k) (one l) p q = ap one (le_antisym d k l p q)
+  test_antisym d (one k) (node g l s' t') p q = absurd (false≢true p)
+  test_antisym d (node f k s t) (one l) p q = absurd (false≢true p)
+  test_antisym d (node f k s t) (node g l s' t') p q =
+      let e = same_eq f g (and_left _ _ p) in
+      let p1 = and_right (same f g) _ p in
+      let p2 = and_right (le_toward S d k l) _ p1 in
+      let q1 = and_right (same g f) _ q in
+      let q2 = and_right (le_toward S d l k) _ q1 in
+      rw (
+        e,
+        le_antisym d k l (and_left _ _ p1) (and_left _ _ q1),
+        test_antisym (leftward g d) s s' (rw e at (and_left (subtype S (leftward f d) s s') _ p2)) (and_left _ _ q2),
+        test_antisym d t t' (and_right (subtype S (leftward f d) s s') _ p2) (and_right (subtype S (leftward g d) s' s) _ q2),
+      )
+
   pub directed_antisym : {d : Direction} {s t : Ty} → Directed S d s t → Directed S d t s → s ≡ t
-  directed_antisym (d_one {d = d} p) (d_one q) = ap one (le_antisym d _ _ p q)
-  directed_antisym (d_node {d = d} p a b) (d_node q a' b') = rw (le_antisym d _ _ p q, directed_antisym a a', directed_antisym b b')
+  directed_antisym {d = d} {s = s} {t = t} p q = test_antisym d s t (directed_test p) (directed_test q)
 
 -- The relation.
 

@@ -54,14 +54,14 @@ infer_inferred {S} {tab} {Γ} (app w f a) t h =
     parts_some function s q λ s_is.
     bind_some (infer S tab Γ a) _ h2 λ u p2 h3.
     when_some (S.permits z.own w && subtype S below u z.lhs) _ h3 λ x e.
-    rw (← e) (i_app (rw s_is at (infer_inferred f s p)) (infer_inferred a u p2)
+    rw (← e) (i_app (rw s_is at (infer_inferred {S = S} {tab = tab} {Γ = Γ} f s p)) (infer_inferred a u p2)
     (test_directed below _ _ (and_right (S.permits z.own w) _ x)) (and_left _ _ x))
 infer_inferred {S} {tab} {Γ} (proj d w b) t h =
     bind_some (infer S tab Γ b) _ h λ s p h1.
     bind_some (parts product s) _ h1 λ z q h2.
     parts_some product s q λ s_is.
     when_some (S.permits z.own w) _ h2 λ x e.
-    rw (← e) (i_proj (rw s_is at (infer_inferred b s p)) x)
+    rw (← e) (i_proj (rw s_is at (infer_inferred {S = S} {tab = tab} {Γ = Γ} b s p)) x)
 infer_inferred {S} {tab} {Γ} (case w i c a b) t h =
     bind_some (infer S tab Γ c) _ h λ s p h1.
     bind_some (parts sum s) _ h1 λ z q h2.
@@ -70,7 +70,7 @@ infer_inferred {S} {tab} {Γ} (case w i c a b) t h =
     bind_some (infer S tab (z.rhs ∷ Γ) b) _ h3 λ v p3 h4.
     bind_some (result S tab i u v) _ h4 λ r y h5.
     when_some (S.permits z.own w) _ h5 λ x e.
-    rw (← e) (i_case (rw s_is at (infer_inferred c s p)) x (infer_inferred a u p2) (infer_inferred b v p3) y)
+    rw (← e) (i_case (rw s_is at (infer_inferred {S = S} {tab = tab} {Γ = Γ} c s p)) x (infer_inferred a u p2) (infer_inferred b v p3) y)
 infer_inferred {S} {tab} {Γ} (protect m b) t h =
     bind_some (infer S tab Γ b) _ h λ s p h1.
     when_some (S.secure_i m) _ h1 λ x e.

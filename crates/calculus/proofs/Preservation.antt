@@ -6,7 +6,7 @@ use mathlib.Core.Option.{some}
 use Prim.Native.Nat.{ℕ, zero}
 use Rattle.calculus.specs.Security.{Property, Reader, Indirect, Security, Laws}
 use Rattle.calculus.specs.Types.{Ty, top, raise_t}
-use Rattle.calculus.specs.Subtyping.{Subtype, below}
+use Rattle.calculus.specs.Subtyping.{Subtype}
 use Rattle.calculus.specs.Terms.{Side, choose, Term, protect, is_value, subst, raise_value}
 use Rattle.calculus.specs.Reduction.{Contracts, c_app, c_proj, c_case, c_mu, c_protect, Reduces, moved, step}
 use Rattle.calculus.specs.Typing.{HasType, t_unit, t_lam, t_pair, t_protect, t_mu, Table, infer}

@@ -121,6 +121,7 @@ module _ (S : Security) (tab : ℕ → Ty) where
   wrong_contracts (c_proj x y g) (wrong_proj v h) = true≢false h
   wrong_contracts (c_case x g) (wrong_case v h) = true≢false h
   wrong_contracts (c_mu x) (wrong_mu h) = none-ne-some _ (sym h ∙ ap (parts function) x)
+  wrong_contracts (c_protect _) w = elim w [ ]
 
   wrong_denied : {e : Term} → Denied S e → Wrong tab e → ⊥
   unfolding built_by

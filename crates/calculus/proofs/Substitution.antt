@@ -1,5 +1,5 @@
 -- The substitution lemma (A.3), for a closed value and the outermost variable.
-use mathlib.Core.Path.{◌≡◌, refl, ◌∙◌}
+use mathlib.Core.Path.{◌≡◌, refl, ap, ◌∙◌}
 use mathlib.Core.Bool.{true, false}
 use mathlib.Core.List.{List, [], ◌∷◌, ◌++◌}
 use mathlib.Core.Option.{some, some-injective, none-ne-some}
@@ -26,16 +26,23 @@ module _ {S : Security} {tab : ℕ → Ty} {v : Term} {s : Ty} (hv : HasType S t
   unfolding subst
   substitution_var Δ n h = outermost_or Δ n h (λ e q. rw e (rw q at (weakening Δ hv))) (λ e q. rw e (t_var q))
 
-  pub substitution : (Δ : List Ty) {e : Term} {t : Ty} → HasType S tab (Δ ++ (s ∷ [])) e t → HasType S tab Δ (subst (length Δ) v e) t
+  -- in a context that equals Δ and s
+  substitution_in : (Δ : List Ty) {Θ : List Ty} {e : Term} {t : Ty} → HasType S tab Θ e t → Θ ≡ Δ ++ (s ∷ [])
+      → HasType S tab Δ (subst (length Δ) v e) t
   unfolding subst
-  substitution Δ (t_sub p b h) = t_sub (substitution Δ p) b h
-  substitution Δ (t_var {n = n} h) = substitution_var Δ n h
-  substitution Δ (t_unit h) = t_unit h
-  substitution Δ (t_lam {i = i} h p f) = t_lam h (substitution (tab i ∷ Δ) p) f
-  substitution Δ (t_pair h p q f) = t_pair h (substitution Δ p) (substitution Δ q) f
-  substitution Δ (t_inj h e p) = t_inj h e (substitution Δ p)
-  substitution Δ (t_app p q m) = t_app (substitution Δ p) (substitution Δ q) m
-  substitution Δ (t_proj p m) = t_proj (substitution Δ p) m
-  substitution Δ (t_case {s = a} {t = b} p m r q q') = t_case (substitution Δ p) m r (substitution (a ∷ Δ) q) (substitution (b ∷ Δ) q')
-  substitution Δ (t_protect h p) = t_protect h (substitution Δ p)
-  substitution Δ (t_mu {i = i} e m h p) = t_mu e m h (substitution (tab i ∷ Δ) p)
+  substitution_in Δ (t_sub p b h) E = t_sub (substitution_in Δ p E) b h
+  substitution_in Δ {Θ} (t_var {n = n} {s = t} h) E = let g : lookup (Δ ++ (s ∷ [])) n ≡ some t = rw E at h in substitution_var Δ n g
+  substitution_in Δ (t_unit h) E = t_unit h
+  substitution_in Δ (t_lam {i = i} h p f) E = t_lam h (substitution_in (tab i ∷ Δ) p (ap (λ Γ. tab i ∷ Γ) E)) f
+  substitution_in Δ (t_pair h p q f) E = t_pair h (substitution_in Δ p E) (substitution_in Δ q E) f
+  substitution_in Δ (t_inj h e p) E = t_inj h e (substitution_in Δ p E)
+  substitution_in Δ (t_app p q m) E = t_app (substitution_in Δ p E) (substitution_in Δ q E) m
+  substitution_in Δ (t_proj p m) E = t_proj (substitution_in Δ p E) m
+  substitution_in Δ (t_case {s = a} {t = b} p m r q q') E =
+      t_case (substitution_in Δ p E) m r
+      (substitution_in (a ∷ Δ) q (ap (λ Γ. a ∷ Γ) E)) (substitution_in (b ∷ Δ) q' (ap (λ Γ. b ∷ Γ) E))
+  substitution_in Δ (t_protect h p) E = t_protect h (substitution_in Δ p E)
+  substitution_in Δ (t_mu {i = i} e m h p) E = t_mu e m h (substitution_in (tab i ∷ Δ) p (ap (λ Γ. tab i ∷ Γ) E))
+
+  pub substitution : (Δ : List Ty) {e : Term} {t : Ty} → HasType S tab (Δ ++ (s ∷ [])) e t → HasType S tab Δ (subst (length Δ) v e) t
+  substitution Δ p = substitution_in Δ p refl

@@ -6,12 +6,12 @@ use Prim.Native.Nat.{ℕ, ◌≤◌}
 use native.Mathlib.Omega.{arith}
 use Rattle.calculus.specs.Security.{Property}
 use Rattle.calculus.specs.Terms.{Side, first, second, choose, Term, var, unit, lam, pair, inj, app, proj, case, protect, mu, is_value}
-use Rattle.rules.specs.Answer.{Bytes, accepted}
+use Rattle.rules.specs.Answer.{Bytes}
 use Rattle.rules.specs.Groups.{leq}
 use Rattle.rules.specs.Script.{term}
 use Rattle.rules.specs.Sheet.{sheet}
-use Rattle.rules.specs.Calls.{script_check, sheeting}
-use Rattle.demands.specs.Closed.{Closed, closed_unit, closed_function, closed_pair, closed_injection, SameReaders, AlikeOutside, closed_in_both, units, functions, pairs, injections, ClosedCloses, ClosedObjectsClose}
+use Rattle.rules.specs.Calls.{sheeting}
+use Rattle.demands.specs.Closed.{Closed, closed_unit, closed_function, closed_pair, closed_injection, SameReaders, AlikeOutside, closed_in_both, units, functions, pairs, injections, ClosedObjectsClose}
 
 module _ (g : Bytes) (group : ℕ) where
   -- a closed object is one record, whatever it is

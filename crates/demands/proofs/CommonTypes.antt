@@ -1,6 +1,6 @@
 -- Item 3: the common type is the nearest among all types, by table 2.
 use mathlib.Core.Path.{◌≡◌, refl, sym, ap, subst, ◌∙◌}
-use mathlib.Core.Bool.{true, false, So, false≢true}
+use mathlib.Core.Bool.{true, So, false≢true}
 use mathlib.Core.Option.{Option, none, some}
 use Rattle.calculus.specs.Security.{Security, Laws}
 use Rattle.calculus.specs.Types.{Ty, secure_t}

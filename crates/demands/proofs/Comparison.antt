@@ -14,12 +14,11 @@ use Rattle.calculus.specs.Subtyping as directions
 use Rattle.calculus.proofs.Properties.{properties_laws}
 use Rattle.calculus.proofs.Directed.{same_refl, same_eq}
 use Rattle.calculus.proofs.Subtyping.{subtype_sound, subtype_complete, subtype_opposite, subtype_reflexive, subtype_antisymmetric}
-use Rattle.rules.specs.Answer.{Bytes, Octets, Answer, accepted, refused, ask, ◌>>◌}
+use Rattle.rules.specs.Answer.{Bytes, Octets, accepted}
 use Rattle.rules.specs.Groups.{properties_of}
 use Rattle.rules.specs.Types.{type_count, type_at, encode_type}
 use Rattle.rules.specs.Comparison.{Comparison, same, below, neither, equal_properties, equal_types, comparison, comparison_number}
-use Rattle.rules.specs.Typing.{q22}
-use Rattle.rules.specs.Calls.{types_check, q25, comparing}
+use Rattle.rules.specs.Calls.{types_check, comparing}
 use Rattle.rules.proofs.Asked.{ask_true}
 use Rattle.rules.proofs.PrefixLaws.{unique}
 use Rattle.rules.proofs.TypeCode.{type_prefix}

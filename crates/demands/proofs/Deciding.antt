@@ -39,6 +39,7 @@ pub data Decided {A : Type 0} (qs : List Question) : Answer A → Type 0 where
 not_both : {P : Type 0} {qs : List Question} {q place : ℕ} → AllYes qs → FirstNo qs q place → P
 not_both (yes h Y) (this_one n) = accepted≢refused (sym h ∙ n)
 not_both (yes h Y) (a_later k F) = not_both Y F
+not_both none_left F = elim F [ ]
 
 same_no : {A : Type 0} {qs : List Question} {q q' place place' : ℕ} → FirstNo qs q place → FirstNo qs q' place'
     → ◌≡◌ {A = Answer A} (refused q place) (refused q' place')

@@ -20,7 +20,7 @@ use Rattle.calculus.proofs.Creators.{Least, rewritten_agrees, uncreated_agrees}
 use Rattle.calculus.proofs.RelabelledTypes.{Agrees, relabel_top}
 use Rattle.rules.specs.Answer.{Bytes, Octets, Answer, accepted, refused, ◌>>◌}
 use Rattle.rules.specs.Limits.{old_script_width}
-use Rattle.rules.specs.Groups.{rows, leq, meet, groups_of, properties_of}
+use Rattle.rules.specs.Groups.{rows, leq, groups_of, properties_of}
 use Rattle.rules.specs.Types.{type_at}
 use Rattle.rules.specs.Script.{records, encode, term, q13_of}
 use Rattle.rules.specs.Typing.{right, typing}

@@ -41,7 +41,7 @@ use Rattle.demands.proofs.Runs.{erase_ran, moved_typed, run_safe, run_erased}
 use Rattle.demands.proofs.Checked.{Fit, Roomy, script_passed, script_passes}
 use Rattle.demands.proofs.Steps.{limited_moves, fit_passes, fit_step_is, fit_moves}
 use Rattle.demands.proofs.SecondDemand.{found_accepted, goes, only}
-use Rattle.demands.proofs.RunTerms.{RunTerms, run_terms}
+use Rattle.demands.proofs.RunTerms.{run_terms}
 
 -- a term that fits and has a type, as bytes
 module _ (g t : Bytes) (types : types_check g t ≡ accepted tt) (X : Tables g t) where
