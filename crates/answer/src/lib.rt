@@ -1,11 +1,13 @@
 // Answers to checks, and the tests that several questions make.
 
+#![tactic(auto)]
+
 ghost use Rattle.std.specs.Prelude.{◌≡◌, ◌&&◌, ◌/◌, ◌%◌, ◌<◌, eqb, leb, ltb};
 ghost use Rattle.rules.specs.Answer.{◌⇒◌, ask};
 ghost use Rattle.answer.specs.Said.{said};
 
 // The answer to a check: yes, or the number of the first question answered no, and its place.
-#[derive(Drop)]
+#[derive(Clone, Copy)]
 pub enum Checked {
     Passed,
     Refused(u8, usize),

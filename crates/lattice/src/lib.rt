@@ -1,6 +1,8 @@
 // The lattice of groups over a table of rows: readers and indirect readers, creators and indirect creators, their order, their
 // join and their meet, and the properties made of them.
 
+#![tactic(auto)]
+
 ghost use Rattle.std.specs.Prelude.{◌≡◌, ℕ, ◌≤◌, ◌<◌, length};
 ghost use Rattle.rules.specs.Answer.{byte};
 ghost use Rattle.rules.specs.Limits.{group_limit};
@@ -8,20 +10,20 @@ ghost use Rattle.rules.specs.Groups.{rows, row, bit, leq, join, below_both, meet
 ghost use Rattle.lattice.specs.Said.{said_property, said_influence};
 
 // Readers and indirect readers, creators and indirect creators: four types, so that none is handed over in another's place.
-#[derive(Drop)]
+#[derive(Clone, Copy)]
 pub struct Reader(pub u8);
 
-#[derive(Drop)]
+#[derive(Clone, Copy)]
 pub struct Indirect(pub u8);
 
-#[derive(Drop)]
+#[derive(Clone, Copy)]
 pub struct Creator(pub u8);
 
-#[derive(Drop)]
+#[derive(Clone, Copy)]
 pub struct IndirectCreator(pub u8);
 
 // The property of an object: who may read it and be influenced by it, who made it and had an influence on it.
-#[derive(Drop)]
+#[derive(Clone, Copy)]
 pub struct Property {
     pub r: Reader,
     pub ir: Indirect,
@@ -30,7 +32,7 @@ pub struct Property {
 }
 
 // What a reading leaves on its result, and what a protect carries.
-#[derive(Drop)]
+#[derive(Clone, Copy)]
 pub struct Influence {
     pub ir: Indirect,
     pub ic: IndirectCreator,
@@ -164,7 +166,7 @@ fn meet(groups: &[u8], g: u8, h: u8) -> u8
 }
 
 // Two groups of one object.
-#[derive(Drop)]
+#[derive(Clone, Copy)]
 struct Two(u8, u8);
 
 // g ⊓ by and h ⊓ also. One search serves both where they are the same, as a group and the indirect one beside it mostly are.

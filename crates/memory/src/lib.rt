@@ -1,5 +1,7 @@
 // Copies and zeros in a lent buffer.
 
+#![tactic(auto)]
+
 ghost use Rattle.std.specs.Prelude.{◌≡◌, ◌++◌, ◌+◌, ◌-◌, ◌≤◌, length, take, drop, replicate};
 ghost use Rattle.memory.specs.Splice.{splice};
 

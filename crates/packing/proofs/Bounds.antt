@@ -10,14 +10,14 @@ use borrow.Author.Tests.{eqb-true, leb-true}
 use lib.Dec.{eqb, leb, ltb}
 use lib.ListN.{length, get_or}
 use Rattle.calculus.specs.Terms.{is_value}
-use Rattle.rules.specs.Answer.{Bytes, Octets, Answer, accepted, refused, ◌>>=◌, ◌>>◌, ask, first_from, refused_at, each, all_below}
+use Rattle.rules.specs.Answer.{Bytes, Octets, Answer, accepted, refused, ◌>>◌, ask, first_from, refused_at, each, all_below}
 use Rattle.rules.specs.Limits.{row_width, type_width, script_width, old_type_width, old_script_width, group_limit, table_limit, script_limit, word_limit, words_length, last_question, work_length, answer_length}
 use Rattle.rules.specs.Groups.{rows, properties_of, ok3, ok4, ok5, ok6, ok7, q2, q3, q4, q5, q6}
 use Rattle.rules.specs.Types.{type_count, type_at, ok9, ok10, ok36_type, ok11, ok12, q8_of, q8, q9, q10, q36_types, q11}
 use Rattle.rules.specs.Script.{records, arity, kind, term, size, depths, binders, term_end, exactly, ok14, ok15, ok36_object, ok16, ok18, ok19, q13_of, q13, q14, q15, q36_objects, q16, q17, q18}
 use Rattle.rules.specs.Typing.{of_typing, typing}
 use Rattle.rules.specs.Sheet.{sheet}
-use Rattle.rules.specs.Words.{q32, q33, q34, ok33, ok34, words_check}
+use Rattle.rules.specs.Words.{q32, q33, ok33, ok34, words_check}
 use Rattle.rules.specs.Calls.{q1, q25, q26, q27, groups_check, types_check, comparing, script_check, checking, stepping, running, sheeting}
 use Rattle.rules.specs.Rewriting.{widen_types, widen_script, old_types_check, old_script_check, rewriting_types, rewriting_script}
 use Rattle.rules.proofs.ScriptLength.{q13_fitting}

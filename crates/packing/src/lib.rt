@@ -1,5 +1,7 @@
 // An exported answer as one number.
 
+#![tactic(auto)]
+
 ghost use Rattle.std.specs.Prelude.{◌≡◌, ◌+◌, ◌*◌, ◌<◌, min};
 ghost use Rattle.packing.specs.Packed.{half, ended, steps_width, steps_in};
 

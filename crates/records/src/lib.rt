@@ -1,5 +1,7 @@
 // A script's records: their fields, the table of kinds, and where a term ends.
 
+#![tactic(auto)]
+
 ghost use Rattle.std.specs.Prelude.{◌≡◌, ◌+◌, ◌≤◌, ◌<◌};
 ghost use Rattle.calculus.specs.Terms.{Term};
 ghost use Rattle.rules.specs.Script.{records, kind, r, ir, zero_byte, number, c, ic, signature, signature_of, arity, size, own_at, term_end};
@@ -141,7 +143,7 @@ pub fn influence(script: &[u8], i: usize) -> Influence
 }
 
 // A line of the table of kinds: the number of operands, which fields are named, and whether the number names a type.
-#[derive(Drop)]
+#[derive(Clone, Copy)]
 pub struct Signature {
     pub operands: u8,
     pub r: bool,
@@ -168,6 +170,7 @@ fn entry(operands: u8, r: bool, ir: bool, number: bool, typed: bool) -> Signatur
 }
 
 // The table of kinds: operands, r, ir, number, type.
+#[tactic(auto, unfolding(rules::specs::Script::signature_of))]
 pub fn signature_of(kind: u8) -> Signature
     ensures { said_line result ≡ signature_of kind }
 {
@@ -216,6 +219,7 @@ pub fn weight(script: &[u8], i: usize) -> usize
 }
 
 // How many binders stand over operand j, counted from 0, of a record of this kind.
+#[tactic(auto, unfolding(crate::specs::Binders::binds))]
 pub fn binders(kind: u8, j: usize) -> usize
     ensures { (result ≡ binds kind j) × (result ≤ 1) }
 {
@@ -235,7 +239,7 @@ pub fn binders(kind: u8, j: usize) -> usize
 }
 
 // Where a term ends: before a record, or not before the script does.
-#[derive(Drop)]
+#[derive(Clone, Copy)]
 pub enum Ended {
     Before(usize),
     Short,

@@ -1,5 +1,7 @@
 // A type in bytes: the records of a types table or of a lent buffer, a type's sides, and raising.
 
+#![tactic(auto)]
+
 ghost use Rattle.std.specs.Prelude.{◌≡◌, ◌++◌, ◌+◌, ◌-◌, ◌≤◌, ◌<◌, length};
 ghost use Rattle.calculus.specs.Types.{Ty, top, raise_t, size_t};
 ghost use Rattle.rules.specs.Groups.{properties_of};
