@@ -12,7 +12,7 @@ use Rattle.calculus.specs.Subtyping.{Direction, opposite}
 use Rattle.calculus.specs.Common.{bound, common}
 use Rattle.rules.specs.Answer.{Bytes}
 use Rattle.rules.specs.Limits.{type_width}
-use Rattle.rules.specs.Types.{type_record, encode_type}
+use Rattle.rules.specs.Types.{type_kind, type_record, encode_type}
 use Rattle.memory.specs.Splice.{splice}
 use Rattle.memory.proofs.Laws.{splice_none, drop_past, join_after}
 use Rattle.types.specs.Held.{kind_of, left_of, right_of}
@@ -23,7 +23,7 @@ use Rattle.common_types.specs.declared.Common.TheVariants.{Found, Apart}
 use Rattle.common_types.specs.Walks.{At, TwoTypes, common_record, answered, Walked}
 use Rattle.common_types.proofs.Answers.{found_is, apart_is}
 use Rattle.common_types.proofs.Trees.{remade, remade_size, remade_records, sides_size, with_sides, kinds_apart, of_units, of_sides, common_size}
-use Rattle.common_types.proofs.Places.{at_same, room, left_at, right_at}
+use Rattle.common_types.proofs.Places.{at_same, room, kind_here, left_at, right_at}
 
 -- no common type, whatever is written over the first
 apart : {o : Option Ty} {s : Ty} {at : ℕ} {w w' : Bytes} (x : Bytes) → o ≡ none → length x ≤ type_width * size_t s → w' ≡ splice (type_width * at) x w
@@ -85,6 +85,31 @@ module _ (S : Security) (d : Direction) {w : Bytes} {at other : ℕ} (p : TwoTyp
     pub firsts : First w₁
     pub two : kind_of p.first ≡ 0 → ⊥
     pub walked : Walked left_common (left_of p.first) (at + 1) w₁ x w₂
+
+-- the kinds, as they are read in the buffer
+module _ {w : Bytes} {at other : ℕ} (p : TwoTypes w at other) where
+  pub first_kind : {k : ℕ} → k ≡ type_kind w at → k ≡ kind_of p.first
+  first_kind e = e ∙ kind_here p.first_at
+
+  pub second_kind : {l : ℕ} → l ≡ type_kind w other → l ≡ kind_of p.second
+  second_kind e = e ∙ kind_here p.second_at
+
+  pub kinds_differ : {k l : ℕ} → k ≡ type_kind w at → l ≡ type_kind w other → (k ≡ l → ⊥) → kind_of p.first ≡ kind_of p.second → ⊥
+  kinds_differ a b n e = n (first_kind a ∙ e ∙ sym (second_kind b))
+
+  pub two_sides : {k : ℕ} → k ≡ type_kind w at → (k ≡ 0 → ⊥) → kind_of p.first ≡ 0 → ⊥
+  two_sides a n z = n (first_kind a ∙ z)
+
+  pub firsts : (S : Security) (d : Direction) {w₁ : Bytes} {k l : ℕ} → k ≡ type_kind w at → l ≡ type_kind w other → k ≡ l
+      → ((p : TwoTypes w at other) → w₁ ≡ splice (type_width * at) (common_record S d p) w)
+      → First S d p w₁
+  firsts S d a b e f = record { same = sym (first_kind a) ∙ e ∙ second_kind b; wrote = f p }
+
+abbrev pub walked_lefts : {S : Security} {d : Direction} {w : Bytes} {at other : ℕ} {p : TwoTypes w at other} {w₁ : Bytes}
+    → First S d p w₁ → (kind_of p.first ≡ 0 → ⊥) → (x : Common) (w₂ : Bytes)
+    → Walked (left_common S d p) (left_of p.first) (at + 1) w₁ x w₂
+    → Lefts S d p w₁ x w₂
+walked_lefts f n x w₂ l = record { firsts = f; two = n; walked = l }
 
 module _ {S : Security} {d : Direction} {w : Bytes} {at other : ℕ} {p : TwoTypes w at other} {w₁ : Bytes} (f : First S d p w₁) where
   pub at_units : kind_of p.first ≡ 0 → Result S d p (Found 1) w₁

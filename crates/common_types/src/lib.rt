@@ -1,6 +1,8 @@
 // The least type at or above two types, and the greatest at or below both: two walks, which call each other at functions. Both
 // types stand in one lent buffer, and the common one is written over the first.
 
+#![tactic(auto)]
+
 ghost use Rattle.std.specs.Prelude.{◌≡◌, ◌*◌};
 ghost use Rattle.calculus.specs.Subtyping.{below, above};
 ghost use Rattle.calculus.specs.Common.{common};
@@ -12,7 +14,7 @@ ghost use Rattle.common_types.specs.Walks.{TwoTypes, common_record, Walked};
 use types::{FUNCTION, UNIT};
 
 // What a walk over two types finds: the record count of their common type; or that somewhere they are of two kinds and have none.
-#[derive(Drop)]
+#[derive(Clone, Copy)]
 pub enum Common {
     Found(usize),
     Apart,

@@ -1,5 +1,7 @@
 // A groups table: questions 2 to 7.
 
+#![tactic(auto)]
+
 ghost use Rattle.std.specs.Prelude.{◌≡◌, ◌≤◌, ◌<◌};
 ghost use Rattle.rules.specs.Limits.{group_limit};
 ghost use Rattle.rules.specs.Groups.{rows, ok3, ok4, ok5, ok6, q2, q3, q4, q5, q6, q7};

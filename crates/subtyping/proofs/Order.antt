@@ -2,7 +2,7 @@
 use mathlib.Core.Path.{◌≡◌, refl, ap, ap₂, sym, ◌∙◌}
 use mathlib.Core.Bool.{Bool, true, false, cond, ◌&&◌, and-eq-true_iff}
 use mathlib.Core.List.{[], ◌∷◌}
-use Prim.Native.Nat.{ℕ, ◌+◌, ◌*◌, ◌≤◌}
+use Prim.Native.Nat.{ℕ, ◌+◌, ◌*◌, ◌≤◌, ◌<◌}
 use native.Mathlib.Omega.{arith}
 use native.Mathlib.Decide.{ℕ_discrete}
 use types.Run.{OneOf}
@@ -203,6 +203,52 @@ pub record Lefts (S : Security) (d : Direction) (a b : Bytes) (f : Bool) (x : Co
   pub ok : (s t : Ty) → Held a s → Held b t → firsts S d s t ≡ true
   pub same_first : (s t : Ty) → Held a s → Held b t → f ≡ equal_properties (top s) (top t)
   pub said : (s t : Ty) → Held a s → Held b t → x ≡ compared S (turned s d) (left_of s) (left_of t)
+
+-- past the first records, which the code compares the same way round for both directions
+abbrev pub below_alike : (S : Security) {a b : Bytes} {x : Bool} {k : ℕ} → Starts a × Starts b
+    → ((s t : Ty) → Held a s → Held b t → true ≡ firsts S below s t)
+    → ((s t : Ty) → Held a s → Held b t → x ≡ equal_properties (top s) (top t))
+    → ((s : Ty) → Held a s → k ≡ kind_of s)
+    → Alike S below a b x k
+below_alike S w o f k = record { sa = w.0; sb = w.1; ka = k; ok = λ s t p q. sym (o s t p q); same_first = f }
+
+abbrev pub above_alike : (S : Security) {a b : Bytes} {x : Bool} {k : ℕ} → Starts a × Starts b
+    → ((s t : Ty) → Held b s → Held a t → true ≡ firsts S below s t)
+    → ((s t : Ty) → Held a s → Held b t → x ≡ equal_properties (top s) (top t))
+    → ((s : Ty) → Held a s → k ≡ kind_of s)
+    → Alike S above a b x k
+above_alike S w o f k =
+    record { sa = w.0; sb = w.1; ka = k; ok = λ s t p q. firsts_above S s t ∙ sym (o t s q p); same_first = f }
+
+-- what the left sides' walk says: at a function it is the other walk
+module _ {S : Security} {d : Direction} {a b : Bytes} {f : Bool} {k : ℕ} (h : Alike S d a b f k) {l r : Bytes} {x y : Compared} where
+  pub turned_round : k ≡ 3 → y ≡ x → ((s t : Ty) → Held l s → Held r t → x ≡ compared S (opposite d) s t)
+      → ((t : Ty) → Held a t → Held l (left_of t)) × (length l < length a)
+      → ((t : Ty) → Held b t → Held r (left_of t)) × (length r < length b)
+      → (s t : Ty) → Held a s → Held b t → y ≡ compared S (turned s d) (left_of s) (left_of t)
+  turned_round z g e u v s t p q =
+      g ∙ e (left_of s) (left_of t) (u.0 s p) (v.0 t q)
+      ∙ ap (λ (d' : Direction). compared S d' (left_of s) (left_of t)) (sym (turned_function s d (sym (h.ka s p) ∙ z)))
+
+  pub straight_on : (k ≡ 3 → ⊥) → y ≡ x → ((s t : Ty) → Held l s → Held r t → x ≡ compared S d s t)
+      → ((t : Ty) → Held a t → Held l (left_of t)) × (length l < length a)
+      → ((t : Ty) → Held b t → Held r (left_of t)) × (length r < length b)
+      → (s t : Ty) → Held a s → Held b t → y ≡ compared S (turned s d) (left_of s) (left_of t)
+  straight_on n g e u v s t p q =
+      g ∙ e (left_of s) (left_of t) (u.0 s p) (v.0 t q)
+      ∙ ap (λ (d' : Direction). compared S d' (left_of s) (left_of t)) (sym (turned_other s d (λ z. n (h.ka s p ∙ z))))
+
+abbrev pub lefts : {S : Security} {d : Direction} {a b : Bytes} {f : Bool} {k : ℕ} (h : Alike S d a b f k) (x : Compared) → (k ≡ 0 → ⊥)
+    → ((s t : Ty) → Held a s → Held b t → x ≡ compared S (turned s d) (left_of s) (left_of t)) → Lefts S d a b f x
+lefts h x n e = record { sided_l = sided_a h n; sided_r = sided_b h n; ok = h.ok; same_first = h.same_first; said = e }
+
+-- and what the right sides' walk says
+abbrev pub rights : (S : Security) (d : Direction) {a b l r : Bytes} {x : Compared}
+    → ((s t : Ty) → Held l s → Held r t → x ≡ compared S d s t)
+    → ((t : Ty) → Held a t → Held l (right_of t)) × (length l < length a)
+    → ((t : Ty) → Held b t → Held r (right_of t)) × (length r < length b)
+    → (s t : Ty) → Held a s → Held b t → x ≡ compared S d (right_of s) (right_of t)
+rights S d e u v s t p q = e (right_of s) (right_of t) (u.0 s p) (v.0 t q)
 
 abbrev pub Rights : Security → Direction → Bytes → Bytes → Compared → Type 0
 Rights S d a b x = (s t : Ty) → Held a s → Held b t → x ≡ compared S d (right_of s) (right_of t)

@@ -1,5 +1,7 @@
 // Same, below or neither: two walks over two types, which call each other at functions.
 
+#![tactic(auto)]
+
 ghost use Rattle.std.specs.Prelude.{◌≡◌, ◌&&◌, eqb};
 ghost use Rattle.calculus.specs.Types.{Ty, top};
 ghost use Rattle.calculus.specs.Subtyping.{subtype, below, above};
@@ -13,7 +15,7 @@ use lattice::Property;
 use types::{FUNCTION, UNIT};
 
 // What a walk over two types finds: where they are related, whether they are the same, and the records that each of them has.
-#[derive(Drop)]
+#[derive(Clone, Copy)]
 pub enum Compared {
     Related(bool, usize),
     Neither,

@@ -1,5 +1,7 @@
 // A types table: questions 8 to 12 and 36, and the comparison of two of its types.
 
+#![tactic(auto)]
+
 ghost use Rattle.std.specs.Prelude.{◌≡◌, cond, ◌&&◌, ◌-◌, ◌≤◌, ◌<◌, eqb, ltb};
 ghost use Rattle.calculus.specs.Types.{type_limit};
 ghost use Rattle.rules.specs.Types.{type_count, ok9, ok10, ok36_type, q8, q9, q10, q36_types, q11, q12};
@@ -15,7 +17,7 @@ use types::{FUNCTION, TYPE_LIMIT, TYPE_WIDTH};
 pub const TABLE_LIMIT: usize = 4096;
 
 // The answer of a comparison, or the number of the first question answered no and the place.
-#[derive(Drop)]
+#[derive(Clone, Copy)]
 pub enum CompareAnswer {
     Same,
     Below,
