@@ -1,5 +1,7 @@
 // Stripping: a script or a types table without its groups.
 
+#![tactic(auto)]
+
 ghost use Rattle.std.specs.Prelude.{◌≡◌, cond, ◌≤◌, ◌<◌};
 ghost use Rattle.rules.specs.Limits.{script_width};
 ghost use Rattle.rules.specs.Strip.{group_byte, strip_from, strip_script, strip_types};

@@ -1,8 +1,8 @@
 -- The questions of an old table, one after another, and what then stands in front of the copy.
 use mathlib.Core.Path.{◌≡◌, refl, sym, ap, ◌∙◌}
 use mathlib.Core.Bool.{Bool, true, false, ◌&&◌, and-eq-true_iff}
-use mathlib.Core.List.{List, [], ◌++◌}
-use Prim.Native.Nat.{ℕ, ◌+◌, ◌*◌, ◌/◌, ◌%◌, ◌≤◌, ◌<◌}
+use mathlib.Core.List.{[]}
+use Prim.Native.Nat.{ℕ, ◌*◌, ◌/◌, ◌%◌, ◌≤◌, ◌<◌}
 use native.Mathlib.Nat.{mul_comm, mul-div_cancel}
 use native.Mathlib.Omega.{arith}
 use borrow.Author.Tests.{leb-true, le-leb, lt-leb}
@@ -13,21 +13,18 @@ use Rattle.rules.specs.Answer.{Bytes, Answer, accepted, refused, ◌>>◌, ask, 
 use Rattle.rules.specs.Limits.{old_type_width, old_script_width, table_limit, script_limit}
 use Rattle.rules.specs.Types.{q8_of}
 use Rattle.rules.specs.Script.{q13_of}
-use Rattle.rules.specs.Calls.{groups_check, types_check, script_check, filled_after, fill_front}
+use Rattle.rules.specs.Calls.{groups_check, types_check, script_check}
 use Rattle.rules.specs.Rewriting.{widen_types, widen_script, old_types_check, old_script_check, rewriting_types, rewriting_script, rewritten_records, rewritten_after}
 use Rattle.rules.proofs.Asked.{ask_true, and_then}
 use Rattle.answer.specs.declared.Checked.{Checked}
-use Rattle.answer.specs.declared.Checked.TheVariants.{Passed, Refused}
+use Rattle.answer.specs.declared.Checked.TheVariants.{Refused}
 use Rattle.answer.specs.Said.{said}
-use Rattle.answer.proofs.Passed.{No}
 use Rattle.memory.specs.Splice.{splice}
 use Rattle.memory.proofs.Laws.{splice_front}
 use Rattle.rewriting.specs.Widened.{fitting}
-use Rattle.rewriting.specs.Said.{said_rewrote, refused_rewrote}
 
-pub no_yes : (x : Checked) → No x → said x ≡ accepted tt → ⊥
-no_yes Passed k e = omega arith
-no_yes (Refused q p) k e = let x : ◌≡◌ {A = ℕ} 0 1 = cc in omega arith
+pub no_yes : {x : Checked} {q p : ℕ} → x ≡ Refused q p → said x ≡ accepted tt → ⊥
+no_yes i e = let x : ◌≡◌ {A = ℕ} 0 1 = cc (ap said i) in omega arith
 
 pub types_asked : (g t : Bytes)
     → ◌>>◌ (groups_check g) (◌>>◌ (q8_of old_type_width t) (types_check g (widen_types t))) ≡ old_types_check g t
@@ -86,19 +83,18 @@ abbrev pub Delivered : ℕ → Answer Bytes → Bytes → Answer ℕ → Bytes �
 Delivered width o w a w' = (a ≡ rewritten_records width o) × (w' ≡ rewritten_after o w)
 
 -- a refused question is the answer
-pub refused_delivered : (width : ℕ) (x : Checked) (asked : Answer (Unit {0})) (later o : Answer Bytes) {r : Answer ℕ} (w : Bytes) → No x → said x ≡ asked → ◌>>◌ asked later ≡ o
-    → r ≡ said_rewrote (refused_rewrote x) → Delivered width o w r w
+pub refused_delivered : (width : ℕ) {q n : ℕ} (asked : Answer (Unit {0})) (later : Answer Bytes) {o : Answer Bytes} {r : Answer ℕ} (w : Bytes) → refused q n ≡ asked → ◌>>◌ asked later ≡ o
+    → r ≡ refused q n → Delivered width o w r w
 unfolding rewritten_records
-refused_delivered width Passed asked later o w k e p f = absurd (omega arith)
-refused_delivered width (Refused q n) asked later o w k e p f =
+refused_delivered width {q} {n} asked later {o} w e p f =
     let same : refused q n ≡ o = ap (λ (a : Answer (Unit {0})). ◌>>◌ a later) e ∙ p in
     (f ∙ ap (rewritten_records width) same, ap (λ (a : Answer Bytes). rewritten_after a w) same)
 
 -- after a yes, what is handed over is
-pub delivered : (width : ℕ) (x : Checked) (asked : Answer (Unit {0})) (later : Answer Bytes) {o handed : Answer Bytes} {r : Answer ℕ} (w w' : Bytes) → said x ≡ accepted tt
-    → said x ≡ asked → ◌>>◌ asked later ≡ o → handed ≡ later → Delivered width handed w r w' → Delivered width o w r w'
-delivered width x asked later w w' passed e p h d =
-    let same = h ∙ ap (λ (a : Answer (Unit {0})). ◌>>◌ a later) (sym passed ∙ e) ∙ p in
+pub delivered : (width : ℕ) (asked : Answer (Unit {0})) (later : Answer Bytes) {o handed : Answer Bytes} {r : Answer ℕ} (w w' : Bytes) → accepted tt ≡ asked
+    → ◌>>◌ asked later ≡ o → handed ≡ later → Delivered width handed w r w' → Delivered width o w r w'
+delivered width asked later w w' e p h d =
+    let same = h ∙ ap (λ (a : Answer (Unit {0})). ◌>>◌ a later) e ∙ p in
     (d.0 ∙ ap (rewritten_records width) same, d.1 ∙ ap (λ (a : Answer Bytes). rewritten_after a w) same)
 
 -- question 27

@@ -1,6 +1,8 @@
 // The rewriting of types tables and scripts that were written before a rule changed. Nothing above this crate, and nothing below it,
 // knows the records of those forms.
 
+#![tactic(auto)]
+
 ghost use Rattle.std.specs.Prelude.{◌≡◌, ◌+◌, ◌*◌, ◌≤◌, ◌<◌, length, take};
 ghost use Rattle.rules.specs.Limits.{type_width, script_width, table_limit, script_limit};
 ghost use Rattle.rules.specs.Callers.{old_type_count, old_type_r, old_records, old_kind, old_number};
@@ -37,7 +39,7 @@ const SCRIPT_LENGTH: usize = SCRIPT_LIMIT * SCRIPT_WIDTH;
 const CALLER: usize = 1;
 
 // How many records a rewriting wrote, or the number of the first question answered no and the place.
-#[derive(Drop)]
+#[derive(Clone, Copy)]
 pub enum Rewrote {
     Records(usize),
     Refused(u8, usize),

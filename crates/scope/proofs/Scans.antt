@@ -5,15 +5,12 @@ use mathlib.Core.List.{List, [], ◌∷◌, ◌++◌}
 use Prim.Native.Nat.{ℕ, suc, ◌+◌}
 use native.Mathlib.Omega.{arith}
 use native.Mathlib.Nat.{add-zero, zero-add}
-use types.Run.{OneOf}
-use denote.Enum.Declared.{tag_of}
 use lib.ListN.{length, get_or}
 use Rattle.rules.specs.Answer.{Answer, accepted, refused, ◌>>=◌, first_from, refused_at, each}
 use Rattle.scope.specs.declared.Walked.{Walked}
 use Rattle.scope.specs.declared.Walked.TheVariants.{Past, Stopped}
 use Rattle.scope.specs.Said.{said_walk, said_asked}
 use Rattle.scope.specs.Walk.{scan}
-use Rattle.scope.specs.contracts.Walked.{the_type}
 
 abbrev pub then : Answer ℕ → (ℕ → Answer ℕ) → Answer ℕ
 then a k = ◌>>=◌ a k
@@ -24,17 +21,6 @@ finish (refused q p) = refused q p
 
 pub past_then : (a : Answer ℕ) (j : ℕ) (k : ℕ → Answer ℕ) → a ≡ accepted j → then a k ≡ k j
 past_then a j k e = ap (λ x. then x k) e
-
--- the answer taken apart
-pub is_past : (x : Walked) (a : Answer ℕ) (j : ℕ) → x ≡ Past j → said_walk x ≡ a → a ≡ accepted j
-is_past x a j p h = sym h ∙ ap said_walk p
-
-pub stopped_then : (x : Walked) (a : Answer ℕ) (k : ℕ → Answer ℕ) → OneOf (1 ∷ []) (tag_of the_type x) → said_walk x ≡ a → said_walk x ≡ then a k
-stopped_then (Past i) a k t h = absurd (omega arith)
-stopped_then (Stopped q p) a k t h = past_refused q p a k h
-  where
-    past_refused : (q p : ℕ) (a : Answer ℕ) (k : ℕ → Answer ℕ) → refused q p ≡ a → refused q p ≡ then a k
-    past_refused q p a k h = ap (λ x. then x k) h
 
 module _ (q : ℕ) (ok : ℕ → ℕ → Bool) where
   pub scan_yes : (i n : ℕ) (ns : List ℕ) → ok i n ≡ true → scan q ok i (n ∷ ns) ≡ scan q ok (suc i) ns

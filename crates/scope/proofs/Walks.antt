@@ -5,8 +5,6 @@ use mathlib.Core.List.{List, [], ◌∷◌, ◌++◌, append-nil}
 use Prim.Native.Nat.{ℕ, suc, ◌+◌}
 use native.Mathlib.Omega.{arith}
 use borrow.Author.Tests.{eq-eqb, ne_eqb}
-use types.Run.{OneOf}
-use denote.Enum.Declared.{tag_of}
 use lib.ListN.{get_or}
 use Rattle.calculus.specs.Terms.{first, second, Term, var, unit, lam, pair, inj, app, proj, case, protect, mu}
 use Rattle.calculus.specs.Typing.{finds_own}
@@ -19,11 +17,9 @@ use Rattle.records.specs.Weight.{weight_of}
 use Rattle.records.proofs.Passing.{Passed, Ahead, started, passed_more, none_left}
 use Rattle.records.proofs.Stands.{kind_of, operands, start_records}
 use Rattle.scope.specs.declared.Walked.{Walked}
-use Rattle.scope.specs.declared.Walked.TheVariants.{Past}
 use Rattle.scope.specs.Said.{said_walk, said_asked}
 use Rattle.scope.specs.Walk.{asks_depth, scan, passes, deeper, bound, wide, increment}
-use Rattle.scope.specs.contracts.Walked.{the_type}
-use Rattle.scope.proofs.Scans.{then, past_then, is_past, stopped_then, scan_yes, scan_no, scan_nothing, scan_append, scan_end, scan_each}
+use Rattle.scope.proofs.Scans.{then, past_then, scan_yes, scan_no, scan_nothing, scan_append, scan_end, scan_each}
 
 -- what question 18 picks, and what question 19 does
 pub at_depth : {A : Type 0} (q : ℕ) (a b : A) → q ≡ 18 → a ≡ cond (asks_depth q) a b
@@ -100,19 +96,19 @@ module _ {q : ℕ} {s : Bytes} {i n : ℕ} {u : Term} {j next : ℕ} (p : Reache
       sym (p.goes_on ∙ ap (λ l. scan q (passes q s) next (numbers q (weight_of u) (kind_of u) n j l)) (none_left p.passed h) ∙ scan_nothing q (passes q s) next)
 
   -- what the walk over the next operand, whose number is m, says
-  module _ (a : Ahead p.passed) (m : ℕ) (m_is : m ≡ n + increment q (weight_of u) (kind_of u) j) (x : Walked) (h : said_walk x ≡ scanned q s next m a.operand) where
+  module _ (a : Ahead p.passed) (m : ℕ) (m_is : m ≡ n + increment q (weight_of u) (kind_of u) j) where
     onward : scanned q s i n u ≡ then (scanned q s next m a.operand) (λ k. scan q (passes q s) k (numbers q (weight_of u) (kind_of u) n (suc j) a.later))
     onward =
         p.goes_on ∙ ap (λ l. scan q (passes q s) next (numbers q (weight_of u) (kind_of u) n j l)) a.is
         ∙ scan_append q (passes q s) next (counts (wide q) (deeper q) bound (n + increment q (weight_of u) (kind_of u) j) a.operand) (numbers q (weight_of u) (kind_of u) n (suc j) a.later)
         ∙ ap (λ y. then (scanned q s next y a.operand) (λ k. scan q (passes q s) k (numbers q (weight_of u) (kind_of u) n (suc j) a.later))) (sym m_is)
 
-    pub stop : OneOf (1 ∷ []) (tag_of the_type x) → said_walk x ≡ scanned q s i n u
-    stop t = stopped_then x _ _ t h ∙ sym onward
+    pub stop : (question place : ℕ) → refused question place ≡ scanned q s next m a.operand → refused question place ≡ scanned q s i n u
+    stop question place h = ap (λ y. then y (λ k. scan q (passes q s) k (numbers q (weight_of u) (kind_of u) n (suc j) a.later))) h ∙ sym onward
 
-    pub pass : (k : ℕ) → x ≡ Past k → Reached q s i n u (j + 1) k
-    pass k past =
-        let e : scanned q s next m a.operand ≡ accepted k = is_past x _ k past h in
+    pub pass : (k : ℕ) → accepted k ≡ scanned q s next m a.operand → Reached q s i n u (j + 1) k
+    pass k h =
+        let e : scanned q s next m a.operand ≡ accepted k = sym h in
         let z : k ≡ next + size a.operand =
         omega (arith, scan_end q (passes q s) next k _ e, counts_length (wide q) (deeper q) bound m a.operand) in
         let w : suc j ≡ j + 1 = omega arith in

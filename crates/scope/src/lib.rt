@@ -1,5 +1,7 @@
 // Questions 18 and 19: a term's depth, and its variables against the binders over them.
 
+#![tactic(auto)]
+
 ghost use Rattle.std.specs.Prelude.{◌≡◌, ◌+◌, ◌*◌, ◌≤◌, ◌<◌};
 ghost use Rattle.calculus.specs.Terms.{Term};
 ghost use Rattle.rules.specs.Script.{records, encode, term, counts, q18, q19};
@@ -13,7 +15,7 @@ use answer::Checked;
 pub const DEPTH_LIMIT: usize = 256;
 
 // What a walk over a term reports: the record after it, or the question and the record that stopped it.
-#[derive(Drop)]
+#[derive(Clone, Copy)]
 enum Walked {
     Past(usize),
     Stopped(u8, usize),

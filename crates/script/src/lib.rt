@@ -1,5 +1,7 @@
 // Questions 13 to 17 and 36 of a script, one function each.
 
+#![tactic(auto)]
+
 ghost use Rattle.std.specs.Prelude.{◌≡◌, not, [], ◌∷◌, ◌<◌, eqb, ltb};
 ghost use Rattle.rules.specs.Answer.{◌⇒◌};
 ghost use Rattle.rules.specs.Types.{type_kind};

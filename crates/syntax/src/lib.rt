@@ -1,5 +1,7 @@
 // Questions 2 to 19 in order, with 36 after 10 and after 15, and the subterm look-up.
 
+#![tactic(auto)]
+
 ghost use Rattle.std.specs.Prelude.{◌≡◌, [], ◌∷◌};
 ghost use Rattle.rules.specs.Answer.{accepted};
 ghost use Rattle.rules.specs.Script.{q13, subterm};
