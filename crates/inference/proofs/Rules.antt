@@ -5,7 +5,6 @@ use mathlib.Core.List.{List, ◌++◌}
 use Prim.Native.Nat.{ℕ, ◌+◌, ◌*◌, ◌≤◌, ◌<◌}
 use native.Mathlib.Omega.{arith}
 use borrow.Author.Tests.{le-leb, lt-leb}
-use denote.Enum.Declared.{tag_of}
 use lib.ListN.{length, drop, length-append}
 use lib.Seq.{drop_at}
 use Rattle.calculus.specs.Security.{Property, Indirect, Security}
@@ -16,19 +15,17 @@ use Rattle.calculus.specs.Typing.{finds_own}
 use Rattle.rules.specs.Limits.{answer_length, type_width}
 use Rattle.rules.specs.Answer.{Bytes, Answer, accepted, refused, ◌>>=◌, ◌>>◌, ask}
 use Rattle.rules.specs.Types.{former_kind, type_record, encode_type}
-use Rattle.rules.specs.Typing.{has_form, left, right, q21, q22, q23, q24, q22_of_branch, found_or, branch_type}
+use Rattle.rules.specs.Typing.{has_form, left, right, q21, q22, q24, q22_of_branch, found_or, branch_type}
 use Rattle.types.specs.Held.{kind_of}
 use Rattle.memory.specs.Splice.{splice}
 use Rattle.memory.proofs.Laws.{join_before, join_after}
 use Rattle.answer.specs.Said.{said}
 use Rattle.answer.specs.declared.Checked.{Checked}
 use Rattle.answer.specs.declared.Checked.TheVariants as checked
-use Rattle.answer.proofs.Passed.{No}
 use Rattle.inference.specs.Memory.{Sized, Wrote, Meets, finds, refuses, Entered, Enters, refusal}
-use Rattle.inference.specs.Stages.{wanting, may_read, may_recur, function_type, pair_type, result_type, case_type}
+use Rattle.inference.specs.Stages.{wanting, may_read, function_type, pair_type, result_type, case_type}
 use Rattle.inference.specs.declared.Found.{Found}
 use Rattle.inference.specs.declared.Found.TheVariants.{Typed, Refused}
-use Rattle.inference.specs.contracts.Found.{the_type}
 use Rattle.inference.proofs.Front.{size_raised}
 use Rattle.types.proofs.Parts.{type_length}
 use Rattle.inference.proofs.Regions.{high_past, wrote_first}
@@ -135,14 +132,6 @@ module _ (S : Security) (p : ℕ) (f : Former) (t : Ty) (w : ℕ) where
   pub read_two : may_read S p f t w ≡ accepted tt → kind_of t ≡ 0 → ⊥
   read_two e z = former_not_unit f (sym (read_kind e) ∙ z)
 
--- questions 21 and 23 of a recursion
-module _ (S : Security) (p : ℕ) (t : Ty) (w : ℕ) where
-  pub recurs_21 : S.permits (top t) (S.caller (top t) w) ≡ false → may_recur S p t w ≡ refused 21 p
-  recurs_21 e = ap (λ x. ◌>>◌ (ask 21 p x) (q23 S p t (S.caller (top t) w))) e
-
-  pub recurs_23 : S.permits (top t) (S.caller (top t) w) ≡ true → may_recur S p t w ≡ q23 S p t (S.caller (top t) w)
-  recurs_23 e = ap (λ x. ◌>>◌ (ask 21 p x) (q23 S p t (S.caller (top t) w))) e
-
 pub meets_of : {o o' : Answer Ty} {b : ℕ} {w : Bytes} {x : Found} {v : Bytes} → o ≡ o' → Meets o' b w x v → Meets o b w x v
 meets_of {b = b} {w = w} {x = x} {v = v} e m = subst (λ y. Meets y b w x v) (sym e) m
 
@@ -245,8 +234,8 @@ typed_as {n = n} e (finds {t = t} {b = b} {w = w} {n = m} {w' = v} h) =
 typed_as e (refuses {q} {p}) = let z : ◌≡◌ {A = ℕ} 0 1 = cc in absurd (omega arith)
 
 -- a refusal is passed on
-pub refused_as : {o : Answer Ty} {b : ℕ} {w : Bytes} {x : Found} {v : Bytes} → tag_of the_type x ≡ 1 → Meets o b w x v → (q : ℕ) × (p : ℕ) × (o ≡ refused q p) × (x ≡ Refused q p)
-refused_as e (finds m) = absurd (omega arith)
+pub refused_as : {o : Answer Ty} {b : ℕ} {w : Bytes} {x : Found} {v : Bytes} → ((n : ℕ) → x ≡ Typed n → ⊥) → Meets o b w x v → (q : ℕ) × (p : ℕ) × (o ≡ refused q p) × (x ≡ Refused q p)
+refused_as e (finds {n = n} m) = absurd (e n refl)
 refused_as e (refuses {q = q} {p = p}) = (q, p, refl, refl)
 
 pub refused_meets : {o : Answer Ty} {q p b : ℕ} {w v : Bytes} {x : Found} → o ≡ refused q p → x ≡ Refused q p → Meets o b w x v
@@ -255,16 +244,16 @@ refused_meets {o} {q} {p} {b} {w} {v} {x} e f = subst (λ y. Meets o b w y v) (s
 -- ---- questions
 
 -- a refusal, where a type was to be found
-pub refused_says : (x : Checked) {y : Found} (a : Answer (Unit {0})) → No x → said x ≡ a → y ≡ refusal x → (q : ℕ) × (p : ℕ) × (a ≡ refused q p) × (y ≡ Refused q p)
-refused_says checked.Passed a n e f = absurd (omega arith)
+pub refused_says : (x : Checked) {y : Found} (a : Answer (Unit {0})) → (x ≡ checked.Passed → ⊥) → said x ≡ a → y ≡ refusal x → (q : ℕ) × (p : ℕ) × (a ≡ refused q p) × (y ≡ Refused q p)
+refused_says checked.Passed a n e f = absurd (n refl)
 refused_says (checked.Refused q p) a n e f = (q, p, sym e, f)
 
-pub refused_found : (x : Checked) {y : Found} (a : Answer (Unit {0})) (k : Answer Ty) {b : ℕ} {w v : Bytes} → No x → said x ≡ a → y ≡ refusal x → Meets (◌>>◌ a k) b w y v
+pub refused_found : (x : Checked) {y : Found} (a : Answer (Unit {0})) (k : Answer Ty) {b : ℕ} {w v : Bytes} → (x ≡ checked.Passed → ⊥) → said x ≡ a → y ≡ refusal x → Meets (◌>>◌ a k) b w y v
 refused_found x a k n e f = let z = refused_says x a n e f in refused_meets (ap (λ o. ◌>>◌ o k) z.2) z.3
 
 -- a refusal is no yes
-pub not_yes : (x : Checked) (a : Answer (Unit {0})) → No x → said x ≡ a → a ≡ accepted tt → ⊥
-not_yes checked.Passed a n e f = omega arith
+pub not_yes : (x : Checked) (a : Answer (Unit {0})) → (x ≡ checked.Passed → ⊥) → said x ≡ a → a ≡ accepted tt → ⊥
+not_yes checked.Passed a n e f = n refl
 not_yes (checked.Refused q p) a n e f = let z : ◌≡◌ {A = ℕ} 0 1 = cc in omega arith
 
 module _ {A : Answer (Unit {0})} {Γ Γ' : List Ty} {b : ℕ} {w : Bytes} {x : Checked} {w' : Bytes} where

@@ -4,7 +4,7 @@ use Rattle.calculus.specs.Security.{Property, Indirect, Security}
 use Rattle.calculus.specs.Types.{Former, sum, product, function, Ty, one, node, top, raise_t}
 use Rattle.calculus.specs.Typing.{finds_own}
 use Rattle.calculus.specs.Terms.{first, second, Term, var, unit, lam, pair, inj, app, proj, case, protect, mu}
-use Rattle.rules.specs.Answer.{Bytes, Answer, accepted, refused, ◌>>=◌, ◌>>◌}
+use Rattle.rules.specs.Answer.{Bytes, Answer, accepted, ◌>>=◌, ◌>>◌}
 use Rattle.rules.specs.Limits.{type_width, script_width, answer_length}
 use Rattle.rules.specs.Types.{no_type, type_count}
 use Rattle.rules.specs.Script.{kind, number, own_at, encode}

@@ -1,6 +1,8 @@
 // The typing rules in the lent work buffer, named by where they stand in the traversal: what is asked and written before a node's
 // operands, after one, between two, after two and after each branch of a case. Questions are answered by `Checked`, types by `Found`.
 
+#![tactic(auto)]
+
 ghost use Rattle.std.specs.Prelude.{◌≡◌, List, ◌∷◌, ℕ, ◌+◌, ◌*◌, ◌≤◌, length, drop, get_or};
 ghost use Rattle.calculus.specs.Types.{Former, sum, Ty, top, raise_t, size_t};
 ghost use Rattle.calculus.specs.Subtyping.{subtype, below};
@@ -34,7 +36,7 @@ use types::{TYPE_LIMIT, TYPE_WIDTH};
 
 // What typing finds: the record count of the type that it has written in front, or the number of the first question answered
 // no, and the place.
-#[derive(Drop)]
+#[derive(Clone, Copy)]
 pub enum Found {
     Typed(usize),
     Refused(u8, usize),

@@ -4,7 +4,6 @@ use mathlib.Core.Bool.{Bool, true, false, ◌&&◌, cond}
 use mathlib.Core.Logic.{◌↔◌}
 use mathlib.Core.List.{[]}
 use Prim.Native.Nat.{ℕ, ◌≤◌, ◌<◌}
-use native.Mathlib.Omega.{arith}
 use borrow.Author.Tests.{le-leb, lt-leb}
 use lib.Dec.{leb}
 use lib.ListN.{length}
@@ -23,7 +22,6 @@ use Rattle.demands.proofs.SecondDemand.{longer_same, second_demand}
 use Rattle.answer.specs.Said.{said as said_checked}
 use Rattle.answer.specs.declared.Checked.{Checked}
 use Rattle.answer.specs.declared.Checked.TheVariants as checked
-use Rattle.answer.proofs.Passed.{No}
 use Rattle.inference.specs.Memory.{Meets, finds, refuses, refusal}
 use Rattle.inference.specs.declared.Found.{Found}
 use Rattle.inference.specs.declared.Found.TheVariants.{Refused}
@@ -80,8 +78,8 @@ module _ (g t s work answer : Bytes) where
       roomy : asked ≡ from_2
       roomy = small true (ap (λ b. b && leb answer_length (length answer)) (le-leb work_length (length work) r) ∙ le-leb answer_length (length answer) ra)
 
-      pub script_refused : (a : Checked) (x : Found) → No a → said_checked a ≡ script_check [] g t s → x ≡ refusal a → Outcome asked x work work answer answer
-      script_refused checked.Passed x k e f = absurd (omega arith)
+      pub script_refused : (a : Checked) (x : Found) → (a ≡ checked.Passed → ⊥) → said_checked a ≡ script_check [] g t s → x ≡ refusal a → Outcome asked x work work answer answer
+      script_refused checked.Passed x k e f = absurd (k refl)
       script_refused (checked.Refused q p) x k e f =
           early asked x q p work answer (roomy ∙ ap (λ y. then y typed) (sym e)) f (script_early [] g t s q p (sym e))
 

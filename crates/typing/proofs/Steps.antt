@@ -1,11 +1,10 @@
 -- One call of the checker, stage by stage, over plain lists.
-use mathlib.Core.Path.{◌≡◌, refl, sym, ap, ◌∙◌, subst}
+use mathlib.Core.Path.{◌≡◌, sym, ap, ◌∙◌, subst}
 use mathlib.Core.Bool.{true, cond}
 use mathlib.Core.List.{◌∷◌, ◌++◌}
 use Prim.Native.Nat.{ℕ, suc, ◌+◌, ◌-◌, ◌*◌, ◌≤◌}
 use native.Mathlib.Omega.{arith}
 use borrow.Rule.Slice.PartMut.{put_mid}
-use denote.Enum.Declared.{tag_of}
 use lib.ListN.{length, take, drop, length-drop}
 use Rattle.calculus.specs.Security.{Indirect}
 use Rattle.calculus.specs.Types.{Ty, top}
@@ -20,18 +19,18 @@ use Rattle.rules.specs.Typing.{right, q22_of_branch, typing}
 use Rattle.types.specs.Held.{Held}
 use Rattle.inference.specs.Operands.{operand_count, Formed}
 use Rattle.records.specs.Operands.{first_operand, second_operand, third_operand}
-use Rattle.inference.specs.Memory.{high, Slot, Sized, Holds, Meets, finds, refuses, Ready, Enters, Beside, refusal}
+use Rattle.inference.specs.Memory.{high, Slot, Sized, Holds, Meets, Ready, Enters, Beside, refusal}
 use Rattle.inference.specs.Stages.{before_first, first_context, kept_front, after_one, between, second_context, after_two, kept_branch, case_type, One, Some, Aside, Two, Case, Branch, Branches}
 use Rattle.records.specs.Binders.{binds}
 use Rattle.answer.specs.declared.Checked.{Checked}
-use Rattle.answer.proofs.Passed.{Yes, No, accepts}
+use Rattle.answer.specs.declared.Checked.TheVariants as checked
+use Rattle.answer.specs.Said.{said}
 use Rattle.typing.specs.Parts.{kept_between}
 use Rattle.inference.specs.declared.Found.{Found}
 use Rattle.inference.specs.declared.Found.TheVariants.{Typed}
-use Rattle.inference.specs.contracts.Found.{the_type}
 use Rattle.inference.proofs.Regions.{high_drop, lent_rest, drop_lent, length_lent, high_lent, high_within, slot_of, slot_lent, sized_lent, rebase}
 use Rattle.inference.proofs.Shapes.{long, of_kind, depth_positive, kind_case, several}
-use Rattle.inference.proofs.Rules.{meets_of, TypedAs, typed_as, refused_as, refused_meets, refused_says}
+use Rattle.inference.proofs.Rules.{meets_of, typed_as, refused_as, refused_meets, refused_says}
 use Rattle.inference.proofs.Names.{owns, case_index}
 use Rattle.typing.proofs.Apart.{after_second, stops_before, stops_first, one_typed, first_typed, second_typed, branch_typed}
 use Rattle.typing.proofs.Below.{first_smaller, second_smaller, third_larger, first_formed, second_formed, third_formed, first_room, second_room, third_room, first_binders, second_binders, several_front, branch_binders, three, three_kind}
@@ -41,10 +40,6 @@ abbrev pub reading : Bytes → Bytes → Ty → Indirect
 reading g s t = (properties_of g).influence (top t) (r s 0)
 
 -- ---- answers taken apart
-
-found_some : {o : Answer Ty} {b : ℕ} {w : Bytes} {x : Found} {v : Bytes} → tag_of the_type x ≡ 0 → Meets o b w x v → (n : ℕ) × TypedAs o b w n v
-found_some e (finds {t = t} {n = m} h) = (m, record { type = t; is = refl; wrote = h })
-found_some e refuses = absurd (omega arith)
 
 -- ---- a part that was lent
 
@@ -120,12 +115,12 @@ module _ (g : Bytes) {types s : Bytes} {place b : ℕ} {w : Bytes} (v : Ready ty
   level = omega (arith, v.room, depth_positive v.tree)
 
   module _ {x : Checked} {w₁ : Bytes} (h : Enters (before_first (properties_of g) (type_at types) place v.tree) (first_context (type_at types) v.ctx v.tree) b w x w₁) where
-    pub before_refuses : {y : Found} {w₂ : Bytes} → No x → y ≡ refusal x → Meets (typing (properties_of g) (type_at types) v.ctx place v.tree) b w y w₂
+    pub before_refuses : {y : Found} {w₂ : Bytes} → (x ≡ checked.Passed → ⊥) → y ≡ refusal x → Meets (typing (properties_of g) (type_at types) v.ctx place v.tree) b w y w₂
     before_refuses t f = let z = refused_says x _ t h.says f in refused_meets (stops_before (properties_of g) (type_at types) v.ctx place v.tree z.0 z.1 z.2) z.3
 
-    pub went : {c : ℕ} → Yes x → c ≡ b + binds (kind s 0) 0 → length w₁ ≡ length w → Went g v c w₁
+    pub went : {c : ℕ} → x ≡ checked.Passed → c ≡ b + binds (kind s 0) 0 → length w₁ ≡ length w → Went g v c w₁
     went {c} t ec l =
-        let a = accepts x _ t h.says in
+        let a = sym h.says ∙ ap said t in
         let e = h.entered a in
         let q : length (first_context (type_at types) v.ctx v.tree) ≡ c = omega (arith, first_binders s (type_at types) v.ctx v.tree v.is, v.binders) in
         record {
@@ -179,7 +174,7 @@ module _ (g : Bytes) {types s : Bytes} {place b : ℕ} {w : Bytes} (v : Ready ty
           let q : 1 + place ≡ place + 1 = omega arith in
           ap (λ p. typing (properties_of g) (type_at types) (first_context (type_at types) v.ctx v.tree) p (first_operand v.tree)) q
 
-      pub first_refuses : {w₂ : Bytes} → tag_of the_type x ≡ 1 → Meets (typing (properties_of g) (type_at types) v.ctx place v.tree) b w x w₂
+      pub first_refuses : {w₂ : Bytes} → ((n : ℕ) → x ≡ Typed n → ⊥) → Meets (typing (properties_of g) (type_at types) v.ctx place v.tree) b w x w₂
       first_refuses t =
           let y = refused_as t m in
           refused_meets (stops_first (properties_of g) (type_at types) v.ctx place v.tree y.0 y.1 o h.asked (placed1 ∙ y.2)) y.3
@@ -254,13 +249,13 @@ module _ (g : Bytes) {types s : Bytes} {place b : ℕ} {w : Bytes} (v : Ready ty
       under_first = first_typed (properties_of g) (type_at types) v.ctx place v.tree d.type o d.is
 
       module _ {x : Checked} {w₃ : Bytes} (h : Enters (between (properties_of g) place v.tree d.type) (second_context v.ctx v.tree d.type) b w₂ x w₃) where
-        pub between_refuses : {y : Found} {w₄ : Bytes} → No x → y ≡ refusal x → Meets (typing (properties_of g) (type_at types) v.ctx place v.tree) b w y w₄
+        pub between_refuses : {y : Found} {w₄ : Bytes} → (x ≡ checked.Passed → ⊥) → y ≡ refusal x → Meets (typing (properties_of g) (type_at types) v.ctx place v.tree) b w y w₄
         between_refuses t f = let z = refused_says x _ t h.says f in refused_meets (under_first ∙ ap (λ a. then a (after_first d.type)) z.2) z.3
 
-        pub done2 : {c : ℕ} → Yes x → c ≡ b + binds (kind s 0) 1 → length w₃ ≡ length w₂ → (between (properties_of g) place v.tree d.type ≡ accepted tt → Aside v.tree d.type b w₃ n)
+        pub done2 : {c : ℕ} → x ≡ checked.Passed → c ≡ b + binds (kind s 0) 1 → length w₃ ≡ length w₂ → (between (properties_of g) place v.tree d.type ≡ accepted tt → Aside v.tree d.type b w₃ n)
             → Done2 g v d.type n c w₃
         done2 {c} t ec l k =
-            let a = accepts x _ t h.says in
+            let a = sym h.says ∙ ap said t in
             let e = h.entered a in
             let q : length (second_context v.ctx v.tree d.type) ≡ c = omega (arith, second_binders s v.ctx d.type v.tree (several v.tree o) v.is, v.binders) in
             record {
@@ -319,7 +314,7 @@ module _ (g : Bytes) {types s : Bytes} {place b : ℕ} {w : Bytes} (v : Ready ty
           let q : 1 + place + size (first_operand v.tree) ≡ place + j = omega arith in
           ap (λ p. typing (properties_of g) (type_at types) (second_context v.ctx v.tree t) p (second_operand v.tree)) q
 
-      pub second_refuses : {w₄ : Bytes} → tag_of the_type x ≡ 1 → Meets (typing (properties_of g) (type_at types) v.ctx place v.tree) b w x w₄
+      pub second_refuses : {w₄ : Bytes} → ((n : ℕ) → x ≡ Typed n → ⊥) → Meets (typing (properties_of g) (type_at types) v.ctx place v.tree) b w x w₄
       second_refuses f =
           let y = refused_as f m in
           refused_meets (d.is ∙ ap (λ a. bind a (after_second (properties_of g) (type_at types) v.ctx place v.tree t)) (placed2 ∙ y.2)) y.3
@@ -437,12 +432,12 @@ module _ (g : Bytes) {types s : Bytes} {place b : ℕ} {w : Bytes} (v : Ready ty
     under_branch = d.is ∙ branch_typed (properties_of g) (type_at types) v.ctx place t d.other case_is
 
     module _ {x : Checked} {w₅ : Bytes} (h : Enters (q22_of_branch (properties_of g) place (type_at types) (number s 0) d.other) (right t ∷ v.ctx) b w₄ x w₅) where
-      pub branch_refuses : {y : Found} {w₆ : Bytes} → No x → y ≡ refusal x → Meets (typing (properties_of g) (type_at types) v.ctx place v.tree) b w y w₆
+      pub branch_refuses : {y : Found} {w₆ : Bytes} → (x ≡ checked.Passed → ⊥) → y ≡ refusal x → Meets (typing (properties_of g) (type_at types) v.ctx place v.tree) b w y w₆
       branch_refuses n f = let z = refused_says x _ n h.says f in refused_meets (under_branch ∙ ap (λ a. then a after_branch) z.2) z.3
 
-      pub done5 : {c : ℕ} → Yes x → length w₅ ≡ length w₄ → c ≡ b + 1 → Slot w₅ d.other → Done5 g v t d.other c w₅
+      pub done5 : {c : ℕ} → x ≡ checked.Passed → length w₅ ≡ length w₄ → c ≡ b + 1 → Slot w₅ d.other → Done5 g v t d.other c w₅
       done5 {c} y l ec f =
-          let a = accepts x _ y h.says in
+          let a = sym h.says ∙ ap said y in
           let e = h.entered a in
           let q : length (right t ∷ v.ctx) ≡ c = omega (arith, v.binders) in
           record {
@@ -503,12 +498,12 @@ module _ (g : Bytes) {types s : Bytes} {place b : ℕ} {w : Bytes} (v : Ready ty
           → typing (properties_of g) (type_at types) v.ctx place v.tree ≡ bind a (λ u. case_type (properties_of g) (type_at types) place (number s 0) first u (reading g s t))
       after_third e = d.is ∙ ap (λ a. bind a (λ u. case_type (properties_of g) (type_at types) place (number s 0) first u (reading g s t))) (placed3 ∙ e)
 
-      pub third_refuses : {w₆ : Bytes} → tag_of the_type x ≡ 1 → Meets (typing (properties_of g) (type_at types) v.ctx place v.tree) b w x w₆
+      pub third_refuses : {w₆ : Bytes} → ((n : ℕ) → x ≡ Typed n → ⊥) → Meets (typing (properties_of g) (type_at types) v.ctx place v.tree) b w x w₆
       third_refuses f = let y = refused_as f m in refused_meets (after_third y.2) y.3
 
-      pub done6 : {w₆ : Bytes} → u ≡ drop past w₅ → length z ≡ length u → tag_of the_type x ≡ 0 → w₆ ≡ put_mid past (length w₅ - past) w₅ z → Done6 g v t first w₆
-      done6 {w₆} eu lz f e₆ =
-          let a = (found_some f m).1 in
+      pub done6 : {k : ℕ} {w₆ : Bytes} → u ≡ drop past w₅ → length z ≡ length u → x ≡ Typed k → w₆ ≡ put_mid past (length w₅ - past) w₅ z → Done6 g v t first w₆
+      done6 {w₆ = w₆} eu lz f e₆ =
+          let a = typed_as f m in
           let q = back b c past w₅ u z w₆ (omega (arith, d.binders, v.binders)) (omega (arith, past_fits)) eu lz a.wrote.kept e₆ in
           record {
             type = a.type;
