@@ -7,8 +7,6 @@ use Prim.Native.Nat.{ℕ, suc, ◌+◌, ◌*◌, ◌/◌, ◌%◌, ◌≤◌, �
 use native.Mathlib.Omega.{arith}
 use lib.ListN.{length, take, drop, length-append}
 use lib.Seq.{take_at}
-use types.Run.{OneOf}
-use denote.Enum.Declared.{tag_of}
 use Rattle.calculus.specs.Security.{Property, Reader, Indirect, Security}
 use Rattle.calculus.specs.Types.{Ty, top}
 use Rattle.calculus.specs.Terms.{first, second, Term, var, unit, lam, pair, inj, app, proj, case, protect, mu, is_value, subst, raise_value}
@@ -36,10 +34,8 @@ use Rattle.substitution.specs.Substituted.{value_limit}
 use Rattle.substitution.proofs.Nodes.{subst_bound}
 use Rattle.memory.proofs.Laws.{join_after}
 use Rattle.substitution.proofs.Reading.{term_length}
-use Rattle.contraction.specs.declared.Plan.{Plan}
 use Rattle.contraction.specs.declared.Plan.TheVariants.{Part, Body, Raised, Unrolled}
 use Rattle.contraction.specs.declared.Size.{Size}
-use Rattle.contraction.specs.contracts.Plan.{the_type}
 use Rattle.contraction.specs.Plans.{Planned, applied, projected, branched, lifted, unrolled_one, protect_record, Measures}
 
 -- what the protection of a destructor's contractum is
@@ -246,19 +242,6 @@ operand_there {s} {at} {e} a h = there s (at + 1) (first_operand e) (at_first s 
 
 pub counted : {e f : Term} {m : Size} → f ≡ e → Measures e m → Measures f m
 counted {m = m} h q = transport (λ (d : Term). Measures d m) (sym h) q
-
--- the plans without a place
-pub is_raised : (p : Plan) → OneOf (2 ∷ []) (tag_of the_type p) → p ≡ Raised
-is_raised (Part x) k = absurd (omega arith)
-is_raised (Body x y) k = absurd (omega arith)
-is_raised Raised k = refl
-is_raised Unrolled k = absurd (omega arith)
-
-pub is_unrolled : (p : Plan) → OneOf (3 ∷ []) (tag_of the_type p) → p ≡ Unrolled
-is_unrolled (Part x) k = absurd (omega arith)
-is_unrolled (Body x y) k = absurd (omega arith)
-is_unrolled Raised k = absurd (omega arith)
-is_unrolled Unrolled k = refl
 
 -- a protect record of an influence that is also told otherwise
 pub protect_told : {m m' : Indirect} (start : ℕ) (w w' : Bytes) → m ≡ m' → w' ≡ splice start (protect_record m) w → w' ≡ splice start (protect_record m') w

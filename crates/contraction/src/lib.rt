@@ -1,5 +1,7 @@
 // A redex's contractum: how it is made, its measure, and its records written.
 
+#![tactic(auto)]
+
 ghost use Rattle.std.specs.Prelude.{◌≡◌, ℕ, ◌+◌, ◌-◌, ◌/◌, ◌%◌, ◌≤◌, ◌<◌, length};
 ghost use Rattle.calculus.specs.Security.{Indirect, Security};
 ghost use Rattle.calculus.specs.Types.{Ty, top};
@@ -26,7 +28,7 @@ use records::{
 
 // How a redex's contractum is made: a protected part of the script; a protected body with a value put in for its variable; the
 // operand raised; a recursion's body with the recursion put in. Places are records.
-#[derive(Drop)]
+#[derive(Clone, Copy)]
 pub enum Plan {
     Part(usize),
     Body(usize, usize),
@@ -35,7 +37,7 @@ pub enum Plan {
 }
 
 // The records and the depth of a term.
-#[derive(Drop)]
+#[derive(Clone, Copy)]
 pub struct Size {
     pub records: usize,
     pub depth: usize,

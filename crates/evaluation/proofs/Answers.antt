@@ -7,17 +7,14 @@ use native.Mathlib.Omega.{arith}
 use lib.ListN.{length}
 use Rattle.calculus.specs.Types.{Ty}
 use Rattle.calculus.specs.Terms.{Term}
-use Rattle.rules.specs.Answer.{Bytes, Octets, Answer, accepted, ◌>>◌}
+use Rattle.rules.specs.Answer.{refused, Bytes, Octets, Answer, accepted, ◌>>◌}
 use Rattle.rules.specs.Groups.{properties_of}
 use Rattle.rules.specs.Types.{type_at}
 use Rattle.rules.specs.Script.{term, encode, size}
 use Rattle.rules.specs.Run.{Ran, run}
 use Rattle.rules.specs.Reach.{Accepted}
 use Rattle.rules.specs.Calls.{zeros, script_check, running, Report, run_report, first_after, scratch_after}
-use Rattle.answer.specs.declared.Checked.{Checked}
-use Rattle.answer.specs.declared.Checked.TheVariants.{Passed, Refused}
-use Rattle.answer.specs.Said.{said}
-use Rattle.answer.proofs.Passed.{No}
+use Rattle.answer.specs.declared.Checked.TheVariants.{Refused}
 use Rattle.demands.proofs.Answers.{accepted_inj}
 use Rattle.demands.proofs.ThirdDemand.{third_demand}
 use Rattle.evaluation.specs.declared.Halt.{Halt}
@@ -41,10 +38,9 @@ module _ (g t s : Bytes) (budget : ℕ) (first scratch : Bytes) where
   ran = run (properties_of g) (type_at t) (min (length first) (length scratch)) budget (term s)
 
   -- "A refusal leaves all lent memory unchanged."
-  pub refused_keeps : (x : Checked) → No x → said x ≡ script_check rooms g t s → Says first scratch answered (refused_run x) first scratch
+  pub refused_keeps : {q p : ℕ} → refused q p ≡ script_check rooms g t s → Says first scratch answered (refused_run (Refused q p)) first scratch
   unfolding running run_report
-  refused_keeps Passed k e = absurd (omega arith)
-  refused_keeps (Refused q p) k e =
+  refused_keeps {q} {p} e =
       transport (λ (c : Answer (Unit {0})). Says first scratch (◌>>◌ c (accepted ran)) (refused_run (Refused q p)) first scratch) e (refl, refl, refl)
 
   -- the run of the script's term, where it stands in the first buffer

@@ -2,13 +2,10 @@
 use mathlib.Core.Path.{◌≡◌, refl, sym, ap, ◌∙◌}
 use mathlib.Core.Path.{subst as transport}
 use mathlib.Core.Bool.{Bool, true, false, cond}
-use mathlib.Core.List.{[], ◌∷◌}
 use Prim.Native.Nat.{ℕ, suc, ◌+◌, ◌-◌, ◌*◌, ◌/◌, ◌≤◌, ◌<◌}
 use native.Mathlib.Omega.{arith}
 use lib.ListN.{length, take, drop}
 use lib.Seq.{take_at, length-take-le}
-use types.Run.{OneOf}
-use denote.Enum.Declared.{tag_of}
 use Rattle.calculus.specs.Security.{Security}
 use Rattle.calculus.specs.Types.{Ty}
 use Rattle.calculus.specs.Terms.{Term, is_value}
@@ -17,7 +14,7 @@ use Rattle.calculus.proofs.Values.{value_step}
 use Rattle.rules.specs.Answer.{Bytes}
 use Rattle.rules.specs.Limits.{script_width, script_limit, depth_limit, table_limit}
 use Rattle.rules.specs.Types.{type_count}
-use Rattle.rules.specs.Script.{records, encode, term, size, depth}
+use Rattle.rules.specs.Script.{encode, term, size, depth}
 use Rattle.rules.specs.Step.{End, at_value, moves, may_not, wrong_kind, too_big, step_in}
 use Rattle.rules.specs.Run.{Ran, ends, one_step_more, run}
 use Rattle.rules.specs.Calls.{front_after}
@@ -30,9 +27,8 @@ use Rattle.redex.proofs.Searches.{finds_step}
 use Rattle.memory.specs.Splice.{splice}
 use Rattle.substitution.proofs.Reading.{term_length}
 use Rattle.reduction.specs.declared.Stepped.{Stepped}
-use Rattle.reduction.specs.declared.Stepped.TheVariants.{Stopped, Moved}
+use Rattle.reduction.specs.declared.Stepped.TheVariants.{Moved}
 use Rattle.evaluation.specs.declared.Halt.{Halt}
-use Rattle.reduction.specs.contracts.Stepped.{the_type}
 use Rattle.reduction.specs.Steps.{Startable, told}
 use Rattle.evaluation.specs.Runs.{front, Loaded, number_of, spent_on, Halted}
 
@@ -80,15 +76,11 @@ module _ (S : Security) (tab : ℕ → Ty) (room : ℕ) where
   unfolding run
   run_moves n e e' h = rw (h, run)
 
-  run_stops : (n : ℕ) (e : Term) (x : End) → step_in S tab room e ≡ x → (a : Stepped) → a ≡ told x → OneOf (0 ∷ []) (tag_of the_type a)
+  run_stops : (n : ℕ) (e : Term) (x : End) → step_in S tab room e ≡ x → (a : Stepped) → a ≡ told x → ((m : ℕ) → a ≡ Moved m → ⊥)
       → run S tab room (suc n) e ≡ ends (number_of a) e
   unfolding run
   run_stops n e at_value h a k o = rw (h, run, k)
-  run_stops n e (moves e') h a k o = absurd (omega (arith, not_moved a (size e') k o))
-    where
-      not_moved : (a : Stepped) (m : ℕ) → a ≡ Moved m → OneOf (0 ∷ []) (tag_of the_type a) → ◌≡◌ {A = ℕ} 0 1
-      not_moved (Stopped q) m k o = cc
-      not_moved (Moved n) m k o = absurd (omega arith)
+  run_stops n e (moves e') h a k o = absurd (o (size e') k)
   run_stops n e may_not h a k o = rw (h, run, k)
   run_stops n e wrong_kind h a k o = rw (h, run, k)
   run_stops n e too_big h a k o = rw (h, run, k)
@@ -122,7 +114,7 @@ module _ (S : Security) (tab : ℕ → Ty) (room : ℕ) where
       }
 
   pub stopped : (budget k : ℕ) (whole e : Term) → Left budget whole e k → k < budget → (a : Stepped) → a ≡ told (step_in S tab room e)
-      → OneOf (0 ∷ []) (tag_of the_type a) → run S tab room budget whole ≡ later k (ends (number_of a) e)
+      → ((m : ℕ) → a ≡ Moved m → ⊥) → run S tab room budget whole ≡ later k (ends (number_of a) e)
   stopped budget k whole e q l a h o =
       let z : budget - k ≡ suc (budget - (k + 1)) = omega arith in
       q.is ∙ ap (λ (m : ℕ). later k (run S tab room m e)) z ∙ ap (later k) (run_stops (budget - (k + 1)) e (step_in S tab room e) refl a h o)

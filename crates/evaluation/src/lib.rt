@@ -1,5 +1,7 @@
 // The run: steps repeated within a budget.
 
+#![tactic(auto)]
+
 ghost use Rattle.std.specs.Prelude.{◌≡◌, ◌-◌, ◌≤◌, min, length};
 ghost use Rattle.calculus.specs.Types.{Ty};
 ghost use Rattle.rules.specs.Groups.{properties_of};
@@ -16,7 +18,7 @@ use redex::Found;
 use reduction::Stepped;
 
 // How a run of a term ends: the end's number, the steps made and the records of the last term.
-#[derive(Drop)]
+#[derive(Clone, Copy)]
 pub struct Halt {
     pub end: u8,
     pub steps: u64,
@@ -24,7 +26,7 @@ pub struct Halt {
 }
 
 // What a run reports: end, steps made and record count, or the number of the first question answered no and the place.
-#[derive(Drop)]
+#[derive(Clone, Copy)]
 pub enum RunAnswer {
     Ended(u8, u64, usize),
     Refused(u8, usize),

@@ -1,12 +1,8 @@
 -- What the search reports of a term, from what it reports of the operand that is evaluated next.
 use mathlib.Core.Path.{◌≡◌, refl, sym, ap, ◌∙◌}
-use mathlib.Core.Logic.{inl, inr}
-use mathlib.Core.List.{[], ◌∷◌}
 use mathlib.Core.Bool.{So}
 use Prim.Native.Nat.{ℕ, ◌+◌, ◌≤◌}
 use native.Mathlib.Omega.{arith}
-use types.Run.{OneOf}
-use denote.Enum.Declared.{tag_of}
 use Rattle.calculus.specs.Security.{Security}
 use Rattle.calculus.specs.Types.{Ty}
 use Rattle.calculus.specs.Terms.{Term, is_value}
@@ -22,7 +18,6 @@ use Rattle.redex.specs.Fates.{Fate, goes, not_permitted, wrong_kind, ready, fate
 use Rattle.redex.specs.Found.{Site, Finds, finds_value, finds_redex, finds_denied, finds_stuck, answer}
 use Rattle.redex.specs.declared.Found.{Found}
 use Rattle.redex.specs.declared.Found.TheVariants.{Value, Redex, Denied, Stuck}
-use Rattle.redex.specs.contracts.Found.{the_type}
 use Rattle.redex.proofs.Plugs.{plug_depth, compose_offset, compose_level}
 use Rattle.redex.proofs.Places.{hole_at}
 use Rattle.redex.proofs.Turns.{turn_step, site_moves}
@@ -56,12 +51,7 @@ position_shallow {e} {x} d p h = omega (arith, p.under, ap depth p.whole, plug_d
 
 -- what is no value
 abbrev pub Other : Found → Type 0
-Other a = OneOf (1 ∷ 2 ∷ 3 ∷ []) (tag_of the_type a)
-
-not_value : {A : Type 0} → OneOf (1 ∷ 2 ∷ 3 ∷ []) 0 → A
-not_value (inl e) = absurd (omega arith)
-not_value (inr (inl e)) = absurd (omega arith)
-not_value (inr (inr e)) = absurd (omega arith)
+Other a = (n : ℕ) → a ≡ Value n → ⊥
 
 module _ (S : Security) (tab : ℕ → Ty) (i d : ℕ) (e : Term) where
   lift_site : {x : Term} {n m place around : ℕ} (j : ℕ) → j ≡ i + n → Position e x n m → Site S tab j (d + m) x place around → Site S tab i d e place around
@@ -78,7 +68,7 @@ module _ (S : Security) (tab : ℕ → Ty) (i d : ℕ) (e : Term) where
 
   -- what is reported of the operand is reported of the whole term, as it is, unless it is a value
   pub lift : {x : Term} {n m : ℕ} {a : Found} (j : ℕ) → j ≡ i + n → Position e x n m → Finds S tab j (d + m) x a → Other a → Finds S tab i d e a
-  lift j h p (finds_value v n) k = not_value k
+  lift j h p (finds_value v n) k = absurd (k _ refl)
   lift j h p (finds_redex s) k = finds_redex (lift_site j h p s)
   lift {x} j h p (finds_denied q) k = finds_denied (ap (step S tab) p.whole ∙ plug_step S tab p.context x denied refl q)
   lift {x} j h p (finds_stuck q) k = finds_stuck (ap (step S tab) p.whole ∙ plug_step S tab p.context x stuck refl q)

@@ -1,5 +1,7 @@
 // The search for the redex: is the term a value, where does it reduce, or what is it stuck at?
 
+#![tactic(auto)]
+
 ghost use Rattle.std.specs.Prelude.{◌≡◌, ℕ, ◌+◌, ◌<◌};
 ghost use Rattle.std.proofs.Math.Bool.{So};
 ghost use Rattle.calculus.specs.Security.{Security};
@@ -20,7 +22,7 @@ use records::{
 
 // What the search for the redex reports: a value and the record after it; the redex and its depth less one; or why no
 // step moves the term, a reader that may not (end 2) or a wrong kind (end 3).
-#[derive(Drop)]
+#[derive(Clone, Copy)]
 pub enum Found {
     Value(usize),
     Redex(usize, usize),

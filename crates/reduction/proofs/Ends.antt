@@ -2,16 +2,13 @@
 use mathlib.Core.Path.{◌≡◌, refl, ap}
 use mathlib.Core.Path.{subst as transport}
 use mathlib.Core.Bool.{true, false}
-use mathlib.Core.List.{List, [], ◌∷◌}
+use mathlib.Core.List.{List, []}
 use Prim.Native.Nat.{ℕ, ◌≤◌}
-use native.Mathlib.Omega.{arith}
-use types.Run.{OneOf}
-use denote.Enum.Declared.{tag_of}
 use Rattle.calculus.specs.Security.{Security}
 use Rattle.calculus.specs.Types.{Ty}
 use Rattle.calculus.specs.Terms.{Term}
 use Rattle.calculus.specs.Reduction.{moved, step}
-use Rattle.rules.specs.Answer.{Bytes, Octets, Answer, accepted, ◌>>◌}
+use Rattle.rules.specs.Answer.{Bytes, Octets, Answer, accepted, refused, ◌>>◌}
 use Rattle.rules.specs.Limits.{table_limit}
 use Rattle.rules.specs.Groups.{properties_of}
 use Rattle.rules.specs.Types.{type_count, type_at, q8}
@@ -19,39 +16,26 @@ use Rattle.rules.specs.Script.{records, term}
 use Rattle.rules.specs.Step.{End, at_value, moves, may_not, wrong_kind, too_big, exceeds, limited, step_in}
 use Rattle.rules.specs.Calls.{step_report, types_check, groups_check, script_check, stepping, written_after}
 use Rattle.answer.specs.declared.Checked.{Checked}
-use Rattle.answer.specs.declared.Checked.TheVariants.{Passed, Refused}
-use Rattle.answer.specs.Said.{said}
-use Rattle.answer.proofs.Passed.{No}
+use Rattle.answer.specs.declared.Checked.TheVariants.{Refused}
 use Rattle.rules.proofs.Asked.{and_then, few_types}
 use Rattle.demands.proofs.Checked.{script_passed}
 use Rattle.redex.specs.Found.{Site, Finds, finds_redex}
-use Rattle.redex.specs.declared.Found.{Found}
 use Rattle.redex.specs.declared.Found.TheVariants.{Value, Redex, Denied, Stuck}
-use Rattle.redex.specs.contracts.Found.{the_type}
 use Rattle.redex.proofs.Searches.{finds_step}
 use Rattle.reduction.specs.Steps.{Startable, told, as_step, refused_step, said_step}
 
 module _ {S : Security} {tab : ℕ → Ty} {e : Term} where
-  pub ends_value : (room : ℕ) (f : Found) → OneOf (0 ∷ []) (tag_of the_type f) → Finds S tab 0 0 e f → step_in S tab room e ≡ at_value
+  pub ends_value : (room : ℕ) {n : ℕ} → Finds S tab 0 0 e (Value n) → step_in S tab room e ≡ at_value
   unfolding step_in
-  ends_value room (Value n) k h = ap (limited room) (finds_step h)
-  ends_value room (Redex i d) k h = absurd (omega arith)
-  ends_value room Denied k h = absurd (omega arith)
-  ends_value room Stuck k h = absurd (omega arith)
+  ends_value room h = ap (limited room) (finds_step h)
 
-  pub ends_denied : (room : ℕ) (f : Found) → OneOf (2 ∷ []) (tag_of the_type f) → Finds S tab 0 0 e f → step_in S tab room e ≡ may_not
+  pub ends_denied : (room : ℕ) → Finds S tab 0 0 e Denied → step_in S tab room e ≡ may_not
   unfolding step_in
-  ends_denied room (Value n) k h = absurd (omega arith)
-  ends_denied room (Redex i d) k h = absurd (omega arith)
-  ends_denied room Denied k h = ap (limited room) (finds_step h)
-  ends_denied room Stuck k h = absurd (omega arith)
+  ends_denied room h = ap (limited room) (finds_step h)
 
-  pub ends_stuck : (room : ℕ) (f : Found) → OneOf (3 ∷ []) (tag_of the_type f) → Finds S tab 0 0 e f → step_in S tab room e ≡ wrong_kind
+  pub ends_stuck : (room : ℕ) → Finds S tab 0 0 e Stuck → step_in S tab room e ≡ wrong_kind
   unfolding step_in
-  ends_stuck room (Value n) k h = absurd (omega arith)
-  ends_stuck room (Redex i d) k h = absurd (omega arith)
-  ends_stuck room Denied k h = absurd (omega arith)
-  ends_stuck room Stuck k h = ap (limited room) (finds_step h)
+  ends_stuck room h = ap (limited room) (finds_step h)
 
   pub found_site : {i d : ℕ} → Finds S tab 0 0 e (Redex i d) → Site S tab 0 0 e i d
   found_site (finds_redex x) = x
@@ -77,10 +61,9 @@ made_report s too_big = refl
 abbrev pub Keeps : Bytes → Bytes → Checked → Answer End → Type 0
 Keeps s old x o = (said_step (refused_step x) ≡ step_report s o) × (old ≡ written_after o old)
 
-pub refused_keeps : (g t s old : Bytes) (room : ℕ) (x : Checked) → No x → said x ≡ script_check [] g t s → Keeps s old x (stepping g t s room)
+pub refused_keeps : (g t s old : Bytes) (room : ℕ) {q p : ℕ} → refused q p ≡ script_check [] g t s → Keeps s old (Refused q p) (stepping g t s room)
 unfolding stepping
-refused_keeps g t s old room Passed k e = absurd (omega arith)
-refused_keeps g t s old room (Refused q p) k e =
+refused_keeps g t s old room {q} {p} e =
     transport (λ (c : Answer (Unit {0})). Keeps s old (Refused q p) (◌>>◌ c (accepted (step_in (properties_of g) (type_at t) room (term s))))) e (refl, refl)
 
 pub passed_step : (g t s : Bytes) (room : ℕ) → script_check [] g t s ≡ accepted tt

@@ -1,5 +1,7 @@
 // One step of a script's term.
 
+#![tactic(auto)]
+
 ghost use Rattle.std.specs.Prelude.{◌≡◌, ◌||◌, ◌-◌, ◌/◌, ◌≤◌, ltb, length};
 ghost use Rattle.rules.specs.Limits.{script_width, script_limit, depth_limit};
 ghost use Rattle.rules.specs.Groups.{properties_of};
@@ -16,14 +18,14 @@ use records::SCRIPT_WIDTH;
 use redex::Found;
 
 // What a step of a term reports: an end without a move (0, 2, 3 or 4), or the records of the new term.
-#[derive(Drop)]
+#[derive(Clone, Copy)]
 pub enum Stepped {
     Stopped(u8),
     Moved(usize),
 }
 
 // What a step reports: its end and a record count, or the number of the first question answered no and the place.
-#[derive(Drop)]
+#[derive(Clone, Copy)]
 pub enum StepAnswer {
     Ended(u8, usize),
     Refused(u8, usize),

@@ -1,15 +1,18 @@
 -- What a term at a record tells of the bytes there.
-use mathlib.Core.Path.{◌≡◌, ◌∙◌}
-use Prim.Native.Nat.{ℕ, ◌*◌, ◌≤◌}
+use mathlib.Core.Path.{◌≡◌, ap, ◌∙◌}
+use Prim.Native.Nat.{ℕ, ◌+◌, ◌*◌, ◌≤◌}
 use lib.ListN.{length}
 use Rattle.calculus.specs.Terms.{Term, var}
 use Rattle.rules.specs.Answer.{Bytes}
 use Rattle.rules.specs.Limits.{script_width}
-use Rattle.rules.specs.Script.{encode, size, number}
+use Rattle.rules.specs.Script.{encode, size, kind, number, arity}
 use Rattle.rules.proofs.PrefixLaws.{encode_length, size_positive}
-use Rattle.rules.proofs.TermCode.{term_code, two_bytes}
+use Rattle.rules.proofs.TermCode.{term_code, term_operands, two_bytes}
 use Rattle.records.specs.Place.{At}
+use Rattle.records.specs.Kinds as kinds
+use Rattle.records.specs.Binders.{binds}
 use Rattle.records.proofs.Made.{number_at}
+use Rattle.records.proofs.Stands.{kind_of, stands_kind, stands_arity}
 
 pub term_length : (e : Term) → length (encode e) ≡ script_width * size e
 term_length e = encode_length term_code e
@@ -19,3 +22,15 @@ size_from e = size_positive term_code e
 
 pub variable_at : {s : Bytes} {i m : ℕ} → At s i (var m) → number s i ≡ m
 variable_at {m = m} a = number_at a ∙ two_bytes m
+
+-- What a loop over the operands of the node at record i knows of it, once its kind k is read: that it is no variable, how many operands
+-- it has, and the level of a variable under the binders over operand j.
+module _ {s : Bytes} {i k : ℕ} {u : Term} (k_is : k ≡ kind s i) (a : At s i u) where
+  pub other_kind : (k ≡ kinds.variable → ⊥) → kind_of u ≡ kinds.variable → ⊥
+  other_kind other h = other (k_is ∙ stands_kind _ _ _ a ∙ h)
+
+  pub count_is : {n : ℕ} → n ≡ arity k → n ≡ length (term_operands u)
+  count_is e = e ∙ ap arity k_is ∙ stands_arity _ _ _ a
+
+  pub level_is : {b : ℕ} (n j : ℕ) → b ≡ binds k j → n + b ≡ n + binds (kind_of u) j
+  level_is n j e = ap (λ (x : ℕ). n + x) (e ∙ ap (λ (y : ℕ). binds y j) (k_is ∙ stands_kind _ _ _ a))

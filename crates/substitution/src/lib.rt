@@ -1,5 +1,7 @@
 // Substitution of a closed value for a variable, measured without writing, and written.
 
+#![tactic(auto)]
+
 ghost use Rattle.std.specs.Prelude.{◌≡◌, cond, ◌++◌, ◌+◌, ◌*◌, ◌≤◌, ◌<◌, max, eqb, length};
 ghost use Rattle.calculus.specs.Terms.{Term};
 ghost use Rattle.rules.specs.Script.{records as record_count, kind, number, encode, size, depth};
@@ -11,7 +13,7 @@ ghost use Rattle.substitution.specs.Substituted.{Sizes, Measured, Within, Extend
 use records::{SCRIPT_WIDTH, VARIABLE};
 
 // The record after a term, and the records and the depth of what it becomes.
-#[derive(Drop)]
+#[derive(Clone, Copy)]
 pub struct Extent {
     pub next: usize,
     pub records: usize,
@@ -19,7 +21,7 @@ pub struct Extent {
 }
 
 // The record after a term, and the byte after what was written for it.
-#[derive(Drop)]
+#[derive(Clone, Copy)]
 pub struct Wrote {
     pub next: usize,
     pub end: usize,

@@ -1,0 +1,101 @@
+use mathlib.Core.Path.{◌≡◌, sym, ◌∙◌}
+use mathlib.Core.Path.{subst as transport}
+use native.Mathlib.Omega.{arith}
+use Rattle.calculus.specs.Terms.{Term}
+use Prim.Native.Nat.{ℕ, ◌+◌, ◌≤◌}
+use Rattle.rules.specs.Answer.{Bytes}
+use Rattle.rules.specs.Limits.{script_limit, depth_limit}
+use Rattle.rules.specs.Script.{size, depth}
+use Rattle.records.specs.Place.{At}
+use Rattle.records.proofs.Stands.{there}
+use Rattle.records.proofs.Made.{influence_of}
+use Rattle.redex.specs.Fates.{contractum}
+use Rattle.contraction.specs.declared.Plan.{Plan}
+use Rattle.contraction.specs.declared.Plan.TheVariants.{Part, Body, Raised, Unrolled}
+use Rattle.contraction.specs.Plans.{Planned, Ready, Measures, Both, Recursive}
+use Rattle.substitution.specs.Substituted.{Within}
+use Rattle.contraction.proofs.Plans.{part_plan, body_plan, LiftPlan, lift_plan, RollPlan, roll_plan, protection_of, raise_size, counted}
+use Rattle.contraction.proofs.measure.Goals as goal
+
+-- what each plan says of the term, and what its measure is asked for
+module _ {s : Bytes} {at : ℕ} {plan : Plan} (q : Ready s at plan) where
+  abbrev planned : {p : Plan} → plan ≡ p → Planned s q.tree p
+  planned e = transport (λ (p : Plan). Planned s q.tree p) e q.planned
+
+  abbrev part_ready : {x : ℕ} → plan ≡ Part x → Within s x
+  part_ready e =
+      let p = part_plan (planned e) in
+      record { tree = p.part; at = p.stands; shallow = omega (arith, p.shallow, q.shallow); small = omega (arith, p.small, q.small) }
+
+  abbrev body_ready : {x y : ℕ} → plan ≡ Body x y → Both s x y
+  body_ready e =
+      let p = body_plan (planned e) in
+      record {
+        body = p.body;
+        value = p.value;
+        at_body = p.at_body;
+        at_value = p.at_value;
+        small = omega (arith, p.small, q.small);
+        shallow_body = omega (arith, p.shallow_body, q.shallow);
+        shallow_value = omega (arith, p.shallow_value, q.shallow);
+      }
+
+  abbrev lifted : plan ≡ Raised → LiftPlan s at q.tree
+  lifted e = lift_plan q.stands (planned e)
+
+  abbrev lift_ready : plan ≡ Raised → Within s (at + 1)
+  lift_ready e =
+      let p = lifted e in
+      record { tree = p.value; at = p.stands; shallow = omega (arith, p.shallow, q.shallow); small = omega (arith, p.small, q.small) }
+
+  abbrev rolled : plan ≡ Unrolled → RollPlan q.tree
+  rolled e = roll_plan (planned e)
+
+  abbrev roll_ready : plan ≡ Unrolled → Recursive s at
+  roll_ready e =
+      let p = rolled e in
+      record {
+        label = p.label;
+        type = p.type;
+        body = p.body;
+        stands = transport (λ (e : Term). At s at e) p.is q.stands;
+        small = transport (λ (e : Term). size e ≤ script_limit) p.is q.small;
+        shallow = transport (λ (e : Term). depth e ≤ depth_limit) p.is q.shallow;
+      }
+
+pub measure_part-requires : goal.measure_part-requires
+measure_part-requires c = part_ready c.requires c.in-Part.is
+
+pub measure_body-requires : goal.measure_body-requires
+measure_body-requires c = body_ready c.requires c.in-Body.is
+
+pub overflow_add-at : goal.overflow_add-at
+overflow_add-at c = omega (arith, there _ _ _ (lifted c.requires c.in-Raised.is).stands)
+
+pub measure_raised-requires : goal.measure_raised-requires
+measure_raised-requires c = lift_ready c.requires c.in-Raised.is
+
+pub measure_unrolled-requires : goal.measure_unrolled-requires
+measure_unrolled-requires c = roll_ready c.requires c.in-Unrolled.is
+
+pub returns-in-Part : goal.returns-in-Part
+returns-in-Part c q S tab =
+    counted ((part_plan (planned q c.in-Part.is)).is S tab)
+    (c.measure_part.ensures (part_ready q c.in-Part.is) (protection_of S q.tree))
+
+pub returns-in-Body : goal.returns-in-Body
+returns-in-Body c q S tab =
+    counted ((body_plan (planned q c.in-Body.is)).is S tab)
+    (c.measure_body.ensures (body_ready q c.in-Body.is) (protection_of S q.tree))
+
+pub returns-in-Raised : goal.returns-in-Raised
+returns-in-Raised c q S tab =
+    let p = lifted q c.in-Raised.is in
+    let m = c.measure_raised.ensures (lift_ready q c.in-Raised.is) in
+    let z = raise_size S p.value (influence_of q.tree) in
+    counted (p.is S tab) (record { records = m.records ∙ sym z.0; deep = m.deep ∙ sym z.1 })
+
+pub returns-in-Unrolled : goal.returns-in-Unrolled
+returns-in-Unrolled c q S tab =
+    transport (λ (e : Term). Measures (contractum S tab e) c.measure_unrolled.result) (sym (rolled q c.in-Unrolled.is).is)
+    (c.measure_unrolled.ensures (roll_ready q c.in-Unrolled.is) S tab)
