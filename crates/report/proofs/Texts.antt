@@ -1,6 +1,6 @@
 -- The report's texts from what the calls answer, and how long they can be.
 use mathlib.Core.Path.{◌≡◌, refl, sym, ap, ◌∙◌}
-use mathlib.Core.Bool.{Bool, true, false, not, false≢true}
+use mathlib.Core.Bool.{Bool, true, false, false≢true}
 use mathlib.Core.List.{[], ◌∷◌, ◌++◌}
 use mathlib.Core.Option.{Option, none, some}
 use Prim.Native.Nat.{ℕ, zero, suc, ◌+◌, ◌*◌, ◌-◌, ◌/◌, ◌≤◌}
@@ -162,22 +162,22 @@ script_refused w g t s q p = go (verdict g t s)
     go (refused q' p') h = cc
 
 -- the words first: none supplied, accepted, refused
-pub ours_report : (w v g t s : Bytes) (supplied : Bool) → not supplied ≡ true → v ≡ our_words → script_text v g t s ≡ report (file supplied w) g t s
+pub ours_report : (w v g t s : Bytes) (supplied : Bool) → supplied ≡ false → v ≡ our_words → script_text v g t s ≡ report (file supplied w) g t s
 unfolding report
-ours_report w v g t s true n e = absurd (false≢true n)
+ours_report w v g t s true n e = absurd (false≢true (sym n))
 ours_report w v g t s false n e = ap (λ (b : Bytes). script_text b g t s) e
 
-pub own_report : (w g t s : Bytes) (supplied : Bool) → not supplied ≡ false → words_check w ≡ accepted tt
+pub own_report : (w g t s : Bytes) (supplied : Bool) → supplied ≡ true → words_check w ≡ accepted tt
     → script_text w g t s ≡ report (file supplied w) g t s
 unfolding report
 own_report w g t s true n e = sym (ap (λ (a : Answer (Unit {0})). after_words a (script_text w g t s)) e)
-own_report w g t s false n e = absurd (false≢true (sym n))
+own_report w g t s false n e = absurd (false≢true n)
 
-pub words_refused : (w g t s : Bytes) (supplied : Bool) (q p : ℕ) → not supplied ≡ false → words_check w ≡ refused q p
+pub words_refused : (w g t s : Bytes) (supplied : Bool) (q p : ℕ) → supplied ≡ true → words_check w ≡ refused q p
     → refusal_line q p ≡ report (file supplied w) g t s
 unfolding report
 words_refused w g t s true q p n e = sym (ap (λ (a : Answer (Unit {0})). after_words a (script_text w g t s)) e)
-words_refused w g t s false q p n e = absurd (false≢true (sym n))
+words_refused w g t s false q p n e = absurd (false≢true n)
 
 -- question 32 leaves 72 bytes
 pub words_whole : (w : Bytes) → words_check w ≡ accepted tt → length w ≡ words_length

@@ -16,14 +16,10 @@ use Rattle.rules.specs.Sheet.{sheet}
 use Rattle.rules.specs.Calls.{groups_check, types_check, script_check, q25, q26, q27, sheeting, sheet_records, sheet_after}
 use Rattle.rules.proofs.Asked.{ask_true, and_then, regroup, few_rows}
 use Rattle.demands.proofs.Checked.{script_passed}
-use Rattle.answer.specs.declared.Checked.{Checked}
-use Rattle.answer.specs.declared.Checked.TheVariants.{Passed, Refused}
-use Rattle.answer.specs.Said.{said}
-use Rattle.answer.proofs.Passed.{No}
 use Rattle.memory.specs.Splice.{splice}
 use Rattle.memory.proofs.Laws.{splice_front}
 use Rattle.sheet.specs.Value.{lines}
-use Rattle.sheet.specs.Said.{said_sheet, refused_sheet, before_26}
+use Rattle.sheet.specs.Said.{said_sheet, before_26}
 use Rattle.sheet.specs.declared.Sheet.{Sheet}
 use Rattle.sheet.specs.declared.Sheet.TheVariants as the
 use Rattle.sheet.proofs.Sheets.{sheet_length}
@@ -75,9 +71,8 @@ module _ (g t s : Bytes) (group : ℕ) (old : Bytes) where
   abbrev call : Answer Bytes
   call = sheeting g t s group (length old)
 
-  pub stopped : (x : Checked) → No x → said x ≡ before_26 g t s group → Paged call old (refused_sheet x) old
-  stopped Passed k e = absurd (omega arith)
-  stopped (Refused q p) k e =
+  pub stopped : {q p : ℕ} → refused q p ≡ before_26 g t s group → Paged call old (the.Refused q p) old
+  stopped {q} {p} e =
       no_sheet call old q p (sheeting_is g t s group (length old) ∙ ap (λ a. ◌>>◌ a (from_26 g s group (length old))) (sym e))
 
   module _ (yes : before_26 g t s group ≡ accepted tt) where

@@ -1,11 +1,8 @@
 -- What a look finds at a term's record and at its operands.
 use mathlib.Core.Path.{◌≡◌, refl, sym, ap, ◌∙◌}
 use mathlib.Core.Bool.{Bool, true, false, cond, ◌&&◌}
-use mathlib.Core.List.{[], ◌∷◌}
 use Prim.Native.Nat.{ℕ, ◌+◌, ◌≤◌, ◌<◌}
 use native.Mathlib.Omega.{arith}
-use types.Run.{OneOf}
-use denote.Enum.Declared.{tag_of}
 use Rattle.calculus.specs.Security.{Property}
 use Rattle.calculus.specs.Terms.{Side, first, second, choose, Term, var, unit, lam, pair, inj, app, proj, case, protect, mu, is_value}
 use Rattle.rules.specs.Answer.{Bytes}
@@ -19,9 +16,7 @@ use Rattle.records.specs.Place.{At}
 use Rattle.records.specs.Operands.{first_operand, second_operand}
 use Rattle.records.proofs.Stands.{kind_of, operands}
 use Rattle.sheet.specs.Value.{lines, lines_if, looked}
-use Rattle.sheet.specs.declared.Looked.{Looked}
 use Rattle.sheet.specs.declared.Looked.TheVariants.{Value, Other}
-use Rattle.sheet.specs.contracts.Looked.{the_type}
 
 -- a term as a walk over values sees it
 pub data View : Term → Type 0 where
@@ -104,19 +99,13 @@ module _ (g : Bytes) (group : ℕ) where
         go false v p = let z : ◌≡◌ {A = ℕ} 0 1 = cc in absurd (omega arith)
 
     -- no value was found
-    pub lost : (e : Term) (i n : ℕ) (x : Looked) → OneOf (1 ∷ []) (tag_of the_type x) → x ≡ looked g group shown e i n → is_value e ≡ false
+    pub lost : (e : Term) (i n : ℕ) → Other ≡ looked g group shown e i n → is_value e ≡ false
     unfolding looked
-    lost e i n x k h = go (is_value e) refl x k h
+    lost e i n h = go (is_value e) refl h
       where
-        go : (b : Bool) → is_value e ≡ b → (x : Looked) → OneOf (1 ∷ []) (tag_of the_type x) → x ≡ cond b (Value (i + size e) (n + lines_if g group shown e)) Other
-            → is_value e ≡ false
-        go false v x k h = v
-        go true v Other k h = let z : ◌≡◌ {A = ℕ} 0 1 = cc in absurd (omega arith)
-        go true v (Value j m) k h = absurd (omega arith)
-
-pub is_other : (x : Looked) → OneOf (1 ∷ []) (tag_of the_type x) → x ≡ Other
-is_other Other k = refl
-is_other (Value j m) k = absurd (omega arith)
+        go : (b : Bool) → is_value e ≡ b → Other ≡ cond b (Value (i + size e) (n + lines_if g group shown e)) Other → is_value e ≡ false
+        go false v h = v
+        go true v h = let z : ◌≡◌ {A = ℕ} 0 1 = cc in absurd (omega arith)
 
 -- objects are of the kinds from the unit to the second injection
 pub no_object : {e : Term} → View e → (kinds.unit ≤ kind_of e → kinds.second_injection < kind_of e) → is_value e ≡ false

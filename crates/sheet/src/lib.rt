@@ -1,5 +1,7 @@
 // The sheet of a value for a reader group.
 
+#![tactic(auto)]
+
 ghost use Rattle.std.specs.Prelude.{◌≡◌, true, cond, ◌&&◌, ◌+◌, ◌*◌, ◌/◌, ◌^◌, ◌≤◌, ◌<◌, length};
 ghost use Rattle.calculus.specs.Terms.{Term, is_value};
 ghost use Rattle.rules.specs.Limits.{sheet_width};
@@ -33,21 +35,21 @@ pub const SHOWN_FUNCTION: u8 = 4;
 pub const CLOSED: u8 = 5;
 
 // The answer of a sheet: its record count, or the number of the first question answered no, and its place.
-#[derive(Drop)]
+#[derive(Clone, Copy)]
 pub enum Sheet {
     Written(usize),
     Refused(u8, usize),
 }
 
 // What a look over a term finds: a value, with the record after it and the count of sheet records up to there, or another term.
-#[derive(Drop)]
+#[derive(Clone, Copy)]
 enum Looked {
     Value(usize, usize),
     Other,
 }
 
 // A sheet record.
-#[derive(Drop)]
+#[derive(Clone, Copy)]
 struct Line {
     pub kind: u8,
     pub r: Reader,
@@ -55,7 +57,7 @@ struct Line {
 }
 
 // Where writing has come to: the script record after the value, and the sheet record after its own.
-#[derive(Drop)]
+#[derive(Clone, Copy)]
 struct Reached {
     pub next: usize,
     pub line: usize,

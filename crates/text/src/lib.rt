@@ -1,6 +1,8 @@
 // Words and numbers, written over a lent buffer from an offset on. Each function answers the offset after its piece, so that
 // one goes on where another ended.
 
+#![tactic(auto)]
+
 ghost use Rattle.std.specs.Prelude.{◌≡◌, [], ◌∷◌, ◌+◌, ◌≤◌, length};
 ghost use Rattle.rules.specs.Limits.{words_length};
 ghost use Rattle.rules.specs.Words.{word};

@@ -1,5 +1,7 @@
 // A words table: questions 32 to 34, the letters of a word, and the table of our own words.
 
+#![tactic(auto)]
+
 ghost use Rattle.std.specs.Prelude.{◌≡◌, ◌*◌, ◌≤◌, ◌<◌, length};
 ghost use Rattle.memory.specs.Splice.{splice};
 ghost use Rattle.rules.specs.Limits.{word_width, word_limit, words_length};
