@@ -1,5 +1,7 @@
 // The inner calls, exported for the tests only. Answers are packed as the library's own are.
 
+#![tactic(auto)]
+
 ghost use Rattle.std.specs.Prelude.{◌≡◌, cond, min, length, take};
 ghost use Rattle.rules.specs.Groups.{bit};
 ghost use Rattle.rules.specs.Script.{subterm};

@@ -2,6 +2,8 @@
 // question * 2^32 + place; otherwise the upper half is 0 and the lower half is what the call answers. `packing` has that
 // definition, and that a caller reads the same answer off it again.
 
+#![tactic(auto)]
+
 ghost use Rattle.std.specs.Prelude.{◌≡◌, ◌≤◌, length};
 ghost use Rattle.calculus.specs.Types.{Ty};
 ghost use Rattle.rules.specs.Limits.{work_length, answer_length};

@@ -2,6 +2,8 @@
 // do: refused is question * 2^32 + place; otherwise the upper half is 0 and the lower half is what the call answers. One that asks none
 // answers the plain number.
 
+#![tactic(auto)]
+
 ghost use Rattle.std.specs.Prelude.{◌≡◌, length};
 ghost use Rattle.rules.specs.Limits.{type_width, script_width};
 ghost use Rattle.rules.specs.Callers.{write_callers, callers_written};

@@ -1,0 +1,11 @@
+use mathlib.Core.Path.{sym, ap, subst, ◌∙◌}
+use Rattle.packing.specs.Packed.{packed, Bounded}
+use Rattle.packing.proofs.Bounds.{rewriting_script_bounded}
+use Rattle.packing.proofs.Exported.{rewritten_bounded}
+use Rattle.wigneld_office.proofs.wigneld_rewrite_script.Goals as goal
+
+pub rewrote-requires : goal.rewrote-requires
+rewrote-requires c = subst Bounded (sym c.rewrite_script.ensures.0) (rewritten_bounded _ _ (rewriting_script_bounded _ _ _ _))
+
+pub returns : goal.returns
+returns c = let x = c.rewrite_script.ensures in (c.rewrote.ensures ∙ ap packed x.0, x.1)
