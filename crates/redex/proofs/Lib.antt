@@ -3,4 +3,5 @@ pub mod Places
 pub mod Turns
 pub mod Forms
 pub mod Searches
+pub mod Stages
 pub mod Answers
