@@ -22,7 +22,7 @@ extern "C" {
 #endif
 
 /* Raised whenever a constant, a prototype or an answer changes. */
-#define WIGNELD_VERSION 5
+#define WIGNELD_VERSION 6
 
 /* The form of rows and records. Raised whenever a width below changes, or what a byte of a record means: files of another form
    are to be rewritten before they are lent. No file says its form, so keep it beside them. In form 2 type records had 4 bytes and
@@ -149,15 +149,15 @@ extern "C" {
 /*
  * The free stack that each function needs, whatever it is lent: the bytes between the caller's stack pointer, before the
  * arguments are put down, and the end of the stack. The deepest scripts, of depth 256 with types of 63 records, were seen to take
- * 126,880, 49,392 and 45,280 bytes; the numbers are these and at least a sixteenth more, in whole pages.
+ * 81,920, 53,680 and 37,024 bytes; the numbers are these and at least a sixteenth more, in whole pages.
  *
  * A thread's stack holds more than that: its own frames, and what the C library keeps there. With glibc
  * pthread_attr_setstacksize(&attributes, PTHREAD_STACK_MIN + WIGNELD_CHECK_STACK_BYTES) is enough for a thread that calls
  * wigneld_check from a shallow function.
  */
-#define WIGNELD_CHECK_STACK_BYTES 135168
-#define WIGNELD_RUN_STACK_BYTES 53248
-#define WIGNELD_SHEET_STACK_BYTES 49152
+#define WIGNELD_CHECK_STACK_BYTES 90112
+#define WIGNELD_RUN_STACK_BYTES 57344
+#define WIGNELD_SHEET_STACK_BYTES 40960
 
 /*
  * Checks a script: questions 1 to 24, with 36 right after 10 and after 15, and 31 right after the second branch of a case that

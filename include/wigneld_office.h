@@ -22,13 +22,13 @@ extern "C" {
 #endif
 
 /* The free stack that each function needs, whatever it is lent, as wigneld.h means it. For wigneld_compare two types of 63
-   records, as deep as they can be, were seen to take 8,352 bytes; the number is this and at least a sixteenth more.
+   records, as deep as they can be, were seen to take 4,224 bytes; the number is this and at least a sixteenth more.
    wigneld_write_callers goes over its script once and needs next to none. The other two hold a whole table, or a table and a script,
-   in the new form while they ask, and were seen to take 24,912 and 114,928 bytes. */
-#define WIGNELD_COMPARE_STACK_BYTES 10240
+   in the new form while they ask, and were seen to take 24,896 and 110,832 bytes. */
+#define WIGNELD_COMPARE_STACK_BYTES 5120
 #define WIGNELD_WRITE_CALLERS_STACK_BYTES 512
 #define WIGNELD_REWRITE_TYPES_STACK_BYTES 28672
-#define WIGNELD_REWRITE_SCRIPT_STACK_BYTES 122880
+#define WIGNELD_REWRITE_SCRIPT_STACK_BYTES 118784
 
 /*
  * Compares two types of one table, each named by the index of its first record: questions 2 to 12 and 25, whose place is 0 for the
