@@ -1,9 +1,10 @@
 -- The result type is raised in place.
 use mathlib.Core.Path.{◌≡◌, ap, ◌∙◌}
+use Prim.Native.Nat.{ℕ}
 use native.Mathlib.Omega.{arith}
-use Rattle.calculus.specs.Security.{Security}
+use Rattle.calculus.specs.Security.{Indirect, Security}
 use Rattle.calculus.specs.Types.{Ty, raise_t}
-use Rattle.rules.specs.Answer.{Answer, accepted, refused, ◌>>=◌ as bind}
+use Rattle.rules.specs.Answer.{Bytes, Answer, accepted, ◌>>=◌ as bind}
 use Rattle.rules.specs.Groups.{properties_of}
 use Rattle.rules.specs.Types.{type_at}
 use Rattle.rules.specs.Script.{number}
@@ -13,39 +14,29 @@ use Rattle.inference.specs.Stages.{result_type, case_type, Branches}
 use Rattle.inference.proofs.Rules.{case_raises, meets_of, raise_wrote, typed_as, refused_as, refused_meets}
 use Rattle.inference.proofs.after_second_branch.Goals as goal
 
+-- the case's type from its result's
+raised : {types s w : Bytes} (v : Branches types s w) (S : Security) (place : ℕ) (by : Indirect) {o : Answer Ty}
+    → result_type S (type_at types) place (number s 0) v.first v.second ≡ o
+    → case_type S (type_at types) place (number s 0) v.first v.second by ≡ bind o (λ r. accepted (raise_t S r by))
+raised {types} {s} v S place by e =
+    case_raises S place (type_at types) (number s 0) v.first v.second by ∙ ap (λ a. bind a (λ r. accepted (raise_t S r by))) e
+
 pub returns-in_default : goal.returns-in_default
-returns-in_default c =
-    let S : Security = properties_of c.args.groups.now in
-    let Node : Type 0 = Branches c.args.types.now c.args.s.now c.args.w.now in
-    let result : Node → Answer Ty = λ v. result_type S (type_at c.args.types.now) c.args.place (number c.args.s.now 0) v.first v.second in
-    let raised : (v : Node) (o : Answer Ty) → result v ≡ o → let by = said_influence c.args.by in case_type S (type_at c.args.types.now) c.args.place (number c.args.s.now 0) v.first v.second by ≡ bind o (λ r. accepted (raise_t S r by)) = λ v o e. let by = said_influence c.args.by in
-    case_raises S c.args.place (type_at c.args.types.now) (number c.args.s.now 0) v.first v.second by
-    ∙ ap (λ a. bind a (λ r. accepted (raise_t S r by))) e in
-    λ v b l.
-    let z = refused_as {o = result v} c.in_default.not-Typed (c.result_type-x.ensures v b l) in
-    refused_meets (raised v (refused z.0 z.1) z.2) z.3
+returns-in_default c v b l =
+    let z = refused_as c.in_default.not-Typed (c.result_type-x.ensures v b l) in
+    refused_meets (raised v (properties_of c.args.groups.now) c.args.place (said_influence c.args.by) z.2) z.3
 
 pub raise-requires : goal.raise-requires
 raise-requires c =
-    let S : Security = properties_of c.args.groups.now in
-    let Node : Type 0 = Branches c.args.types.now c.args.s.now c.args.w.now in
-    let result : Node → Answer Ty = λ v. result_type S (type_at c.args.types.now) c.args.place (number c.args.s.now 0) v.first v.second in
     let v = c.requires in
-    let z = typed_as {o = result v} c.in-Typed.is (c.result_type-x.ensures v 0 (omega (arith, v.room))) in
+    let z = typed_as c.in-Typed.is (c.result_type-x.ensures v 0 (omega (arith, v.room))) in
     record { type = z.type; held = z.wrote.sized.held }
 
 pub returns : goal.returns
-returns c =
-    let S : Security = properties_of c.args.groups.now in
-    let Node : Type 0 = Branches c.args.types.now c.args.s.now c.args.w.now in
-    let result : Node → Answer Ty = λ v. result_type S (type_at c.args.types.now) c.args.place (number c.args.s.now 0) v.first v.second in
-    let raised : (v : Node) (o : Answer Ty) → result v ≡ o → let by = said_influence c.args.by in case_type S (type_at c.args.types.now) c.args.place (number c.args.s.now 0) v.first v.second by ≡ bind o (λ r. accepted (raise_t S r by)) = λ v o e. let by = said_influence c.args.by in
-    case_raises S c.args.place (type_at c.args.types.now) (number c.args.s.now 0) v.first v.second by
-    ∙ ap (λ a. bind a (λ r. accepted (raise_t S r by))) e in
-    λ v b l.
+returns c v b l =
+    let y = typed_as c.in-Typed.is (c.result_type-x.ensures v b l) in
+    let S = properties_of c.args.groups.now in
     let by = said_influence c.args.by in
-    let y = typed_as {o = result v} c.in-Typed.is (c.result_type-x.ensures v b l) in
-    meets_of (raised v (accepted y.type) y.is)
+    meets_of (raised v S c.args.place by y.is)
     (finds
-    (raise_wrote S by y.wrote (c.raise.ensures.0 y.type y.wrote.sized.held) c.raise.ensures.1
-    (omega (arith, c.result_type-x.auto.w))))
+    (raise_wrote S by y.wrote (c.raise.ensures.0 y.type y.wrote.sized.held) c.raise.ensures.1 (omega (arith, c.result_type-x.auto.w))))
