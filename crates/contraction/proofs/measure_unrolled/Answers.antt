@@ -1,47 +1,29 @@
 use native.Mathlib.Omega.{arith}
-use Prim.Native.Nat.{◌+◌}
+use Prim.Native.Nat.{ℕ, ◌+◌}
 use mathlib.Core.List.{[]}
 use Rattle.calculus.specs.Types.{top}
 use Rattle.calculus.specs.Terms.{mu}
 use Rattle.calculus.specs.Reduction.{unrolled}
 use Rattle.calculus.specs.Erasure.{public}
+use Rattle.rules.specs.Answer.{Bytes}
 use Rattle.rules.specs.Groups.{properties_of}
 use Rattle.records.specs.Place.{At}
 use Rattle.records.proofs.Stands.{there, at_first}
 use Rattle.redex.specs.Fates.{contractum}
-use Rattle.substitution.specs.Substituted.{Extends}
 use Rattle.contraction.specs.Plans.{Recursive}
 use Rattle.contraction.proofs.Plans.{unrolled_size, body_size}
 use Rattle.contraction.proofs.measure_unrolled.Goals as goal
 
-pub extent_at-v-requires : goal.extent_at-v-requires
-extent_at-v-requires c = let q = c.requires in record { tree = mu q.label q.type q.body; at = q.stands; shallow = q.shallow; small = q.small }
+body_at : {s : Bytes} {at : ℕ} (q : Recursive s at) → At s (at + 1) q.body
+body_at q = at_first _ _ _ q.stands (omega arith)
 
 pub overflow_add-at : goal.overflow_add-at
-overflow_add-at c =
-    let R : Type 0 = Recursive c.args.script.now c.args.at in
-    let body_at : (q : R) → At c.args.script.now (c.args.at + 1) q.body = λ q. at_first _ _ _ q.stands (omega arith) in
-    omega (arith, there _ _ _ (body_at c.requires))
-
-pub overflow_add-v : goal.overflow_add-v
-overflow_add-v c =
-    let R : Type 0 = Recursive c.args.script.now c.args.at in
-    let whole : (q : R) → Extends c.args.at (mu q.label q.type q.body) c.extent_at-v.result = λ q. c.extent_at-v.ensures (mu q.label q.type q.body) q.stands in
-    let q = c.requires in omega (arith, (whole q).records, q.small)
-
-pub overflow_add-v-2 : goal.overflow_add-v-2
-overflow_add-v-2 c =
-    let R : Type 0 = Recursive c.args.script.now c.args.at in
-    let whole : (q : R) → Extends c.args.at (mu q.label q.type q.body) c.extent_at-v.result = λ q. c.extent_at-v.ensures (mu q.label q.type q.body) q.stands in
-    let q = c.requires in omega (arith, (whole q).deep, q.shallow)
+overflow_add-at c = omega (arith, there _ _ _ (body_at c.requires))
 
 pub measure-e-requires : goal.measure-e-requires
 measure-e-requires c =
-    let R : Type 0 = Recursive c.args.script.now c.args.at in
-    let body_at : (q : R) → At c.args.script.now (c.args.at + 1) q.body = λ q. at_first _ _ _ q.stands (omega arith) in
-    let whole : (q : R) → Extends c.args.at (mu q.label q.type q.body) c.extent_at-v.result = λ q. c.extent_at-v.ensures (mu q.label q.type q.body) q.stands in
     let q = c.requires in
-    let x = whole q in
+    let x = c.extent_at-v.ensures _ q.stands in
     let n = unrolled_size (properties_of []) q.label q.type public q.body in
     let b = body_size q.label q.type q.body in
     record {
@@ -58,10 +40,7 @@ measure-e-requires c =
 pub returns : goal.returns
 unfolding contractum
 returns c q S tab =
-    let R : Type 0 = Recursive c.args.script.now c.args.at in
-    let body_at : (q : R) → At c.args.script.now (c.args.at + 1) q.body = λ q. at_first _ _ _ q.stands (omega arith) in
-    let whole : (q : R) → Extends c.args.at (mu q.label q.type q.body) c.extent_at-v.result = λ q. c.extent_at-v.ensures (mu q.label q.type q.body) q.stands in
-    let x = whole q in
+    let x = c.extent_at-v.ensures (mu q.label q.type q.body) q.stands in
     let n = unrolled_size S q.label q.type (top (tab q.type)) q.body in
     let m = c.measure-e.ensures q.body (unrolled S q.label q.type (top (tab q.type)) q.body) (body_at q) (omega (arith, x.records, n.0))
     (omega (arith, x.deep, n.1)) in

@@ -3,6 +3,7 @@ use mathlib.Core.List.{[], ◌∷◌, ◌++◌}
 use Prim.Native.Nat.{ℕ, ◌+◌, ◌*◌, ◌-◌, ◌%◌, ◌/◌, ◌≤◌, ◌<◌}
 use native.Mathlib.Omega.{arith}
 use lib.ListN.{length, take, drop}
+use Rattle.calculus.specs.Security.{Property}
 use Rattle.calculus.specs.Types.{top}
 use Rattle.calculus.specs.Terms.{Term, mu}
 use Rattle.calculus.specs.Reduction.{unrolled}
@@ -10,22 +11,47 @@ use Rattle.rules.specs.Answer.{Bytes}
 use Rattle.rules.specs.Limits.{script_width}
 use Rattle.rules.specs.Groups.{properties_of}
 use Rattle.rules.specs.Types.{type_count, type_at}
-use Rattle.rules.specs.Script.{size, encode}
-use Rattle.lattice.specs.Said.{said_property}
+use Rattle.rules.specs.Script.{r, number, size, encode}
 use Rattle.records.specs.Kinds as kinds
 use Rattle.records.specs.Place.{At}
 use Rattle.records.proofs.Stands.{room, there, at_first}
+use Rattle.types.specs.Held.{type_property}
 use Rattle.redex.proofs.Places.{reader_at}
 use Rattle.redex.proofs.Answers.{function_inside}
 use Rattle.contraction.specs.Plans.{UnrolledRoom}
 use Rattle.contraction.proofs.Plans.{own_bytes, rolled_bytes, type_groups, recursion_number}
 use Rattle.contraction.proofs.write_unrolled.Goals as goal
 
-abbrev back : Bytes
-back = kinds.variable ∷ 0 ∷ 0 ∷ 0 ∷ 0 ∷ 0 ∷ 0 ∷ 0 ∷ []
+module _ {t s : Bytes} {at : ℕ} {w : Bytes} {start : ℕ} (q : UnrolledRoom t s at w start) where
+  inside : script_width * at + script_width * size (mu q.label q.type q.body) ≤ length s
+  inside = room _ _ _ q.stands
 
-pub end_of-end-requires : goal.end_of-end-requires
-end_of-end-requires c = let q = c.requires in record { tree = mu q.label q.type q.body; at = q.stands }
+  body_at : At s (at + 1) q.body
+  body_at = at_first _ _ _ q.stands (omega arith)
+
+  named : {n : ℕ} → n ≡ number s at → n ≡ q.type
+  named e = e ∙ recursion_number q.stands
+
+  in_table : q.type < type_count t
+  in_table = function_inside _ _ q.function
+
+  -- what is put in for the recursion's variable, and its bytes: two records, the recursion, a variable
+  abbrev value : Bytes → Term
+  value g = unrolled (properties_of g) q.label q.type (top (type_at t q.type)) q.body
+
+  pieces : (g : Bytes) {n i caller lo hi end : ℕ} {p : Property}
+      → n ≡ number s at → i ≡ n → caller ≡ r s at → p ≡ type_property t i → lo ≡ (n + 1) % 256 → hi ≡ (n + 1) / 256
+      → end ≡ at + size (mu q.label q.type q.body)
+      → (kinds.function ∷ p.r ∷ p.ir ∷ 0 ∷ lo ∷ hi ∷ p.c ∷ p.ic ∷ kinds.application ∷ caller ∷ 0 ∷ 0 ∷ 0 ∷ 0 ∷ 0 ∷ 0 ∷ [])
+      ++ (take (script_width * end - script_width * at) (drop (script_width * at) s) ++ (kinds.variable ∷ 0 ∷ 0 ∷ 0 ∷ 0 ∷ 0 ∷ 0 ∷ 0 ∷ []))
+      ≡ encode (value g)
+  pieces g {n} {i} {end = end} {p = p} e x c k l h z =
+      rolled_bytes g q.label q.type (top (type_at t q.type)) q.body _ p _ _ _
+      (c ∙ reader_at q.stands)
+      (k ∙ type_groups t q.type i q.function (x ∙ named e))
+      (l ∙ ap (λ m. (m + 1) % 256) (named e))
+      (h ∙ ap (λ m. (m + 1) / 256) (named e))
+      (own_bytes q.stands (script_width * end - script_width * at) (omega arith))
 
 pub number-named-requires : goal.number-named-requires
 number-named-requires c = there _ _ _ c.requires.stands
@@ -35,101 +61,38 @@ reader-caller-requires c = there _ _ _ c.requires.stands
 
 pub property_at-function-requires : goal.property_at-function-requires
 property_at-function-requires c =
-    let Q : Type 0 = UnrolledRoom c.args.types.now c.args.script.now c.args.at c.args.written.now c.args.start in
-    let named : (q : Q) → c.number-named.result ≡ q.type = λ q. c.number-named.ensures ∙ recursion_number q.stands in
-    let in_table : (q : Q) → q.type < type_count c.args.types.now = λ q. function_inside _ _ q.function in
-    omega (arith, c.index.ensures.0, named c.requires, in_table c.requires)
+    omega (arith, c.index.ensures.0, named c.requires c.number-named.ensures, in_table c.requires)
 
 pub overflow_add-parameter : goal.overflow_add-parameter
-overflow_add-parameter c =
-    let Q : Type 0 = UnrolledRoom c.args.types.now c.args.script.now c.args.at c.args.written.now c.args.start in
-    let named : (q : Q) → c.number-named.result ≡ q.type = λ q. c.number-named.ensures ∙ recursion_number q.stands in
-    let in_table : (q : Q) → q.type < type_count c.args.types.now = λ q. function_inside _ _ q.function in
-    omega (arith, named c.requires, in_table c.requires, c.requires.table)
+overflow_add-parameter c = omega (arith, named c.requires c.number-named.ensures, in_table c.requires, c.requires.table)
 
 pub overflow_mul-from : goal.overflow_mul-from
-overflow_mul-from c =
-    let inside : script_width * c.args.at + script_width * size (mu c.requires.label c.requires.type c.requires.body) ≤ length c.args.script.now = room _ _ _ c.requires.stands in
-    omega (arith, inside)
+overflow_mul-from c = omega (arith, inside c.requires)
 
 pub overflow_mul-to : goal.overflow_mul-to
-overflow_mul-to c =
-    let Q : Type 0 = UnrolledRoom c.args.types.now c.args.script.now c.args.at c.args.written.now c.args.start in
-    let end : (q : Q) → c.end_of-end.result ≡ c.args.at + size (mu q.label q.type q.body) = λ q. c.end_of-end.ensures (mu q.label q.type q.body) q.stands in
-    let inside : script_width * c.args.at + script_width * size (mu c.requires.label c.requires.type c.requires.body) ≤ length c.args.script.now = room _ _ _ c.requires.stands in
-    omega (arith, end c.requires, inside)
+overflow_mul-to c = omega (arith, c.end_of-end.ensures _ c.requires.stands, inside c.requires)
 
 pub overflow_add-at : goal.overflow_add-at
-overflow_add-at c =
-    let Q : Type 0 = UnrolledRoom c.args.types.now c.args.script.now c.args.at c.args.written.now c.args.start in
-    let body_at : (q : Q) → At c.args.script.now (c.args.at + 1) q.body = λ q. at_first _ _ _ q.stands (omega arith) in
-    omega (arith, there _ _ _ (body_at c.requires))
-
-pub slice_bounds-write-count : goal.slice_bounds-write-count
-slice_bounds-write-count c =
-    let Q : Type 0 = UnrolledRoom c.args.types.now c.args.script.now c.args.at c.args.written.now c.args.start in
-    let end : (q : Q) → c.end_of-end.result ≡ c.args.at + size (mu q.label q.type q.body) = λ q. c.end_of-end.ensures (mu q.label q.type q.body) q.stands in
-    omega (arith, end c.requires)
-
-pub slice_bounds-write-start : goal.slice_bounds-write-start
-slice_bounds-write-start c =
-    let Q : Type 0 = UnrolledRoom c.args.types.now c.args.script.now c.args.at c.args.written.now c.args.start in
-    let end : (q : Q) → c.end_of-end.result ≡ c.args.at + size (mu q.label q.type q.body) = λ q. c.end_of-end.ensures (mu q.label q.type q.body) q.stands in
-    omega (arith, end c.requires)
+overflow_add-at c = omega (arith, there _ _ _ (body_at c.requires))
 
 pub slice_bounds-write-end-2 : goal.slice_bounds-write-end-2
-slice_bounds-write-end-2 c =
-    let Q : Type 0 = UnrolledRoom c.args.types.now c.args.script.now c.args.at c.args.written.now c.args.start in
-    let end : (q : Q) → c.end_of-end.result ≡ c.args.at + size (mu q.label q.type q.body) = λ q. c.end_of-end.ensures (mu q.label q.type q.body) q.stands in
-    let inside : script_width * c.args.at + script_width * size (mu c.requires.label c.requires.type c.requires.body) ≤ length c.args.script.now = room _ _ _ c.requires.stands in
-    omega (arith, end c.requires, inside)
+slice_bounds-write-end-2 c = omega (arith, c.end_of-end.ensures _ c.requires.stands, inside c.requires)
 
 pub write-requires : goal.write-requires
 write-requires c =
-    let Q : Type 0 = UnrolledRoom c.args.types.now c.args.script.now c.args.at c.args.written.now c.args.start in
-    let end : (q : Q) → c.end_of-end.result ≡ c.args.at + size (mu q.label q.type q.body) = λ q. c.end_of-end.ensures (mu q.label q.type q.body) q.stands in
-    let body_at : (q : Q) → At c.args.script.now (c.args.at + 1) q.body = λ q. at_first _ _ _ q.stands (omega arith) in
-    let named : (q : Q) → c.number-named.result ≡ q.type = λ q. c.number-named.ensures ∙ recursion_number q.stands in
-    let value : Q → Bytes → Term = λ q g. unrolled (properties_of g) q.label q.type (top (type_at c.args.types.now q.type)) q.body in
-    let front : Bytes = let k = said_property c.property_at-function.result in
-    let caller = c.reader-caller.result.0 in
-    kinds.function ∷ k.r ∷ k.ir ∷ 0 ∷ c.low.result ∷ c.high.result ∷ k.c ∷ k.ic ∷ kinds.application ∷ caller ∷ 0 ∷ 0 ∷ 0 ∷ 0 ∷ 0 ∷ 0 ∷ [] in
-    let length_of : ℕ = script_width * c.end_of-end.result - script_width * c.args.at in
-    let own : Bytes = take length_of (drop (script_width * c.args.at) c.args.script.now) in
-    let pieces : (q : Q) (g : Bytes) → front ++ (own ++ back) ≡ encode (value q g) = λ q g. let n = named q in
-    rolled_bytes g q.label q.type (top (type_at c.args.types.now q.type)) q.body _ (said_property c.property_at-function.result) _ _ _
-    (c.reader-caller.ensures ∙ reader_at q.stands)
-    (c.property_at-function.ensures ∙ type_groups c.args.types.now q.type _ q.function (c.index.ensures.0 ∙ n))
-    (c.low.ensures ∙ ap (λ m. (m + 1) % 256) n)
-    (c.high.ensures ∙ ap (λ m. (m + 1) / 256) n)
-    (own_bytes q.stands length_of (omega (arith, end q))) in
     let q = c.requires in
     record {
       tree = q.body;
       at = body_at q;
       value = value q q.groups;
-      pieces = pieces q q.groups;
+      pieces = pieces q q.groups c.number-named.ensures c.index.ensures.0 c.reader-caller.ensures c.property_at-function.ensures c.low.ensures c.high.ensures
+          (c.end_of-end.ensures _ q.stands);
       shallow = omega (arith, q.shallow);
       fits = q.fits;
     }
 
 pub returns : goal.returns
 returns c q g =
-    let Q : Type 0 = UnrolledRoom c.args.types.now c.args.script.now c.args.at c.args.written.now c.args.start in
-    let end : (q : Q) → c.end_of-end.result ≡ c.args.at + size (mu q.label q.type q.body) = λ q. c.end_of-end.ensures (mu q.label q.type q.body) q.stands in
-    let body_at : (q : Q) → At c.args.script.now (c.args.at + 1) q.body = λ q. at_first _ _ _ q.stands (omega arith) in
-    let named : (q : Q) → c.number-named.result ≡ q.type = λ q. c.number-named.ensures ∙ recursion_number q.stands in
-    let value : Q → Bytes → Term = λ q g. unrolled (properties_of g) q.label q.type (top (type_at c.args.types.now q.type)) q.body in
-    let front : Bytes = let k = said_property c.property_at-function.result in
-    let caller = c.reader-caller.result.0 in
-    kinds.function ∷ k.r ∷ k.ir ∷ 0 ∷ c.low.result ∷ c.high.result ∷ k.c ∷ k.ic ∷ kinds.application ∷ caller ∷ 0 ∷ 0 ∷ 0 ∷ 0 ∷ 0 ∷ 0 ∷ [] in
-    let length_of : ℕ = script_width * c.end_of-end.result - script_width * c.args.at in
-    let own : Bytes = take length_of (drop (script_width * c.args.at) c.args.script.now) in
-    let pieces : (q : Q) (g : Bytes) → front ++ (own ++ back) ≡ encode (value q g) = λ q g. let n = named q in
-    rolled_bytes g q.label q.type (top (type_at c.args.types.now q.type)) q.body _ (said_property c.property_at-function.result) _ _ _
-    (c.reader-caller.ensures ∙ reader_at q.stands)
-    (c.property_at-function.ensures ∙ type_groups c.args.types.now q.type _ q.function (c.index.ensures.0 ∙ n))
-    (c.low.ensures ∙ ap (λ m. (m + 1) % 256) n)
-    (c.high.ensures ∙ ap (λ m. (m + 1) / 256) n)
-    (own_bytes q.stands length_of (omega (arith, end q))) in
-    (c.write.ensures q.body (value q g) (body_at q) (pieces q g)).wrote
+    let bytes = pieces q g c.number-named.ensures c.index.ensures.0 c.reader-caller.ensures c.property_at-function.ensures c.low.ensures c.high.ensures
+    (c.end_of-end.ensures _ q.stands) in
+    (c.write.ensures q.body (value q g) (body_at q) bytes).wrote
