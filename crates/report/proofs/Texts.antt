@@ -1,5 +1,6 @@
 -- The report's texts from what the calls answer, and how long they can be.
 use mathlib.Core.Path.{◌≡◌, refl, sym, ap, ◌∙◌}
+use mathlib.Core.Path.{subst as transport}
 use mathlib.Core.Bool.{Bool, true, false, false≢true}
 use mathlib.Core.List.{[], ◌∷◌, ◌++◌}
 use mathlib.Core.Option.{Option, none, some}
@@ -160,6 +161,10 @@ script_refused w g t s q p = go (verdict g t s)
     go : (a : Answer Ty) → refused q p ≡ type_records a → checked_text w g t s a ≡ refusal_line q p
     go (accepted type) h = absurd (either (sym h))
     go (refused q' p') h = cc
+
+-- what is written for one text is written for the same one in other words
+pub written_as : {at end : ℕ} {b b' w w' : Bytes} → b ≡ b' → Written at b w end w' → Written at b' w end w'
+written_as {at} {end} {b} {b'} {w} {w'} e h = transport (λ (x : Bytes). Written at x w end w') e h
 
 -- the words first: none supplied, accepted, refused
 pub ours_report : (w v g t s : Bytes) (supplied : Bool) → supplied ≡ false → v ≡ our_words → script_text v g t s ≡ report (file supplied w) g t s
