@@ -39,10 +39,8 @@ property-requires c = omega (arith, long c.requires.tree c.requires.is)
 
 pub returns-then-kind-eq-PAIR : goal.returns-then-kind-eq-PAIR
 unfolding after_two
-returns-then-kind-eq-PAIR c =
-    let P : Bytes = c.args.s.now in
-    λ v b l.
-    let s = P in
+returns-then-kind-eq-PAIR c v b l =
+    let s = c.args.s.now in
     let e = of_fields s v.tree kind_pair {n = number s 0} v.is (sym c.kind.ensures ∙ c.if-kind-eq-PAIR.true) c.property.ensures refl in
     meets_of (rule v e) (c.pair.ensures v.first v.second b v.sized v.other l)
 
@@ -51,18 +49,13 @@ reader-requires c = omega (arith, long c.requires.tree c.requires.is)
 
 pub apply-requires : goal.apply-requires
 apply-requires c =
-    let P : Bytes = c.args.s.now in
-    let no_pair : kind P 0 ≡ 3 → ⊥ = λ z. c.if-kind-eq-PAIR.false (c.kind.ensures ∙ z) in
     let v = c.requires in (
-      record { type = v.first; held = v.sized.held; two = sided v no_pair },
+      record { type = v.first; held = v.sized.held; two = sided v (λ z. c.if-kind-eq-PAIR.false (c.kind.ensures ∙ z)) },
       (record { type = v.second; held = v.other.held }, v.room),
     )
 
 pub returns : goal.returns
 unfolding after_two
-returns c =
-    let P : Bytes = c.args.s.now in
-    let no_pair : kind P 0 ≡ 3 → ⊥ = λ z. c.if-kind-eq-PAIR.false (c.kind.ensures ∙ z) in
-    λ v b l.
-    let e = is_app v c.reader.result.0 c.reader.ensures no_pair in
+returns c v b l =
+    let e = is_app v c.reader.result.0 c.reader.ensures (λ z. c.if-kind-eq-PAIR.false (c.kind.ensures ∙ z)) in
     meets_of (rule v e) (c.apply.ensures v.first v.second b (slot_of v.sized) v.other.held l)

@@ -7,7 +7,7 @@ use Rattle.calculus.specs.Types.{one, size_t}
 use Rattle.calculus.specs.Terms.{Term, var, unit}
 use Rattle.rules.specs.Answer.{Bytes}
 use Rattle.rules.specs.Types.{type_record, encode_type}
-use Rattle.rules.specs.Script.{number}
+use Rattle.rules.specs.Script.{kind, number}
 use Rattle.lattice.specs.Said.{said_property}
 use Rattle.records.specs.Labels.{property_at}
 use Rattle.inference.specs.Operands.{Formed}
@@ -30,6 +30,13 @@ unit_size : (k : Property) → 1 ≡ size_t (one k)
 unfolding size_t
 unit_size k = refl
 
+module _ {s : Bytes} {b : ℕ} {w : Bytes} (v : Leaf s b w) {k : ℕ} (f : k ≡ kind s 0) where
+  is_var : {i : ℕ} → k ≡ kind_variable → i ≡ number s 0 → v.tree ≡ var i
+  is_var q g = of_fields s v.tree kind_variable {p = property_at s 0} v.is (sym f ∙ q) refl g
+
+  is_unit : {p : Property} → (k ≡ kind_variable → ⊥) → p ≡ property_at s 0 → v.tree ≡ unit p
+  is_unit n e = of_fields s v.tree kind_unit {n = number s 0} v.is (unit_kind v.tree v.is v.leaf (λ z. n (f ∙ z))) e refl
+
 pub kind-requires : goal.kind-requires
 kind-requires c = omega (arith, long c.requires.tree c.requires.is)
 
@@ -38,41 +45,28 @@ index-requires c = long c.requires.tree c.requires.is
 
 pub variable-requires : goal.variable-requires
 variable-requires c =
-    let P : Bytes = c.args.s.now in
-    let Node : Type 0 = Leaf P c.args.b c.args.w.now in
-    let is_var : (v : Node) → v.tree ≡ var c.index.result = λ v. let p = P in
-    of_fields p v.tree kind_variable {p = property_at p 0} v.is (sym c.kind.ensures ∙ c.if-kind-eq-VARIABLE.true) refl c.index.ensures in
     let v = c.requires in
+    let e = is_var v c.kind.ensures c.if-kind-eq-VARIABLE.true c.index.ensures in
     record {
       ctx = v.ctx;
       binders = v.binders;
       holds = v.holds;
-      below = in_scope v.types c.args.b c.index.result v.tree (is_var v) v.formed;
+      below = in_scope v.types c.args.b c.index.result v.tree e v.formed;
       room = v.room;
     }
 
 pub returns-then-kind-eq-VARIABLE : goal.returns-then-kind-eq-VARIABLE
 unfolding leaf_type
-returns-then-kind-eq-VARIABLE c =
-    let P : Bytes = c.args.s.now in
-    let Node : Type 0 = Leaf P c.args.b c.args.w.now in
-    let is_var : (v : Node) → v.tree ≡ var c.index.result = λ v. let p = P in
-    of_fields p v.tree kind_variable {p = property_at p 0} v.is (sym c.kind.ensures ∙ c.if-kind-eq-VARIABLE.true) refl c.index.ensures in
-    λ v.
-    meets_of (ap (leaf_type v.ctx) (is_var v)) (c.variable.ensures v.ctx v.binders v.holds)
+returns-then-kind-eq-VARIABLE c v =
+    let e = is_var v c.kind.ensures c.if-kind-eq-VARIABLE.true c.index.ensures in
+    meets_of (ap (leaf_type v.ctx) e) (c.variable.ensures v.ctx v.binders v.holds)
 
 pub property-requires : goal.property-requires
 property-requires c = omega (arith, long c.requires.tree c.requires.is)
 
 pub returns : goal.returns
 unfolding leaf_type
-returns c =
-    let P : Bytes = c.args.s.now in
-    let Node : Type 0 = Leaf P c.args.b c.args.w.now in
-    let K : Property = said_property c.property.result in
-    let is_unit : (v : Node) → v.tree ≡ unit K = λ v. let p = P in
-    let q = unit_kind v.tree v.is v.leaf (λ z. c.if-kind-eq-VARIABLE.false (c.kind.ensures ∙ z)) in
-    of_fields p v.tree kind_unit {n = number p 0} v.is q c.property.ensures refl in
-    λ v.
-    meets_of (ap (leaf_type v.ctx) (is_unit v))
-    (finds (wrote_first (unit_size K) (omega (arith, unit_size K)) (sym (unit_bytes K)) v.room c.put.ensures))
+returns c v =
+    let k = said_property c.property.result in
+    meets_of (ap (leaf_type v.ctx) (is_unit v c.kind.ensures c.if-kind-eq-VARIABLE.false c.property.ensures))
+    (finds (wrote_first (unit_size k) (omega (arith, unit_size k)) (sym (unit_bytes k)) v.room c.put.ensures))

@@ -1,9 +1,8 @@
 -- Both types are there where the case finds its own, and else the second is in front.
 use mathlib.Core.Path.{◌≡◌, sym, ◌∙◌, subst}
 use mathlib.Core.Bool.{Bool, true, false, cond}
-use Prim.Native.Nat.{ℕ, ◌<◌}
+use Prim.Native.Nat.{◌<◌}
 use lib.ListN.{drop}
-use Rattle.calculus.specs.Security.{Security}
 use Rattle.calculus.specs.Typing.{finds_own}
 use Rattle.rules.specs.Answer.{Bytes}
 use Rattle.rules.specs.Limits.{answer_length}
@@ -17,8 +16,8 @@ use Rattle.inference.proofs.Names.{named, owns}
 use Rattle.inference.proofs.Rules.{result_own, meets_of}
 use Rattle.inference.proofs.result_type.Goals as goal
 
--- where the second branch's type stands
 module _ {types s w : Bytes} (v : Branches types s w) where
+  -- where the second branch's type stands
   abbrev both : own_at s 0 ≡ true → Both w
   both e =
       record {
@@ -31,27 +30,23 @@ module _ {types s w : Bytes} (v : Branches types s w) where
   front : own_at s 0 ≡ false → Held w v.second
   front e = subst (λ b. Held (drop (cond b answer_length 0) w) v.second) e v.other
 
+  -- whether the case finds its own type
+  own_is : {x b : Bool} → x ≡ own_at s 0 → x ≡ b → finds_own (number s 0) ≡ b
+  own_is f e = sym (owns v.node) ∙ sym f ∙ e
+
 pub returns-then-finds_own : goal.returns-then-finds_own
-returns-then-finds_own c =
-    let S : Security = properties_of c.args.groups.now in
-    let T : Bytes = c.args.types.now in
-    let P : Bytes = c.args.s.now in
-    let N : ℕ = number P 0 in
-    let looked : (b : Bool) → c.finds_own.result ≡ b → own_at P 0 ≡ b = λ b e. sym c.finds_own.ensures ∙ e in
-    let own_is : (b : Bool) → c.finds_own.result ≡ b → finds_own N ≡ b = λ b e. sym (owns c.requires.node) ∙ looked b e in
-    λ v b l.
-    meets_of (result_own S c.args.place (type_at T) N v.first v.second (own_is _ c.if-finds_own.true))
-    (c.common_type.ensures (both v (looked _ c.if-finds_own.true)) b l)
+returns-then-finds_own c v b l =
+    let f = c.finds_own.ensures in
+    let q = c.if-finds_own.true in
+    meets_of
+    (result_own (properties_of c.args.groups.now) c.args.place (type_at c.args.types.now) (number c.args.s.now 0) v.first v.second (own_is v f q))
+    (c.common_type.ensures (both v (sym f ∙ q)) b l)
 
 pub adopt-requires : goal.adopt-requires
 adopt-requires c =
-    let T : Bytes = c.args.types.now in
-    let P : Bytes = c.args.s.now in
-    let N : ℕ = number P 0 in
-    let looked : (b : Bool) → c.finds_own.result ≡ b → own_at P 0 ≡ b = λ b e. sym c.finds_own.ensures ∙ e in
-    let own_is : (b : Bool) → c.finds_own.result ≡ b → finds_own N ≡ b = λ b e. sym (owns c.requires.node) ∙ looked b e in
-    let names : c.index.result < type_count T = subst (λ i. i < type_count T) (sym c.index.ensures) (c.requires.node.named (own_is _ c.if-finds_own.false)) in
-    let v = c.requires in (
-      named v.node.table names,
-      (record { type = v.second; held = front v (looked _ c.if-finds_own.false) }, v.room),
+    let v = c.requires in
+    let f = c.finds_own.ensures in
+    let q = c.if-finds_own.false in (
+      named v.node.table (subst (λ i. i < type_count c.args.types.now) (sym c.index.ensures) (v.node.named (own_is v f q))),
+      (record { type = v.second; held = front v (sym f ∙ q) }, v.room),
     )
