@@ -25,7 +25,7 @@ extern "C" {
    records, as deep as they can be, were seen to take 4,224 bytes; the number is this and at least a sixteenth more.
    wigneld_write_callers goes over its script once and needs next to none. The other two hold a whole table, or a table and a script,
    in the new form while they ask, and were seen to take 24,896 and 110,832 bytes. */
-#define WIGNELD_COMPARE_STACK_BYTES 5120
+#define WIGNELD_COMPARE_STACK_BYTES 5632
 #define WIGNELD_WRITE_CALLERS_STACK_BYTES 512
 #define WIGNELD_REWRITE_TYPES_STACK_BYTES 28672
 #define WIGNELD_REWRITE_SCRIPT_STACK_BYTES 118784

@@ -50,7 +50,8 @@ fn constants() -> BTreeMap<String, usize> {
     constants_of("wigneld")
 }
 
-/// The constants of the engine's crates: crate, name, value as written.
+/// The constants of the engine's crates, and their enums' variants with no fields, as `Kind::Pair`, by the numbers that `as` gives them:
+/// crate, name, value as written.
 fn engine_constants() -> Vec<(String, String, String)> {
     let mut found = Vec::new();
     for folder in fs::read_dir(root().join("crates")).expect("crates") {
@@ -68,6 +69,36 @@ fn engine_constants() -> Vec<(String, String, String)> {
                 let constant = constant.split(':').next().expect("a first part").to_owned();
                 found.push((name.clone(), constant, value.trim_end_matches(';').to_owned()));
             }
+            for (variant, number) in variants(&text) {
+                found.push((name.clone(), variant, number.to_string()));
+            }
+        }
+    }
+    found
+}
+
+/// The variants of the enums in a source whose variants have no fields, with their numbers: one more than the one before, if none is written.
+fn variants(text: &str) -> Vec<(String, usize)> {
+    let mut found = Vec::new();
+    let mut lines = text.lines();
+    while let Some(line) = lines.next() {
+        let line = line.strip_prefix("pub ").unwrap_or(line);
+        let Some(of) = line.strip_prefix("enum ").and_then(|rest| rest.strip_suffix(" {")) else {
+            continue;
+        };
+        let body = lines.by_ref().take_while(|&line| line != "}").map(str::trim);
+        let body: Vec<&str> = body.filter(|line| !line.starts_with("//")).collect();
+        if body.iter().any(|line| line.contains(['(', '{'])) {
+            continue;
+        }
+        let mut next = 0;
+        for line in body {
+            let (name, number) = match line.trim_end_matches(',').split_once(" = ") {
+                Some((name, number)) => (name, number.parse().expect("a number")),
+                None => (line.trim_end_matches(','), next),
+            };
+            found.push((format!("{of}::{name}"), number));
+            next = number + 1;
         }
     }
     found
@@ -115,7 +146,7 @@ const LIMITS: [(&str, usize, &str); 19] = [
     ("STEPS_BYTES", u64::BITS as usize / 8, "packing::STEPS_WIDTH"),
     ("GROUPS_LONGEST_BYTES", MOST_GROUPS * ROW_BYTES, ""),
     ("TYPES_LONGEST_BYTES", MOST_TABLE_RECORDS * TYPE_BYTES, ""),
-    ("LAST_QUESTION", LAST_QUESTION, ""),
+    ("LAST_QUESTION", LAST_QUESTION, "answer::Question::Creators"),
     ("OWN_TYPE", OWN_TYPE as usize, "records::OWN_TYPE"),
 ];
 
@@ -123,38 +154,38 @@ const LIMITS: [(&str, usize, &str); 19] = [
 const TYPES: (&str, &[(&str, &str)]) = (
     "TYPE_",
     &[
-        ("UNIT", "types::UNIT"),
-        ("SUM", "types::SUM"),
-        ("PAIR", "types::PAIR"),
-        ("FUNCTION", "types::FUNCTION"),
+        ("UNIT", "types::Kind::Unit"),
+        ("SUM", "types::Kind::Sum"),
+        ("PAIR", "types::Kind::Pair"),
+        ("FUNCTION", "types::Kind::Function"),
     ],
 );
 const KINDS: (&str, &[(&str, &str)]) = (
     "KIND_",
     &[
-        ("VARIABLE", "records::VARIABLE"),
-        ("UNIT", "records::UNIT"),
-        ("FUNCTION", "records::FUNCTION"),
-        ("PAIR", "records::PAIR"),
-        ("FIRST_INJECTION", "records::FIRST_INJECTION"),
-        ("SECOND_INJECTION", "records::SECOND_INJECTION"),
-        ("APPLICATION", "records::APPLICATION"),
-        ("FIRST_PROJECTION", "records::FIRST_PROJECTION"),
-        ("SECOND_PROJECTION", "records::SECOND_PROJECTION"),
-        ("CASE", "records::CASE"),
-        ("PROTECT", "records::PROTECT"),
-        ("RECURSION", "records::RECURSION"),
+        ("VARIABLE", "records::Kind::Variable"),
+        ("UNIT", "records::Kind::Unit"),
+        ("FUNCTION", "records::Kind::Function"),
+        ("PAIR", "records::Kind::Pair"),
+        ("FIRST_INJECTION", "records::Kind::FirstInjection"),
+        ("SECOND_INJECTION", "records::Kind::SecondInjection"),
+        ("APPLICATION", "records::Kind::Application"),
+        ("FIRST_PROJECTION", "records::Kind::FirstProjection"),
+        ("SECOND_PROJECTION", "records::Kind::SecondProjection"),
+        ("CASE", "records::Kind::Case"),
+        ("PROTECT", "records::Kind::Protect"),
+        ("RECURSION", "records::Kind::Recursion"),
     ],
 );
 const SHEETS: (&str, &[(&str, &str)]) = (
     "SHEET_",
     &[
-        ("UNIT", "sheet::SHOWN_UNIT"),
-        ("FIRST", "sheet::SHOWN_FIRST"),
-        ("SECOND", "sheet::SHOWN_SECOND"),
-        ("PAIR", "sheet::SHOWN_PAIR"),
-        ("FUNCTION", "sheet::SHOWN_FUNCTION"),
-        ("CLOSED", "sheet::CLOSED"),
+        ("UNIT", "sheet::Shown::Unit"),
+        ("FIRST", "sheet::Shown::First"),
+        ("SECOND", "sheet::Shown::Second"),
+        ("PAIR", "sheet::Shown::Pair"),
+        ("FUNCTION", "sheet::Shown::Function"),
+        ("CLOSED", "sheet::Shown::Closed"),
     ],
 );
 

@@ -1,2 +1,3 @@
+pub mod Found
 pub mod Passed
 pub mod Implications

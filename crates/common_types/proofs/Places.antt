@@ -1,21 +1,17 @@
 -- A type that stands at a record of a buffer: its kind and its property, its first record written over, and where its sides stand.
-use mathlib.Core.Path.{◌≡◌, refl, ap, ap₂, sym, ◌∙◌}
-use mathlib.Core.List.{[], ◌∷◌, ◌++◌}
-use Prim.Native.Nat.{ℕ, zero, suc, ◌+◌, ◌*◌, ◌≤◌, ◌<◌}
-use native.Mathlib.Omega.{arith}
-use lib.ListN.{length, take, drop, set, length-drop}
-use lib.Seq.{get_or-drop, drop-drop}
+use Rattle.std.proofs.Common.{◌≡◌, ℕ, zero, suc, ◌+◌, ◌*◌, ◌≤◌, ◌<◌, [], ◌∷◌, ◌++◌, length, take, drop, set}
+use Rattle.std.proofs.Common.{refl, ap, ap₂, sym, ◌∙◌, arith, length-drop, get_or-drop, drop-drop}
 use Rattle.calculus.specs.Security.{Property, Security}
 use Rattle.calculus.specs.Subtyping.{Direction}
 use Rattle.calculus.specs.Common.{bound}
 use Rattle.calculus.specs.Types.{Ty, one, node, top, size_t}
 use Rattle.rules.specs.Answer.{Bytes, byte}
 use Rattle.rules.specs.Limits.{type_width}
-use Rattle.rules.specs.Types.{type_count, type_kind, former_kind, type_record, encode_type}
+use Rattle.rules.specs.Types.{type_count, former_kind, type_record, encode_type}
 use Rattle.memory.specs.Splice.{splice}
 use Rattle.types.specs.Held.{Held, kind_of, left_of, right_of, type_property, with_property}
 use Rattle.common_types.specs.Walks.{At, TwoTypes, common_record}
-use Rattle.types.proofs.Parts.{held_length, type_positive, kind_is, property_is, left_held, right_held}
+use Rattle.types.proofs.Parts.{held_length, type_positive, property_is, left_held, right_held}
 
 -- four stores past the front
 shifted : (n : ℕ) (w : Bytes) (k : Property) → n ≤ length w
@@ -44,11 +40,6 @@ module _ {w : Bytes} {i : ℕ} {t : Ty} (h : At w i t) where
   pub in_range : i < type_count w
   in_range = omega (arith, room, type_positive t)
 
-  pub kind_here : type_kind w i ≡ kind_of t
-  kind_here =
-      let z : type_width * i + 0 ≡ type_width * i = omega arith in
-      ap (byte w) (sym z) ∙ sym (get_or-drop (type_width * i) w 0 0) ∙ kind_is t h.held
-
   pub property_here : type_property w i ≡ top t
   property_here =
       let there : (j : ℕ) → byte w (type_width * i + j) ≡ byte (drop (type_width * i) w) j = λ j. sym (get_or-drop (type_width * i) w j 0) in
@@ -75,9 +66,6 @@ module _ {w : Bytes} {i : ℕ} {t : Ty} (h : At w i t) where
     right_at n c =
         let e : type_width * (i + 1 + n) ≡ type_width * i + (type_width + type_width * n) = omega arith in
         record { held = rw (e, ← drop-drop (type_width + type_width * n) (type_width * i) w) (right_held t n two c h.held) }
-
-pub both_there : {w : Bytes} {at other : ℕ} → TwoTypes w at other → (at < type_count w) × (other < type_count w)
-both_there p = (in_range p.first_at, in_range p.second_at)
 
 -- two types' first records: the common one, stored over the first
 pub record_wrote : (S : Security) (d : Direction) {w : Bytes} {at other : ℕ} (p : TwoTypes w at other) {k l m : Property}

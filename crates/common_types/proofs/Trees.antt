@@ -1,10 +1,6 @@
 -- The common type as a walk finds it: the kinds, the first records, the left sides, the right sides. Once for both directions.
-use mathlib.Core.Path.{◌≡◌, refl, ap, sym, ◌∙◌}
-use mathlib.Core.Bool.{Bool, true, false}
-use mathlib.Core.List.{◌++◌}
-use mathlib.Core.Option.{Option, none, some, some-injective, none-ne-some}
-use Prim.Native.Nat.{◌+◌}
-use native.Mathlib.Omega.{arith}
+use Rattle.std.proofs.Common.{◌≡◌, ◌+◌, Bool, true, false, ◌++◌, refl, ap, sym, ◌∙◌, arith}
+use Rattle.std.proofs.Math.Option.{Option, none, some, some-injective, none-ne-some}
 use Rattle.calculus.specs.Security.{Property, Security}
 use Rattle.calculus.specs.Types.{Former, sum, product, function, Ty, one, node, top, size_t, same, when, ◌>>=◌}
 use Rattle.calculus.specs.Subtyping.{Direction, leftward}

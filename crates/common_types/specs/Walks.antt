@@ -1,6 +1,6 @@
 -- Two types in one buffer, and what a walk over both answers and leaves there.
-use Rattle.std.specs.Prelude.{◌≡◌, ℕ, ◌+◌, ◌*◌, ◌≤◌, length, drop}
-use Rattle.std.proofs.Math.Option.{Option, none, some}
+use Rattle.std.specs.Prelude.{◌≡◌, ℕ, ◌+◌, ◌*◌, ◌≤◌, Option, Some, None, length, drop}
+use Rattle.std.proofs.Math.Option as math
 use Rattle.calculus.specs.Security.{Security}
 use Rattle.calculus.specs.Types.{Ty, top, size_t}
 use Rattle.calculus.specs.Subtyping.{Direction}
@@ -10,8 +10,6 @@ use Rattle.rules.specs.Limits.{type_width}
 use Rattle.rules.specs.Types.{type_record, encode_type}
 use Rattle.memory.specs.Splice.{splice}
 use Rattle.types.specs.Held.{Held, kind_of}
-use Rattle.common_types.specs.declared.Common.{Common}
-use Rattle.common_types.specs.declared.Common.TheVariants.{Found, Apart}
 
 -- the records of t stand in w from record i on
 pub record At (w : Bytes) (i : ℕ) (t : Ty) : Type 0 where
@@ -30,15 +28,15 @@ abbrev pub common_record : {w : Bytes} {at other : ℕ} → Security → Directi
 common_record S d p = type_record (kind_of p.first) (bound S d (top p.first) (top p.second))
 
 -- what a walk answers: the record count of the common type, if there is one
-abbrev pub answered : Option Ty → Common
-answered none = Apart
-answered (some u) = Found (size_t u)
+abbrev pub answered : math.Option Ty → Option ℕ
+answered math.none = None
+answered (math.some u) = Some (size_t u)
 
 -- The answer, and the buffer before and after: of the records of the first type some may be written over, and nothing else; where
 -- there is a common type, it is what is written.
-pub record Walked (o : Option Ty) (s : Ty) (at : ℕ) (w : Bytes) (x : Common) (w' : Bytes) : Type 0 where
+pub record Walked (o : math.Option Ty) (s : Ty) (at : ℕ) (w : Bytes) (x : Option ℕ) (w' : Bytes) : Type 0 where
   pub says : x ≡ answered o
   pub piece : Bytes
   pub within : length piece ≤ type_width * size_t s
   pub wrote : w' ≡ splice (type_width * at) piece w
-  pub is : (u : Ty) → o ≡ some u → piece ≡ encode_type u
+  pub is : (u : Ty) → o ≡ math.some u → piece ≡ encode_type u

@@ -1,109 +1,100 @@
-// The least type at or above two types, and the greatest at or below both: two walks, which call each other at functions. Both
-// types stand in one lent buffer, and the common one is written over the first.
+// The least type at or above two types, and the greatest at or below both: one walk with a direction, which turns round at functions.
+// Both types stand in one lent buffer, and the common one is written over the first.
 
 #![tactic(auto)]
 
-ghost use Rattle.std.specs.Prelude.{◌≡◌, ◌*◌};
-ghost use Rattle.calculus.specs.Subtyping.{below, above};
+ghost use Rattle.std.specs.Prelude.{◌≡◌, ◌*◌, eqb};
+ghost use Rattle.calculus.specs.Types.{Ty};
+ghost use Rattle.calculus.specs.Subtyping.{opposite};
 ghost use Rattle.calculus.specs.Common.{common};
 ghost use Rattle.rules.specs.Limits.{type_width};
 ghost use Rattle.rules.specs.Groups.{properties_of};
 ghost use Rattle.memory.specs.Splice.{splice};
-ghost use Rattle.common_types.specs.Walks.{TwoTypes, common_record, Walked};
+ghost use Rattle.common_types.specs.Directions.{said_direction};
+ghost use Rattle.types.specs.Kinds.{kind_number};
+ghost use Rattle.types.specs.Held.{kind_of};
+ghost use Rattle.common_types.specs.Walks.{At, TwoTypes, common_record, Walked};
 
-use types::{FUNCTION, UNIT};
+use types::Kind;
 
-// What a walk over two types finds: the record count of their common type; or that somewhere they are of two kinds and have none.
-#[derive(Clone, Copy)]
-pub enum Common {
-    Found(usize),
-    Apart,
+// Where both types are to stand: below the common one, which is then the least such, or above it, which is then the greatest.
+#[derive(Clone, Copy, Debug, PartialEq, Eq)]
+pub enum Direction {
+    Below,
+    Above,
 }
 
-// The join of the properties, in the first record of the first type.
-fn join_first(groups: &[u8], w: &mut [u8], at: usize, other: usize)
-    requires { TwoTypes w.old at other }
-    ensures { (p : TwoTypes w.old at other)
-        → w.new ≡ splice (type_width * at) (common_record (properties_of groups.now) below p) w.old }
+impl Direction {
+    fn opposite(self) -> Self
+        ensures { said_direction result ≡ opposite (said_direction self) }
+    {
+        match self {
+            Direction::Below => Direction::Above,
+            Direction::Above => Direction::Below,
+        }
+    }
+}
+
+// The kind of the type at record i.
+fn kind_at(w: &[u8], i: usize) -> Kind
+    requires { (t : Ty) × At w.now i t }
+    ensures { (t : Ty) → At w.now i t → kind_number result ≡ kind_of t }
 {
-    let own = types::property_at(w, at).join(groups, types::property_at(w, other));
-    types::put_property(w, at, own);
+    types::kind_of(&w[types::TYPE_WIDTH * i..])
 }
 
-// The meet of the properties, in the first record of the first type.
-fn meet_first(groups: &[u8], w: &mut [u8], at: usize, other: usize)
-    requires { TwoTypes w.old at other }
-    ensures { (p : TwoTypes w.old at other)
-        → w.new ≡ splice (type_width * at) (common_record (properties_of groups.now) above p) w.old }
+// Are the types at records `at` and `other` of one kind?
+fn of_one_kind(w: &[u8], at: usize, other: usize) -> bool
+    requires { TwoTypes w.now at other }
+    ensures { (p : TwoTypes w.now at other) → result ≡ eqb (kind_of p.first) (kind_of p.second) }
 {
-    let own = types::property_at(w, at).meet(groups, types::property_at(w, other));
-    types::put_property(w, at, own);
+    kind_at(w, at) == kind_at(w, other)
 }
 
-// The least type at or above the types at records `at` and `other`; of a function's left sides, the greatest at or below both. Types
-// that have a common one have as many records as it, so what the walk of the left sides counts says where both right sides start.
-// Calls nest no deeper than a type has records.
-#[cycle(greatest_below_least_above)]
-pub fn least_above(groups: &[u8], w: &mut [u8], at: usize, other: usize) -> Common
+// The join or the meet of the properties, in the first record of the first type.
+fn bound_first(groups: &[u8], direction: Direction, w: &mut [u8], at: usize, other: usize)
     requires { TwoTypes w.old at other }
     ensures { (p : TwoTypes w.old at other)
-        → Walked (common (properties_of groups.now) below p.first p.second) p.first at
+        → w.new ≡ splice (type_width * at) (common_record (properties_of groups.now) (said_direction direction) p) w.old }
+{
+    let first = types::property_at(w, at);
+    let second = types::property_at(w, other);
+    let both = match direction {
+        Direction::Below => first.join(groups, second),
+        Direction::Above => first.meet(groups, second),
+    };
+    types::put_property(w, at, both);
+}
+
+// The common type of the types at records `at` and `other`; of a function's left sides, that of the opposite direction. Types that
+// have a common one have as many records as it, so what the walk of the left sides counts says where both right sides start. The
+// answer is the common type's record count; there is none where somewhere they are of two kinds. Calls nest no deeper than a type
+// has records.
+pub fn common(
+    groups: &[u8],
+    direction: Direction,
+    w: &mut [u8],
+    at: usize,
+    other: usize,
+) -> Option<usize>
+    requires { TwoTypes w.old at other }
+    ensures { (p : TwoTypes w.old at other)
+        → Walked (common (properties_of groups.now) (said_direction direction) p.first p.second) p.first at
         w.old result w.new }
 {
-    let lower_kind = types::kind_at(w, at);
-    if lower_kind != types::kind_at(w, other) {
-        return Common::Apart;
+    if !of_one_kind(w, at, other) {
+        return None;
     }
-    join_first(groups, w, at, other);
-    if lower_kind == UNIT {
-        return Common::Found(1);
-    }
+    let kind = kind_at(w, at);
+    bound_first(groups, direction, w, at, other);
+    let leftward = match kind {
+        Kind::Unit => return Some(1),
+        Kind::Function => direction.opposite(),
+        _ => direction,
+    };
     let next = at + 1;
     let next_other = other + 1;
-    let left = if lower_kind == FUNCTION {
-        greatest_below(groups, w, next, next_other)
-    } else {
-        least_above(groups, w, next, next_other)
-    };
-    let Common::Found(n) = left else {
-        return Common::Apart;
-    };
-    let right = least_above(groups, w, next + n, next_other + n);
-    let Common::Found(m) = right else {
-        return Common::Apart;
-    };
-    Common::Found(1 + (n + m))
-}
-
-// The greatest type at or below the types at records `at` and `other`.
-#[cycle(greatest_below_least_above)]
-pub fn greatest_below(groups: &[u8], w: &mut [u8], at: usize, other: usize) -> Common
-    requires { TwoTypes w.old at other }
-    ensures { (p : TwoTypes w.old at other)
-        → Walked (common (properties_of groups.now) above p.first p.second) p.first at
-        w.old result w.new }
-{
-    let upper_kind = types::kind_at(w, at);
-    if upper_kind != types::kind_at(w, other) {
-        return Common::Apart;
-    }
-    meet_first(groups, w, at, other);
-    if upper_kind == UNIT {
-        return Common::Found(1);
-    }
-    let next = at + 1;
-    let next_other = other + 1;
-    let left = if upper_kind == FUNCTION {
-        least_above(groups, w, next, next_other)
-    } else {
-        greatest_below(groups, w, next, next_other)
-    };
-    let Common::Found(n) = left else {
-        return Common::Apart;
-    };
-    let right = greatest_below(groups, w, next + n, next_other + n);
-    let Common::Found(m) = right else {
-        return Common::Apart;
-    };
-    Common::Found(1 + (n + m))
+    let left = common(groups, leftward, w, next, next_other)?;
+    let right = common(groups, direction, w, next + left, next_other + left)?;
+    Some(1 + (left + right))
 }

@@ -1,12 +1,8 @@
 -- What a plan's contractum is: counted, and as bytes.
-use mathlib.Core.Path.{◌≡◌, refl, sym, ap, ap₂, ◌∙◌}
-use mathlib.Core.Path.{subst as transport}
-use mathlib.Core.Bool.{So, cond, true, false, Bool, false≢true}
-use mathlib.Core.List.{[], ◌∷◌, ◌++◌}
-use Prim.Native.Nat.{ℕ, suc, ◌+◌, ◌*◌, ◌/◌, ◌%◌, ◌≤◌, ◌<◌}
-use native.Mathlib.Omega.{arith}
-use lib.ListN.{length, take, drop, length-append}
-use lib.Seq.{take_at}
+use Rattle.std.proofs.Common.{◌≡◌, refl, sym, ap, ap₂, ◌∙◌, cond, true, false, Bool, [], ◌∷◌, ◌++◌, ℕ, suc, ◌+◌, ◌*◌, ◌/◌, ◌%◌, ◌≤◌, ◌<◌, arith, length, take, drop, length-append, take_at}
+use Rattle.std.proofs.Math.Bool.{So}
+use Rattle.std.proofs.lemmas.Bool.{false≢true}
+use Rattle.std.proofs.Common.{subst as transport}
 use Rattle.calculus.specs.Security.{Property, Reader, Indirect, Security}
 use Rattle.calculus.specs.Types.{Ty, top}
 use Rattle.calculus.specs.Terms.{first, second, Term, var, unit, lam, pair, inj, app, proj, case, protect, mu, is_value, subst, raise_value}
@@ -35,7 +31,7 @@ use Rattle.substitution.proofs.Nodes.{subst_bound}
 use Rattle.memory.proofs.Laws.{join_after}
 use Rattle.substitution.proofs.Reading.{term_length}
 use Rattle.contraction.specs.declared.Plan.TheVariants.{Part, Body, Raised, Unrolled}
-use Rattle.contraction.specs.declared.Size.{Size}
+use Rattle.substitution.specs.declared.Size.{Size}
 use Rattle.contraction.specs.Plans.{Planned, applied, projected, branched, lifted, unrolled_one, protect_record, Measures}
 
 -- what the protection of a destructor's contractum is
@@ -210,12 +206,6 @@ pub rolled_bytes : (g : Bytes) (w : Reader) (i : ℕ) (k : Property) (b : Term) 
     ≡ encode (unrolled (properties_of g) w i k b)
 unfolding encode
 rolled_bytes g w i k b w₁ k₁ lo hi mid e1 e2 e3 e4 e5 = let z : i + 1 ≡ suc i = omega arith in rw (e1, e2, e3, e4, e5, z)
-
--- one record, as it is copied from an array
-pub record_placed : (x : ℕ) (k : Property) (n lo hi start : ℕ) (w w' : Bytes) → lo ≡ n % 256 → hi ≡ n / 256
-    → w' ≡ splice start (x ∷ k.r ∷ k.ir ∷ 0 ∷ lo ∷ hi ∷ k.c ∷ k.ic ∷ []) w → w' ≡ splice start (object_record x k n) w
-record_placed x k n lo hi start w w' e1 e2 e =
-    e ∙ ap₂ (λ a b. splice start (x ∷ k.r ∷ k.ir ∷ 0 ∷ a ∷ b ∷ k.c ∷ k.ic ∷ []) w) e1 e2
 
 -- a record and what follows it
 pub record_then : (x : ℕ) (k : Property) (n start : ℕ) (b w w1 w2 : Bytes) → start + script_width ≤ length w → w1 ≡ splice start (object_record x k n) w

@@ -1,10 +1,8 @@
 -- A node whose turn it is and that goes is a left side of table 1, and what its plan is by the kinds of its records.
-use mathlib.Core.Path.{◌≡◌, refl, sym, subst, ◌∙◌}
-use mathlib.Core.Bool.{Bool, true, false, So, false≢true}
-use Prim.Native.Nat.{ℕ, ◌+◌, ◌≤◌}
-use native.Mathlib.Omega.{arith}
+use Rattle.std.proofs.Common.{◌≡◌, refl, sym, subst, ◌∙◌, Bool, true, false, ℕ, ◌+◌, ◌≤◌, arith, eqb}
+use Rattle.std.proofs.Math.Bool.{So}
+use Rattle.std.proofs.lemmas.Bool.{false≢true}
 use borrow.Author.Tests.{eqb-true}
-use lib.Dec.{eqb}
 use Rattle.calculus.specs.Security.{Reader, Security}
 use Rattle.calculus.specs.Types.{sum, product, function, Ty}
 use Rattle.calculus.specs.Terms.{Side, first, second, Term, var, unit, lam, pair, inj, app, proj, case, protect, mu}
@@ -117,20 +115,31 @@ module _ (s : Bytes) (at : ℕ) where
     pub to_first : kind_of (first_operand e) ≡ kinds.first_injection → Planned s e (Body next (at + 2))
     pub to_second : (kind_of (first_operand e) ≡ kinds.first_injection → ⊥) → (third : ℕ) → third ≡ next + size (second_operand e) → Planned s e (Body third (at + 2))
 
-  pub cased : {e : Term} (next : ℕ) → Left e → At s at e → At s (at + 2) (first_operand (first_operand e)) → next ≡ at + 2 + size (first_operand (first_operand e))
-      → (kind_of e ≡ kinds.recursion → ⊥) → (kind_of e ≡ kinds.protect → ⊥) → (kind_of e ≡ kinds.first_projection → ⊥) → (kind_of e ≡ kinds.second_projection → ⊥) → (kind_of e ≡ kinds.application → ⊥) → Cased e next
+  pub cased : {e : Term} (next : ℕ) → Left e → kind_of e ≡ kinds.case → At s at e → next ≡ at + 2 + size (first_operand (first_operand e)) → Cased e next
   unfolding size
-  cased next applies a x p not_mu not_protect not_first not_second not_app = absurd (not_app refl)
-  cased next (projects first) a x p not_mu not_protect not_first not_second not_app = absurd (not_first refl)
-  cased next (projects second) a x p not_mu not_protect not_first not_second not_app = absurd (not_second refl)
-  cased next (branches first) a x p not_mu not_protect not_first not_second not_app =
+  cased next applies h a p = absurd (omega arith)
+  cased next (projects first) h a p = absurd (omega arith)
+  cased next (projects second) h a p = absurd (omega arith)
+  cased next (branches first) h a p =
+      let x = inner_at a (branches first) (λ z. omega arith) (λ z. omega arith) in
       let b = at_second s at _ a next (omega arith) (omega arith) in
-      record { branch = b; to_first = λ h. branched b x; to_second = λ h third q. absurd (h refl) }
-  cased next (branches second) a x p not_mu not_protect not_first not_second not_app =
+      record { branch = b; to_first = λ i. branched b x; to_second = λ i third q. absurd (i refl) }
+  cased next (branches second) h a p =
+      let x = inner_at a (branches second) (λ z. omega arith) (λ z. omega arith) in
       record {
         branch = at_second s at _ a next (omega arith) (omega arith);
-        to_first = λ h. absurd (omega arith);
-        to_second = λ h third q. branched (at_third s at _ a third (omega arith) (omega arith)) x;
+        to_first = λ i. absurd (omega arith);
+        to_second = λ i third q. branched (at_third s at _ a third (omega arith) (omega arith)) x;
       }
-  cased next (lifts v) a x p not_mu not_protect not_first not_second not_app = absurd (not_protect refl)
-  cased next unrolls a x p not_mu not_protect not_first not_second not_app = absurd (not_mu refl)
+  cased next (lifts v) h a p = absurd (omega arith)
+  cased next unrolls h a p = absurd (omega arith)
+
+-- the left sides that are left
+pub only_case : {e : Term} → Left e → (kind_of e ≡ kinds.recursion → ⊥) → (kind_of e ≡ kinds.protect → ⊥) → (kind_of e ≡ kinds.first_projection → ⊥)
+    → (kind_of e ≡ kinds.second_projection → ⊥) → (kind_of e ≡ kinds.application → ⊥) → kind_of e ≡ kinds.case
+only_case applies r p f g a = absurd (a refl)
+only_case (projects first) r p f g a = absurd (f refl)
+only_case (projects second) r p f g a = absurd (g refl)
+only_case (branches d) r p f g a = refl
+only_case (lifts v) r p f g a = absurd (p refl)
+only_case unrolls r p f g a = absurd (r refl)

@@ -1,8 +1,6 @@
 -- A planned redex whose contractum has room: the room that its plan's writer asks for, and what that writer leaves in the buffer.
-use mathlib.Core.Path.{◌≡◌, sym, ap, ap₂, ◌∙◌}
-use mathlib.Core.Path.{subst as transport}
-use Prim.Native.Nat.{ℕ, ◌+◌, ◌≤◌}
-use native.Mathlib.Omega.{arith}
+use Rattle.std.proofs.Common.{◌≡◌, sym, ap, ap₂, ◌∙◌, ℕ, ◌+◌, ◌≤◌, arith}
+use Rattle.std.proofs.Common.{subst as transport}
 use Rattle.calculus.specs.Security.{Security}
 use Rattle.calculus.specs.Types.{Ty, top}
 use Rattle.calculus.specs.Terms.{Term, protect, subst, raise_value}

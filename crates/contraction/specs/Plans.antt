@@ -9,14 +9,14 @@ use Rattle.rules.specs.Answer.{Bytes}
 use Rattle.rules.specs.Limits.{script_width, script_limit, depth_limit, table_limit}
 use Rattle.rules.specs.Groups.{properties_of}
 use Rattle.rules.specs.Types.{type_count, type_at}
-use Rattle.rules.specs.Script.{records as record_count, r, full_record, size, depth}
+use Rattle.rules.specs.Script.{records as record_count, kind, r, full_record, size, depth}
 use Rattle.records.specs.Kinds as kinds
 use Rattle.records.specs.Place.{At}
 use Rattle.records.specs.Labels.{property_at}
 use Rattle.redex.specs.Fates.{is_function, goes, fate, contractum}
 use Rattle.contraction.specs.declared.Plan.{Plan}
 use Rattle.contraction.specs.declared.Plan.TheVariants.{Part, Body, Raised, Unrolled}
-use Rattle.contraction.specs.declared.Size.{Size}
+use Rattle.substitution.specs.declared.Size.{Size}
 
 -- the left sides of table 1, apart from who may read
 pub data Left : Term → Type 0 where
@@ -31,6 +31,13 @@ pub record Fires (s : Bytes) (at : ℕ) : Type 0 where
   pub tree : Term
   pub stands : At s at tree
   pub left : Left tree
+
+-- a case of table 1 stands at record `at`
+pub record Branches (s : Bytes) (at : ℕ) : Type 0 where
+  pub tree : Term
+  pub stands : At s at tree
+  pub left : Left tree
+  pub cases : kind s at ≡ kinds.case
 
 -- the plan of a redex: which parts of the script its contractum is made of
 pub data Planned (s : Bytes) : Term → Plan → Type 0 where

@@ -2,7 +2,7 @@
 
 #![tactic(auto)]
 
-ghost use Rattle.std.specs.Prelude.{◌≡◌, ℕ, ◌+◌, ◌-◌, ◌/◌, ◌%◌, ◌≤◌, ◌<◌, length};
+ghost use Rattle.std.specs.Prelude.{◌≡◌, ℕ, ◌+◌, ◌-◌, ◌≤◌, ◌<◌, length};
 ghost use Rattle.calculus.specs.Security.{Indirect, Security};
 ghost use Rattle.calculus.specs.Types.{Ty, top};
 ghost use Rattle.calculus.specs.Terms.{protect, mu, subst, raise_value};
@@ -13,46 +13,42 @@ ghost use Rattle.rules.specs.Groups.{properties_of};
 ghost use Rattle.rules.specs.Types.{type_at};
 ghost use Rattle.rules.specs.Script.{records as record_count, object_record, encode};
 ghost use Rattle.lattice.specs.Said.{said_property};
+ghost use Rattle.records.specs.Numbers.{kind_number};
 ghost use Rattle.records.specs.Labels.{influence_at};
 ghost use Rattle.redex.specs.Fates.{contractum};
 ghost use Rattle.memory.specs.Splice.{splice};
 ghost use Rattle.substitution.specs.Substituted.{Within};
-ghost use Rattle.contraction.specs.Plans.{Fires, Planned, Ready, Measures, Both, Recursive, PartRoom, BodyRoom, RaisedRoom};
+ghost use Rattle.contraction.specs.Plans.{Fires, Branches, Planned, Ready, Measures, Both, Recursive, PartRoom, BodyRoom, RaisedRoom};
 ghost use Rattle.contraction.specs.Plans.{protection, protect_record, UnrolledRoom, Fit};
 
 use lattice::{Creator, Property, Reader};
-use records::{
-    APPLICATION, FIRST_INJECTION, FIRST_PROJECTION, FUNCTION, PROTECT, RECURSION, SCRIPT_WIDTH,
-    SECOND_PROJECTION, VARIABLE,
-};
+use records::{Kind, SCRIPT_WIDTH};
+use substitution::Size;
 
 // How a redex's contractum is made: a protected part of the script; a protected body with a value put in for its variable; the
 // operand raised; a recursion's body with the recursion put in. Places are records.
-#[derive(Clone, Copy)]
+#[derive(Clone, Copy, Debug, PartialEq, Eq)]
 pub enum Plan {
     Part(usize),
-    Body(usize, usize),
+    Body { body: usize, value: usize },
     Raised,
     Unrolled,
 }
 
-// The records and the depth of a term.
-#[derive(Clone, Copy)]
-pub struct Size {
-    pub records: usize,
-    pub depth: usize,
-}
-
-fn low(n: u16) -> u8
-    ensures { result ≡ n % 256 }
+// The plan of the case at record `at`: the branch of its injection's side, with the injected value put in.
+fn branch_of(script: &[u8], at: usize) -> Plan
+    requires { Branches script.now at }
+    ensures { (q : Branches script.now at) → Planned script.now q.tree result }
 {
-    (n % 256) as u8
-}
-
-fn high(n: u16) -> u8
-    ensures { result ≡ n / 256 }
-{
-    (n / 256) as u8
+    let value = at + 2;
+    let first = records::end_of(script, value);
+    match records::kind_of(script, at + 1) {
+        Kind::FirstInjection => Plan::Body { body: first, value },
+        _ => Plan::Body {
+            body: records::end_of(script, first),
+            value,
+        },
+    }
 }
 
 // The plan of the redex at record `at`. Its first operand's own operand stands two records on, since each record stands before
@@ -61,36 +57,26 @@ pub fn plan_of(script: &[u8], at: usize) -> Plan
     requires { Fires script.now at }
     ensures { (q : Fires script.now at) → Planned script.now q.tree result }
 {
-    let kind = records::kind(script, at);
-    if kind == RECURSION {
-        return Plan::Unrolled;
-    }
-    if kind == PROTECT {
-        return Plan::Raised;
-    }
     let inner = at + 2;
-    if kind == FIRST_PROJECTION {
-        return Plan::Part(inner);
+    match records::kind_of(script, at) {
+        Kind::Recursion => Plan::Unrolled,
+        Kind::Protect => Plan::Raised,
+        Kind::FirstProjection => Plan::Part(inner),
+        Kind::SecondProjection => Plan::Part(records::end_of(script, inner)),
+        Kind::Application => Plan::Body {
+            body: inner,
+            value: records::end_of(script, inner),
+        },
+        _ => branch_of(script, at),
     }
-    let next = records::end_of(script, inner);
-    if kind == SECOND_PROJECTION {
-        return Plan::Part(next);
-    }
-    if kind == APPLICATION {
-        return Plan::Body(inner, next);
-    }
-    if records::kind(script, at + 1) == FIRST_INJECTION {
-        return Plan::Body(next, inner);
-    }
-    Plan::Body(records::end_of(script, next), inner)
 }
 
 // A protected part, counted.
-fn measure_part(script: &[u8], x: usize) -> Size
-    requires { Within script.now x }
-    ensures { (q : Within script.now x) (m : Indirect) → Measures (protect m q.tree) result }
+fn measure_part(script: &[u8], part: usize) -> Size
+    requires { Within script.now part }
+    ensures { (q : Within script.now part) (m : Indirect) → Measures (protect m q.tree) result }
 {
-    let e = substitution::extent_at(script, x);
+    let e = substitution::extent_at(script, part).size;
     Size {
         records: e.records + 1,
         depth: e.depth + 1,
@@ -98,28 +84,16 @@ fn measure_part(script: &[u8], x: usize) -> Size
 }
 
 // A protected body with a value put in, counted.
-fn measure_body(script: &[u8], x: usize, y: usize) -> Size
-    requires { Both script.now x y }
-    ensures { (q : Both script.now x y) (m : Indirect)
+fn measure_body(script: &[u8], body: usize, value: usize) -> Size
+    requires { Both script.now body value }
+    ensures { (q : Both script.now body value) (m : Indirect)
         → Measures (protect m (subst 0 q.value q.body)) result }
 {
-    let v = substitution::extent_at(script, y);
-    let e = substitution::measure(script, x, 0, v.records, v.depth);
+    let v = substitution::extent_at(script, value).size;
+    let e = substitution::measure(script, body, 0, v).size;
     Size {
         records: e.records + 1,
         depth: e.depth + 1,
-    }
-}
-
-// A raised value, counted: raising changes neither.
-fn measure_raised(script: &[u8], x: usize) -> Size
-    requires { Within script.now x }
-    ensures { (q : Within script.now x) → Measures q.tree result }
-{
-    let e = substitution::extent_at(script, x);
-    Size {
-        records: e.records,
-        depth: e.depth,
     }
 }
 
@@ -129,41 +103,42 @@ fn measure_unrolled(script: &[u8], at: usize) -> Size
     ensures { (q : Recursive script.now at) (S : Security) (tab : ℕ → Ty)
         → Measures (contractum S tab (mu q.label q.type q.body)) result }
 {
-    let v = substitution::extent_at(script, at);
-    let e = substitution::measure(script, at + 1, 0, v.records + 3, v.depth + 2);
-    Size {
-        records: e.records,
-        depth: e.depth,
-    }
+    let recursion = substitution::extent_at(script, at).size;
+    let unrolled = Size {
+        records: recursion.records + 3,
+        depth: recursion.depth + 2,
+    };
+    substitution::measure(script, at + 1, 0, unrolled).size
 }
 
-// The records and the depth of the contractum, with nothing written: a substitution can name millions of records.
+// The size of the contractum, with nothing written: a substitution can name millions of records, and raising changes no size.
 pub fn measure(script: &[u8], at: usize, plan: Plan) -> Size
     requires { Ready script.now at plan }
     ensures { (q : Ready script.now at plan) (S : Security) (tab : ℕ → Ty)
         → Measures (contractum S tab q.tree) result }
 {
     match plan {
-        Plan::Part(x) => measure_part(script, x),
-        Plan::Body(x, y) => measure_body(script, x, y),
-        Plan::Raised => measure_raised(script, at + 1),
+        Plan::Part(part) => measure_part(script, part),
+        Plan::Body { body, value } => measure_body(script, body, value),
+        Plan::Raised => substitution::extent_at(script, at + 1).size,
         Plan::Unrolled => measure_unrolled(script, at),
     }
 }
 
 // One record, over `written` from byte `start` on.
-fn write_record(kind: u8, property: Property, number: u16, written: &mut [u8], start: usize)
+fn write_record(kind: Kind, property: Property, number: u16, written: &mut [u8], start: usize)
     requires { start + script_width ≤ length written.old }
-    ensures { written.new ≡ splice start (object_record kind (said_property property) number)
+    ensures { written.new ≡ splice start (object_record (kind_number kind) (said_property property) number)
         written.old }
 {
+    let [low, high] = number.to_le_bytes();
     let record = [
-        kind,
+        kind.number(),
         property.r.0,
         property.ir.0,
         0,
-        low(number),
-        high(number),
+        low,
+        high,
         property.c.0,
         property.ic.0,
     ];
@@ -178,28 +153,36 @@ fn write_protect(groups: &[u8], script: &[u8], at: usize, written: &mut [u8], st
 {
     let read = records::property(script, at + 1);
     let left = read.influence(groups, records::reader(script, at));
-    let r = Reader(0);
-    let ir = left.ir;
-    let c = Creator(0);
-    let ic = left.ic;
-    let property = Property { r, ir, c, ic };
-    write_record(PROTECT, property, 0, written, start);
+    let property = Property {
+        r: Reader(0),
+        ir: left.ir,
+        c: Creator(0),
+        ic: left.ic,
+    };
+    write_record(Kind::Protect, property, 0, written, start);
 }
 
 // A protected part of what the destructor at record `at` takes apart.
-fn write_part(groups: &[u8], script: &[u8], at: usize, x: usize, written: &mut [u8], start: usize)
-    requires { PartRoom script.now at x written.old start }
-    ensures { (q : PartRoom script.now at x written.old start)
+fn write_part(
+    groups: &[u8],
+    script: &[u8],
+    at: usize,
+    part: usize,
+    written: &mut [u8],
+    start: usize,
+)
+    requires { PartRoom script.now at part written.old start }
+    ensures { (q : PartRoom script.now at part written.old start)
         → written.new
         ≡ splice start (encode (protect (protection groups.now script.now at) q.part))
         written.old }
 {
-    let end = records::end_of(script, x);
+    let end = records::end_of(script, part);
     write_protect(groups, script, at, written, start);
     memory::copy_part(
         script,
-        SCRIPT_WIDTH * x,
-        SCRIPT_WIDTH * (end - x),
+        SCRIPT_WIDTH * part,
+        SCRIPT_WIDTH * (end - part),
         written,
         start + SCRIPT_WIDTH,
     );
@@ -210,28 +193,28 @@ fn write_body(
     groups: &[u8],
     script: &[u8],
     at: usize,
-    x: usize,
-    y: usize,
+    body: usize,
+    value: usize,
     written: &mut [u8],
     start: usize,
 )
-    requires { BodyRoom script.now at x y written.old start }
-    ensures { (q : BodyRoom script.now at x y written.old start)
+    requires { BodyRoom script.now at body value written.old start }
+    ensures { (q : BodyRoom script.now at body value written.old start)
         → written.new
         ≡ splice start
         (encode (protect (protection groups.now script.now at) (subst 0 q.value q.body)))
         written.old }
 {
-    let end = records::end_of(script, y);
+    let end = records::end_of(script, value);
     write_protect(groups, script, at, written, start);
-    let from = SCRIPT_WIDTH * y;
+    let from = SCRIPT_WIDTH * value;
     let to = SCRIPT_WIDTH * end;
     substitution::write(
         script,
-        x,
-        &script[0..0],
+        body,
+        &[],
         &script[from..to],
-        &script[0..0],
+        &[],
         0,
         written,
         start + SCRIPT_WIDTH,
@@ -251,7 +234,7 @@ fn write_raised(groups: &[u8], script: &[u8], at: usize, written: &mut [u8], sta
     let by = records::influence(script, at);
     let raised = records::property(script, x).raised(groups, by);
     write_record(
-        records::kind(script, x),
+        records::kind_of(script, x),
         raised,
         records::number(script, x),
         written,
@@ -275,18 +258,18 @@ fn write_unrolled(types: &[u8], script: &[u8], at: usize, written: &mut [u8], st
     let end = records::end_of(script, at);
     let named = records::number(script, at);
     let caller = records::reader(script, at);
-    let function = types::property_at(types, records::index(named));
-    let parameter = named + 1;
+    let function = types::property_at(types, usize::from(named));
+    let [low, high] = (named + 1).to_le_bytes();
     let front = [
-        FUNCTION,
+        Kind::Function.number(),
         function.r.0,
         function.ir.0,
         0,
-        low(parameter),
-        high(parameter),
+        low,
+        high,
         function.c.0,
         function.ic.0,
-        APPLICATION,
+        Kind::Application.number(),
         caller.0,
         0,
         0,
@@ -295,7 +278,7 @@ fn write_unrolled(types: &[u8], script: &[u8], at: usize, written: &mut [u8], st
         0,
         0,
     ];
-    let back = [VARIABLE, 0, 0, 0, 0, 0, 0, 0];
+    let back = [Kind::Variable.number(), 0, 0, 0, 0, 0, 0, 0];
     let from = SCRIPT_WIDTH * at;
     let to = SCRIPT_WIDTH * end;
     substitution::write(
@@ -327,8 +310,8 @@ pub fn write_contractum(
         written.old }
 {
     match plan {
-        Plan::Part(x) => write_part(groups, script, at, x, written, start),
-        Plan::Body(x, y) => write_body(groups, script, at, x, y, written, start),
+        Plan::Part(part) => write_part(groups, script, at, part, written, start),
+        Plan::Body { body, value } => write_body(groups, script, at, body, value, written, start),
         Plan::Raised => write_raised(groups, script, at, written, start),
         Plan::Unrolled => write_unrolled(types, script, at, written, start),
     }

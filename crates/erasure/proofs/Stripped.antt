@@ -1,13 +1,6 @@
 -- A loop that strips a list from the front, one store a turn.
-use mathlib.Core.Path.{◌≡◌, sym, ap, ◌∙◌}
-use mathlib.Core.Bool.{cond}
-use mathlib.Core.List.{[], ◌∷◌, ◌++◌, append_assoc, append-nil}
-use Prim.Native.Nat.{ℕ, zero, suc, ◌+◌, ◌%◌, ◌<◌}
-use native.Mathlib.Numerals.{add-one}
-use native.Mathlib.Nat.{add-zero, zero-add}
-use native.Mathlib.Omega.{arith}
-use lib.ListN.{length, take, drop, set, get_or}
-use lib.Seq.{take-suc, drop-cons, set_at, get_or_at, length-take-le, take_all, drop-length}
+use Rattle.std.proofs.Common.{◌≡◌, sym, ap, ◌∙◌, cond, [], ◌∷◌, ◌++◌, append_assoc, append-nil, ℕ, zero, suc, ◌+◌, ◌%◌, ◌<◌, add-one, add-zero, zero-add, arith, length, take, drop, set, get_or, take-suc, drop-cons, length-take-le, take_all}
+use Rattle.std.proofs.Math.Seq.{set_at, get_or_at, drop-length}
 use Rattle.rules.specs.Answer.{Bytes}
 use Rattle.rules.specs.Strip.{group_byte, strip_from}
 use Rattle.rules.proofs.Strip.{strip_length}
@@ -21,14 +14,14 @@ strip_at_from w j (b ∷ s) (suc i) l =
     let p : suc j + i ≡ j + suc i = omega arith in
     strip_at_from w (suc j) s i (omega arith) ∙ ap (λ x. cond (group_byte w (x % w)) 0 (get_or s i 0)) p
 
-pub strip_at : (w : ℕ) (s : Bytes) (i : ℕ) → i < length s → get_or (strip_from w 0 s) i 0 ≡ cond (group_byte w (i % w)) 0 (get_or s i 0)
+strip_at : (w : ℕ) (s : Bytes) (i : ℕ) → i < length s → get_or (strip_from w 0 s) i 0 ≡ cond (group_byte w (i % w)) 0 (get_or s i 0)
 strip_at w s i l = strip_at_from w 0 s i l ∙ ap (λ x. cond (group_byte w (x % w)) 0 (get_or s i 0)) (zero-add i)
 
 -- the bytes before n are those of t, the others those of d
 abbrev pub stored : ℕ → Bytes → Bytes → Bytes
 stored n t d = take n t ++ drop n d
 
-pub not_yet : (n : ℕ) (t d : Bytes) → length t ≡ length d → n < length d → get_or (stored n t d) n 0 ≡ get_or d n 0
+not_yet : (n : ℕ) (t d : Bytes) → length t ≡ length d → n < length d → get_or (stored n t d) n 0 ≡ get_or d n 0
 not_yet n t d e l =
     ap (λ x. get_or (take n t ++ x) n 0) (drop-cons d n 0 l)
     ∙ get_or_at (take n t) (get_or d n 0) (drop (suc n) d) 0 n (length-take-le n t (omega arith))

@@ -26,10 +26,8 @@ fn strip(bytes: &mut [u8], width: usize)
     requires { (0 < width) × (width ≤ script_width) }
     ensures { bytes.new ≡ strip_from width 0 bytes.old }
 {
-    let mut i: usize = 0;
-    while i < bytes.len() {
-        bytes[i] = kept(width, i % width, bytes[i]);
-        i += 1;
+    for (i, byte) in bytes.iter_mut().enumerate() {
+        *byte = kept(width, i % width, *byte);
     }
 }
 

@@ -1,10 +1,6 @@
 -- A run's answer: to the questions, and of the run. Demand 3 holds of every accepted script, and its run is the one that is reported.
-use mathlib.Core.Path.{◌≡◌, refl, sym, ap, ◌∙◌}
-use mathlib.Core.Path.{subst as transport}
-use mathlib.Core.List.{List, [], ◌∷◌, ◌++◌}
-use Prim.Native.Nat.{ℕ, ◌-◌, ◌≤◌, min}
-use native.Mathlib.Omega.{arith}
-use lib.ListN.{length}
+use Rattle.std.proofs.Common.{◌≡◌, refl, sym, ap, ◌∙◌, List, [], ◌∷◌, ◌++◌, ℕ, ◌-◌, ◌≤◌, min, arith, length, Result, Ok, Err, MatchResult}
+use Rattle.std.proofs.Common.{subst as transport}
 use Rattle.calculus.specs.Types.{Ty}
 use Rattle.calculus.specs.Terms.{Term}
 use Rattle.rules.specs.Answer.{refused, Bytes, Octets, Answer, accepted, ◌>>◌}
@@ -14,16 +10,16 @@ use Rattle.rules.specs.Script.{term, encode, size}
 use Rattle.rules.specs.Run.{Ran, run}
 use Rattle.rules.specs.Reach.{Accepted}
 use Rattle.rules.specs.Calls.{zeros, script_check, running, Report, run_report, first_after, scratch_after}
-use Rattle.answer.specs.declared.Checked.TheVariants.{Refused}
 use Rattle.demands.proofs.Answers.{accepted_inj}
 use Rattle.demands.proofs.ThirdDemand.{third_demand}
 use Rattle.evaluation.specs.declared.Halt.{Halt}
-use Rattle.evaluation.specs.declared.RunAnswer.{RunAnswer}
-use Rattle.evaluation.specs.declared.RunAnswer.TheVariants as answer
-use Rattle.evaluation.specs.Runs.{Told, Ends, refused_run, said_run, Demanded}
+use Rattle.answer.specs.Numbers.{number}
+use Rattle.answer.specs.declared.Refusal.{Refusal}
+use Rattle.reduction.specs.Steps.{end_number}
+use Rattle.evaluation.specs.Runs.{Told, Ends, said_run, Demanded}
 
 -- the answer and both buffers are those of o
-abbrev pub Says : Bytes → Bytes → Answer Ran → RunAnswer → Bytes → Bytes → Type 0
+abbrev pub Says : Bytes → Bytes → Answer Ran → Result Halt Refusal → Bytes → Bytes → Type 0
 Says first scratch o a first' scratch' =
     (said_run a ≡ run_report o) × (first' ≡ first_after o first) × (scratch' ≡ scratch_after o scratch)
 
@@ -38,44 +34,43 @@ module _ (g t s : Bytes) (budget : ℕ) (first scratch : Bytes) where
   ran = run (properties_of g) (type_at t) (min (length first) (length scratch)) budget (term s)
 
   -- "A refusal leaves all lent memory unchanged."
-  pub refused_keeps : {q p : ℕ} → refused q p ≡ script_check rooms g t s → Says first scratch answered (refused_run (Refused q p)) first scratch
+  pub refused_keeps : (e : Refusal) → refused (number e.question) e.place ≡ script_check rooms g t s → Says first scratch answered (Err e) first scratch
   unfolding running run_report
-  refused_keeps {q} {p} e =
-      transport (λ (c : Answer (Unit {0})). Says first scratch (◌>>◌ c (accepted ran)) (refused_run (Refused q p)) first scratch) e (refl, refl, refl)
+  refused_keeps e h =
+      transport (λ (c : Answer (Unit {0})). Says first scratch (◌>>◌ c (accepted ran)) (Err e) first scratch) h (refl, refl, refl)
 
   -- the run of the script's term, where it stands in the first buffer
   pub ran_so : script_check rooms g t s ≡ accepted tt → (first₁ first' scratch' : Bytes) (e : Term) (a : Halt) → length first₁ ≡ length first → e ≡ term s
       → Ends (run (properties_of g) (type_at t) (min (length first₁) (length scratch)) budget e) first₁ scratch a first' scratch'
-      → Says first scratch answered (answer.Ended a.end a.steps a.records) first' scratch'
+      → Says first scratch answered (Ok a) first' scratch'
   unfolding running run_report
   ran_so h first₁ first' scratch' e a l m q =
       let z : run (properties_of g) (type_at t) (min (length first₁) (length scratch)) budget e ≡ ran =
       ap (λ (n : ℕ). run (properties_of g) (type_at t) (min n (length scratch)) budget e) l
       ∙ ap (run (properties_of g) (type_at t) (min (length first) (length scratch)) budget) m in
       let o : answered ≡ accepted ran = ap (λ (c : Answer (Unit {0})). ◌>>◌ c (accepted ran)) h in
-      transport (λ (c : Answer Ran). Says first scratch c (answer.Ended a.end a.steps a.records) first' scratch') (sym o) (
+      transport (λ (c : Answer Ran). Says first scratch c (Ok a) first' scratch') (sym o) (
         same_report a ran (transport (λ (x : Ran). Told x a) z q.told),
         q.first_is ∙ ap (λ (x : Ran). first_after (accepted x) first₁) z ∙ ap (λ (n : ℕ). encode ran.last ++ zeros (n - length (encode ran.last))) l,
         q.scratch_is,
       )
     where
       same_report : (a : Halt) (x : Ran) → Told x a
-          → ◌≡◌ {A = Answer Report} (accepted (record { end = a.end; steps = a.steps; count = a.records })) (accepted (record { end = x.end; steps = x.steps; count = size x.last }))
+          → ◌≡◌ {A = Answer Report} (accepted (record { end = end_number a.stop; steps = a.steps; count = a.records })) (accepted (record { end = x.end; steps = x.steps; count = size x.last }))
       same_report a x t =
           ap (λ (n : ℕ). accepted (record { end = n; steps = a.steps; count = a.records })) t.end
           ∙ ap (λ (n : ℕ). accepted (record { end = x.end; steps = n; count = a.records })) t.steps
           ∙ ap (λ (n : ℕ). accepted (record { end = x.end; steps = x.steps; count = n })) t.records
 
   -- an answer that reports a run is that run's
-  ended : (a : RunAnswer) (x : Ran) → said_run a ≡ run_report (accepted x) → a ≡ answer.Ended x.end x.steps (size x.last)
+  ended : (a : Result Halt Refusal) (x : Ran) → said_run a ≡ run_report (accepted x) → MatchResult a (λ halt. Told x halt) (λ e. ⊥)
   unfolding run_report
-  ended (answer.Ended n k c) x h =
+  ended (Ok halt) x h =
       let e = accepted_inj h in
-      ap (λ (m : ℕ). answer.Ended m k c) (ap (λ (r : Report). r.end) e) ∙ ap (λ (m : ℕ). answer.Ended x.end m c) (ap (λ (r : Report). r.steps) e)
-      ∙ ap (λ (m : ℕ). answer.Ended x.end x.steps m) (ap (λ (r : Report). r.count) e)
-  ended (answer.Refused q p) x h = let z : ◌≡◌ {A = ℕ} 0 1 = cc in absurd (omega arith)
+      record { end = ap (λ (r : Report). r.end) e; steps = ap (λ (r : Report). r.steps) e; records = ap (λ (r : Report). r.count) e }
+  ended (Err e) x h = let z : ◌≡◌ {A = ℕ} 0 1 = cc in absurd (omega arith)
 
-  pub demanded : Octets g → Octets s → (a : RunAnswer) (first' scratch' : Bytes) → Says first scratch answered a first' scratch' → (type : Ty)
+  pub demanded : Octets g → Octets s → (a : Result Halt Refusal) (first' scratch' : Bytes) → Says first scratch answered a first' scratch' → (type : Ty)
       → Accepted g t s type → length s ≤ length first → length s ≤ length scratch → Demanded g t s type budget first scratch a first' scratch'
   demanded G O a first' scratch' h type k l m =
       let d = third_demand g t s type budget first scratch G O k l m in

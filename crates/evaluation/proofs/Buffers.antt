@@ -1,11 +1,7 @@
 -- Zeros to the end of a buffer, and a script copied to its front.
-use mathlib.Core.Path.{◌≡◌, sym, ap, ◌∙◌}
-use mathlib.Core.Path.{subst as transport}
-use mathlib.Core.List.{◌++◌}
-use Prim.Native.Nat.{ℕ, ◌+◌, ◌-◌, ◌*◌, ◌≤◌}
-use native.Mathlib.Omega.{arith}
-use lib.ListN.{length, take, drop}
-use lib.Seq.{take_at, length-take-le, take-length}
+use Rattle.std.proofs.Common.{◌≡◌, sym, ap, ◌∙◌, ◌++◌, ℕ, ◌+◌, ◌-◌, ◌*◌, ◌≤◌, arith, length, take, drop, take_at, length-take-le}
+use Rattle.std.proofs.Math.Seq.{take-length}
+use Rattle.std.proofs.Common.{subst as transport}
 use Rattle.calculus.specs.Terms.{Term}
 use Rattle.rules.specs.Answer.{Bytes}
 use Rattle.rules.specs.Limits.{script_width}
@@ -23,9 +19,6 @@ pub cleared : (e : Term) (a a' : Bytes) (k n : ℕ) → a' ≡ take k a ++ zeros
 cleared e a a' k n h p l m =
     let z : length a - k ≡ n - length (encode e) = omega (arith, ap length p, length-take-le k a l) in
     h ∙ ap (λ (b : Bytes). b ++ zeros (length a - k)) p ∙ ap (λ (j : ℕ). encode e ++ zeros j) z
-
-pub all_cleared : (b b' : Bytes) (m : ℕ) → b' ≡ take 0 b ++ zeros (length b - 0) → length b ≡ m → b' ≡ zeros m
-all_cleared b b' m h l = let z : length b - 0 ≡ m = omega arith in h ∙ ap (λ (j : ℕ). zeros j) z
 
 -- A whole script, copied to the front of a buffer.
 module _ {t : Bytes} (s a a' : Bytes) (st : Startable t s) (h : a' ≡ splice 0 (take (length s) (drop 0 s)) a) where

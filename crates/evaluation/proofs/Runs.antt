@@ -1,11 +1,6 @@
 -- A run is its steps: what a turn of the loop does to the run that is left, and how it ends.
-use mathlib.Core.Path.{◌≡◌, refl, sym, ap, ◌∙◌}
-use mathlib.Core.Path.{subst as transport}
-use mathlib.Core.Bool.{Bool, true, false, cond}
-use Prim.Native.Nat.{ℕ, suc, ◌+◌, ◌-◌, ◌*◌, ◌/◌, ◌≤◌, ◌<◌}
-use native.Mathlib.Omega.{arith}
-use lib.ListN.{length, take, drop}
-use lib.Seq.{take_at, length-take-le}
+use Rattle.std.proofs.Common.{◌≡◌, refl, sym, ap, ◌∙◌, Bool, true, false, cond, ℕ, suc, ◌+◌, ◌-◌, ◌*◌, ◌/◌, ◌≤◌, ◌<◌, arith, length, take, drop, take_at, length-take-le, Result, Ok, Err}
+use Rattle.std.proofs.Common.{subst as transport}
 use Rattle.calculus.specs.Security.{Security}
 use Rattle.calculus.specs.Types.{Ty}
 use Rattle.calculus.specs.Terms.{Term, is_value}
@@ -26,18 +21,10 @@ use Rattle.redex.specs.declared.Found.TheVariants.{Value, Redex, Denied, Stuck}
 use Rattle.redex.proofs.Searches.{finds_step}
 use Rattle.memory.specs.Splice.{splice}
 use Rattle.substitution.proofs.Reading.{term_length}
-use Rattle.reduction.specs.declared.Stepped.{Stepped}
-use Rattle.reduction.specs.declared.Stepped.TheVariants.{Moved}
+use Rattle.reduction.specs.declared.Stop.{Stop}
 use Rattle.evaluation.specs.declared.Halt.{Halt}
-use Rattle.reduction.specs.Steps.{Startable, told}
-use Rattle.evaluation.specs.Runs.{front, Loaded, number_of, spent_on, Halted}
-
--- the bytes that a slice from the start takes
-pub cut : (a : Bytes) (n : ℕ) → take (n - 0) (drop 0 a) ≡ take n a
-cut a n = let z : n - 0 ≡ n = omega arith in ap (λ (k : ℕ). take k a) z
-
-pub cut_start : {t : Bytes} (a : Bytes) (n : ℕ) → Startable t (take n a) → Startable t (take (n - 0) (drop 0 a))
-cut_start {t} a n h = transport (λ (s : Bytes). Startable t s) (sym (cut a n)) h
+use Rattle.reduction.specs.Steps.{told, stop_number, end_number}
+use Rattle.evaluation.specs.Runs.{front, Loaded, spent_on, Halted}
 
 -- a whole term at the front has as many records as are said
 pub front_size : {t : Bytes} {a : Bytes} {n room : ℕ} → Loaded t a n room → room ≤ length a → size (front a n) ≡ n
@@ -50,12 +37,20 @@ pub record Went (x : End) (m : ℕ) : Type 0 where
   pub is : x ≡ moves new
   pub count : m ≡ size new
 
-pub went : (x : End) (m : ℕ) → told x ≡ Moved m → Went x m
+pub went : (x : End) (m : ℕ) → told x ≡ Ok m → Went x m
 went at_value m h = let z : ◌≡◌ {A = ℕ} 0 1 = cc in absurd (omega arith)
 went (moves e) m h = record { new = e; is = refl; count = cc }
 went may_not m h = let z : ◌≡◌ {A = ℕ} 0 1 = cc in absurd (omega arith)
 went wrong_kind m h = let z : ◌≡◌ {A = ℕ} 0 1 = cc in absurd (omega arith)
 went too_big m h = let z : ◌≡◌ {A = ℕ} 0 1 = cc in absurd (omega arith)
+
+-- the number of a step's end
+abbrev number_of : Result ℕ Stop → ℕ
+number_of (Ok count) = 1
+number_of (Err stop) = stop_number stop
+
+numbered : {stop : Stop} {r : Result ℕ Stop} → Err stop ≡ r → (e : Term) → ends (number_of r) e ≡ ends (stop_number stop) e
+numbered k e = ap (λ (r : Result ℕ Stop). ends (number_of r) e) (sym k)
 
 -- k steps were made before
 abbrev pub later : ℕ → Ran → Ran
@@ -76,14 +71,13 @@ module _ (S : Security) (tab : ℕ → Ty) (room : ℕ) where
   unfolding run
   run_moves n e e' h = rw (h, run)
 
-  run_stops : (n : ℕ) (e : Term) (x : End) → step_in S tab room e ≡ x → (a : Stepped) → a ≡ told x → ((m : ℕ) → a ≡ Moved m → ⊥)
-      → run S tab room (suc n) e ≡ ends (number_of a) e
+  run_stops : (n : ℕ) (e : Term) (x : End) → step_in S tab room e ≡ x → (stop : Stop) → Err stop ≡ told x → run S tab room (suc n) e ≡ ends (stop_number stop) e
   unfolding run
-  run_stops n e at_value h a k o = rw (h, run, k)
-  run_stops n e (moves e') h a k o = absurd (o (size e') k)
-  run_stops n e may_not h a k o = rw (h, run, k)
-  run_stops n e wrong_kind h a k o = rw (h, run, k)
-  run_stops n e too_big h a k o = rw (h, run, k)
+  run_stops n e at_value h stop k = rw (h, run) (numbered k e)
+  run_stops n e (moves e') h stop k = let z : ◌≡◌ {A = ℕ} 0 1 = cc in absurd (omega arith)
+  run_stops n e may_not h stop k = rw (h, run) (numbered k e)
+  run_stops n e wrong_kind h stop k = rw (h, run) (numbered k e)
+  run_stops n e too_big h stop k = rw (h, run) (numbered k e)
 
   later_more : (k : ℕ) (x : Ran) → later k (one_step_more x) ≡ later (k + 1) x
   later_more k x =
@@ -113,20 +107,20 @@ module _ (S : Security) (tab : ℕ → Ty) (room : ℕ) where
             ∙ later_more k (run S tab room (budget - (k + 1)) e');
       }
 
-  pub stopped : (budget k : ℕ) (whole e : Term) → Left budget whole e k → k < budget → (a : Stepped) → a ≡ told (step_in S tab room e)
-      → ((m : ℕ) → a ≡ Moved m → ⊥) → run S tab room budget whole ≡ later k (ends (number_of a) e)
-  stopped budget k whole e q l a h o =
+  pub stopped : (budget k : ℕ) (whole e : Term) → Left budget whole e k → k < budget → (stop : Stop) → Err stop ≡ told (step_in S tab room e)
+      → run S tab room budget whole ≡ later k (ends (stop_number stop) e)
+  stopped budget k whole e q l stop h =
       let z : budget - k ≡ suc (budget - (k + 1)) = omega arith in
-      q.is ∙ ap (λ (m : ℕ). later k (run S tab room m e)) z ∙ ap (later k) (run_stops (budget - (k + 1)) e (step_in S tab room e) refl a h o)
+      q.is ∙ ap (λ (m : ℕ). later k (run S tab room m e)) z ∙ ap (later k) (run_stops (budget - (k + 1)) e (step_in S tab room e) refl stop h)
 
   pub spent : (budget k : ℕ) (whole e : Term) → Left budget whole e k → k ≡ budget → (f : Found) → Finds S tab 0 0 e f
-      → run S tab room budget whole ≡ later k (ends (spent_on f) e)
+      → run S tab room budget whole ≡ later k (ends (end_number (spent_on f)) e)
   spent budget k whole e q l f h =
       let z : budget - k ≡ 0 = omega arith in
       q.is ∙ ap (λ (m : ℕ). later k (run S tab room m e)) z
       ∙ ap (later k) (run_zero e ∙ ap (λ (n : ℕ). ends n e) (by f h (is_value e) refl))
     where
-      by : (f : Found) → Finds S tab 0 0 e f → (b : Bool) → is_value e ≡ b → cond b 0 1 ≡ spent_on f
+      by : (f : Found) → Finds S tab 0 0 e f → (b : Bool) → is_value e ≡ b → cond b 0 1 ≡ end_number (spent_on f)
       by (Value n) (finds_value v m) true k = refl
       by (Value n) (finds_value v m) false k = let z : ◌≡◌ {A = ℕ} 0 1 = cc in absurd (omega arith)
       by (Redex i d) g true k = let x = (finds_step g).1 in let y = value_step S tab e k in let z : ◌≡◌ {A = ℕ} 0 1 = cc in absurd (omega arith)
@@ -137,7 +131,7 @@ module _ (S : Security) (tab : ℕ → Ty) (room : ℕ) where
       by Stuck g false k = refl
 
 -- a run that has halted
-pub halted : {t a : Bytes} {n room : ℕ} (x : Ran) (k q : ℕ) (b : Halt) → x ≡ later k (ends q (front a n)) → b.end ≡ q → b.steps ≡ k → b.records ≡ n
+pub halted : {t a : Bytes} {n room : ℕ} (x : Ran) (k q : ℕ) (b : Halt) → x ≡ later k (ends q (front a n)) → end_number b.stop ≡ q → b.steps ≡ k → b.records ≡ n
     → Loaded t a n room → room ≤ length a → Halted x room b a
 halted {t} {a} {n} {room} x k q b h e1 e2 e3 w l =
     transport (λ (y : Ran). Halted y room b a) (sym h)

@@ -1,5 +1,5 @@
 -- A run: what it is given, and what it reports.
-use Rattle.std.specs.Prelude.{◌≡◌, ℕ, ◌*◌, ◌≤◌, take}
+use Rattle.std.specs.Prelude.{◌≡◌, ℕ, ◌*◌, ◌≤◌, take, Option, None, Some, Result, Ok, Err, MatchResult}
 use Rattle.calculus.specs.Types.{Ty}
 use Rattle.calculus.specs.Terms.{Term}
 use Rattle.rules.specs.Answer.{Bytes, Answer, accepted, refused}
@@ -7,17 +7,15 @@ use Rattle.rules.specs.Limits.{script_width}
 use Rattle.rules.specs.Script.{encode, term, size}
 use Rattle.rules.specs.Run.{Ran}
 use Rattle.rules.specs.Calls.{Report, run_report, first_after, scratch_after}
-use Rattle.answer.specs.declared.Checked.{Checked}
-use Rattle.answer.specs.declared.Checked.TheVariants as checked
 use Rattle.demands.specs.Demands.{Demand3}
 use Rattle.redex.specs.declared.Found.{Found}
 use Rattle.redex.specs.declared.Found.TheVariants as found
-use Rattle.reduction.specs.declared.Stepped.{Stepped}
-use Rattle.reduction.specs.declared.Stepped.TheVariants.{Stopped, Moved}
 use Rattle.evaluation.specs.declared.Halt.{Halt}
-use Rattle.evaluation.specs.declared.RunAnswer.{RunAnswer}
-use Rattle.evaluation.specs.declared.RunAnswer.TheVariants.{Ended, Refused}
-use Rattle.reduction.specs.Steps.{Startable}
+use Rattle.reduction.specs.declared.Stop.{Stop}
+use Rattle.reduction.specs.declared.Stop.TheVariants.{Value}
+use Rattle.reduction.specs.Steps.{Startable, end_number}
+use Rattle.answer.specs.Numbers.{number}
+use Rattle.answer.specs.declared.Refusal.{Refusal}
 
 -- the term of the first n records of a buffer
 abbrev pub front : Bytes → ℕ → Term
@@ -28,21 +26,16 @@ pub record Loaded (t a : Bytes) (n room : ℕ) : Type 0 where
   pub start : Startable t (take (script_width * n) a)
   pub fits : script_width * n ≤ room
 
--- the number of a step's end
-abbrev pub number_of : Stepped → ℕ
-number_of (Stopped end) = end
-number_of (Moved count) = 1
-
 -- the end of a run at its budget
-abbrev pub spent_on : Found → ℕ
-spent_on (found.Value end) = 0
-spent_on (found.Redex place around) = 1
-spent_on found.Denied = 1
-spent_on found.Stuck = 1
+abbrev pub spent_on : Found → Option Stop
+spent_on (found.Value end) = Some Value
+spent_on (found.Redex place around) = None
+spent_on found.Denied = None
+spent_on found.Stuck = None
 
 -- a tells the run's end, steps and record count
 pub record Told (x : Ran) (a : Halt) : Type 0 where
-  pub end : a.end ≡ x.end
+  pub end : end_number a.stop ≡ x.end
   pub steps : a.steps ≡ x.steps
   pub records : a.records ≡ size x.last
 
@@ -58,22 +51,17 @@ pub record Ends (x : Ran) (first scratch : Bytes) (a : Halt) (first' scratch' : 
   pub first_is : first' ≡ first_after (accepted x) first
   pub scratch_is : scratch' ≡ scratch_after (accepted x) scratch
 
--- a refused script as a run's answer
-abbrev pub refused_run : Checked → RunAnswer
-refused_run checked.Passed = Ended 0 0 0
-refused_run (checked.Refused question place) = Refused question place
-
 -- "A run reports end, steps made and record count."
-abbrev pub said_run : RunAnswer → Answer Report
-said_run (Ended end steps count) = accepted (record { end = end; steps = steps; count = count })
-said_run (Refused question place) = refused question place
+abbrev pub said_run : Result Halt Refusal → Answer Report
+said_run (Ok halt) = accepted (record { end = end_number halt.stop; steps = halt.steps; count = halt.records })
+said_run (Err e) = refused (number e.question) e.place
 
 -- Demand 3, and that the run in it is the one that this answer reports: it isn't refused, and its end is neither 2 nor 3.
-pub record Demanded (g t s : Bytes) (type : Ty) (budget : ℕ) (first scratch : Bytes) (a : RunAnswer) (first' scratch' : Bytes) : Type 0 where
+pub record Demanded (g t s : Bytes) (type : Ty) (budget : ℕ) (first scratch : Bytes) (a : Result Halt Refusal) (first' scratch' : Bytes) : Type 0 where
   pub demand : Demand3 g t s type budget first scratch
   pub reports : said_run a ≡ run_report (accepted demand.ran)
   pub first_is : first' ≡ first_after (accepted demand.ran) first
   pub scratch_is : scratch' ≡ scratch_after (accepted demand.ran) scratch
-  pub ended : a ≡ Ended demand.ran.end demand.ran.steps (size demand.ran.last)
+  pub ended : MatchResult a (λ halt. Told demand.ran halt) (λ e. ⊥)
   pub not_2 : demand.ran.end ≡ 2 → ⊥
   pub not_3 : demand.ran.end ≡ 3 → ⊥

@@ -9,57 +9,30 @@ ghost use Rattle.rules.specs.Types.{type_at};
 ghost use Rattle.rules.specs.Run.{run};
 ghost use Rattle.rules.specs.Reach.{Accepted};
 ghost use Rattle.rules.specs.Calls.{running, run_report, first_after, scratch_after};
-ghost use Rattle.evaluation.specs.Runs.{front, Loaded, Halted, Ends, number_of, spent_on, refused_run, said_run};
+ghost use Rattle.evaluation.specs.Runs.{front, Loaded, Halted, Ends, spent_on, said_run};
 ghost use Rattle.evaluation.specs.Runs.{Demanded};
 
-use answer::Checked;
+use answer::Refusal;
 use records::SCRIPT_WIDTH;
 use redex::Found;
-use reduction::Stepped;
+use reduction::Stop;
 
-// How a run of a term ends: the end's number, the steps made and the records of the last term.
-#[derive(Clone, Copy)]
+// How a run of a term ends: why no step moves its last term, or nothing if the budget is spent on a term that is no value; the steps
+// made, and the records of the last term.
+#[derive(Clone, Copy, Debug, PartialEq, Eq)]
 pub struct Halt {
-    pub end: u8,
+    pub stop: Option<Stop>,
     pub steps: u64,
     pub records: usize,
 }
 
-// What a run reports: end, steps made and record count, or the number of the first question answered no and the place.
-#[derive(Clone, Copy)]
-pub enum RunAnswer {
-    Ended(u8, u64, usize),
-    Refused(u8, usize),
-}
-
-fn smaller(a: usize, b: usize) -> usize
-    ensures { result ≡ min a b }
-{
-    if a < b {
-        return a;
-    }
-    b
-}
-
-// The number of a step's end.
-fn number_of(x: Stepped) -> u8
-    ensures { result ≡ number_of x }
-{
-    match x {
-        Stepped::Stopped(end) => end,
-        Stepped::Moved(_) => 1,
-    }
-}
-
-// The end of a run whose budget is spent: 0 for a value, 1 for any other term, whatever its next step would say.
-fn spent_on(found: Found) -> u8
+// What stops a run whose budget is spent: its term is a value. Of any other term it isn't asked what its next step would say.
+fn spent_on(found: Found) -> Option<Stop>
     ensures { result ≡ spent_on found }
 {
     match found {
-        Found::Value(_) => 0,
-        Found::Redex(_, _) => 1,
-        Found::Denied => 1,
-        Found::Stuck => 1,
+        Found::Value(_) => Some(Stop::Value),
+        Found::Redex { .. } | Found::Denied | Found::Stuck => None,
     }
 }
 
@@ -79,26 +52,27 @@ fn walk(
         room result first.new }
 {
     let mut n = records;
-    let mut steps: u64 = 0;
-    while steps < budget {
+    for steps in 0..budget {
         let bytes = SCRIPT_WIDTH * n;
-        let x = reduction::step_term(groups, types, &first[0..bytes], scratch, room);
-        let Stepped::Moved(m) = x else {
-            return Halt {
-                end: number_of(x),
-                steps,
-                records: n,
-            };
-        };
-        memory::copy_part(scratch, 0, SCRIPT_WIDTH * m, first, 0);
-        n = m;
-        steps += 1;
+        match reduction::step_term(groups, types, &first[..bytes], scratch, room) {
+            Ok(moved) => {
+                memory::copy_part(scratch, 0, SCRIPT_WIDTH * moved, first, 0);
+                n = moved;
+            }
+            Err(stop) => {
+                return Halt {
+                    stop: Some(stop),
+                    steps,
+                    records: n,
+                };
+            }
+        }
     }
     let bytes = SCRIPT_WIDTH * n;
-    let found = redex::find(groups, types, &first[0..bytes], 0, 0);
+    let found = redex::find(groups, types, &first[..bytes], 0, 0);
     Halt {
-        end: spent_on(found),
-        steps,
+        stop: spent_on(found),
+        steps: budget,
         records: n,
     }
 }
@@ -119,22 +93,12 @@ pub fn run_term(
         (min (length first.old) (length scratch.old)) budget (front first.old records))
         first.old scratch.old result first.new scratch.new }
 {
-    let room = smaller(first.len(), scratch.len());
+    let room = first.len().min(scratch.len());
     let x = walk(groups, types, records, budget, first, scratch, room);
     let end = SCRIPT_WIDTH * x.records;
     memory::clear_from(first, end);
-    memory::clear_from(scratch, 0);
+    memory::clear(scratch);
     x
-}
-
-// A refusal, as an answer to a run.
-fn refused_run(a: Checked) -> RunAnswer
-    ensures { result ≡ refused_run a }
-{
-    match a {
-        Checked::Passed => RunAnswer::Ended(0, 0, 0),
-        Checked::Refused(question, place) => RunAnswer::Refused(question, place),
-    }
 }
 
 // A run: questions 2 to 19 and 36, in order, and then the run of the script's term. The last clause is demand 3.
@@ -145,7 +109,7 @@ pub fn run(
     budget: u64,
     first: &mut [u8],
     scratch: &mut [u8],
-) -> RunAnswer
+) -> Result<Halt, Refusal>
     ensures { (said_run result
         ≡ run_report (running groups.now types.now script.now budget
         (length first.old) (length scratch.old)))
@@ -161,12 +125,8 @@ pub fn run(
         → Demanded groups.now types.now script.now type budget first.old
         scratch.old result first.new scratch.new) }
 {
-    let asked = syntax::script_check_in_run(groups, types, script, first.len(), scratch.len());
-    let Checked::Passed = asked else {
-        return refused_run(asked);
-    };
+    syntax::script_check(groups, types, script, &[first.len(), scratch.len()])?;
     memory::copy_part(script, 0, script.len(), first, 0);
     let records = records::record_count(script);
-    let x = run_term(groups, types, records, budget, first, scratch);
-    RunAnswer::Ended(x.end, x.steps, x.records)
+    Ok(run_term(groups, types, records, budget, first, scratch))
 }

@@ -1,22 +1,18 @@
 -- The questions of one row, said of whole words.
-use mathlib.Core.Path.{◌≡◌, refl, sym, ap, ◌∙◌}
-use mathlib.Core.Bool.{Bool, true, false, not, ◌&&◌, beq, false≢true}
-use mathlib.Core.Option.{Option}
-use Prim.Native.Nat.{ℕ, ◌+◌, ◌-◌, ◌/◌, ◌^◌, ◌≤◌, ◌<◌}
-use native.Mathlib.Omega.{arith}
-use native.Mathlib.Decide.{ℕ_discrete}
-use borrow.Author.Tests.{eq-eqb, ne_eqb, eqb-true, ltb-false, le-ltb, not-true, not-false}
-use lib.Dec.{eqb, ltb}
+use Rattle.std.proofs.Common.{◌≡◌, refl, sym, ap, ◌∙◌, Bool, true, false, ◌&&◌, ℕ, ◌+◌, ◌-◌, ◌/◌, ◌^◌, ◌≤◌, ◌<◌, arith, eq-eqb, ne_eqb, eqb-true, ltb-false, le-ltb, eqb, ltb, shr_lt, pow_pos}
+use Rattle.std.proofs.Math.Bool.{beq, false≢true}
+use Rattle.std.proofs.Math.Decide.{ℕ_discrete}
+use Rattle.std.proofs.Math.Option.{Option}
 use lib.Bits.{bit_and, and_lt}
-use lib.Pow.{shr_lt, pow_pos}
 use lib.Count.{count_trailing_zeros, trailing_le}
+use Rattle.std.specs.Bool.{one_answer}
 use Rattle.rules.specs.Answer.{Bytes, first_below, all_below, ◌⇒◌}
 use Rattle.rules.specs.Limits.{group_limit}
 use Rattle.rules.specs.Groups.{row, bit, common, within, is_number, row_of_lowest}
 use Rattle.rules.proofs.Search.{all_below_true, all_below_all}
 use Rattle.rules.proofs.Asked.{implied}
 use Rattle.calculus.proofs.Booleans.{same_bits}
-use Rattle.lattice.proofs.Bits.{same, bit_of_and, bit_shr, bits_same}
+use Rattle.lattice.proofs.Bits.{bit_of_and, bit_shr, bits_same}
 use Rattle.lattice.proofs.Words.{bit_of_zero, lowest_some, lowest_none, lowest_zero, common_word, common_some}
 use Rattle.groups_table.specs.Pairs.{pair5, pair6}
 
@@ -45,7 +41,7 @@ all_same : (n : ℕ) (ok : ℕ → Bool) (b : Bool)
     → (b ≡ true → (k : ℕ) → k < n → ok k ≡ true)
     → (((k : ℕ) → k < n → ok k ≡ true) → b ≡ true)
     → b ≡ all_below ok n
-all_same n ok b f g = same b (all_below ok n) (λ e. all_below_true n ok (f e)) (λ e. g (all_below_all n ok e))
+all_same n ok b f g = one_answer b (all_below ok n) (f, g) (all_below_all n ok, all_below_true n ok)
 
 -- question 3 of a word: nothing is left above its n lowest bits
 pub bits_below : (w n : ℕ) → w < 2 ^ 32 → n ≤ group_limit → eqb (w / 2 ^ n) 0 ≡ all_below (λ h. bit w h ⇒ ltb h n) group_limit
@@ -104,19 +100,9 @@ equal_word set w z is l m =
     agree : (k : ℕ) → z ≡ w → beq (set k) (bit z k) ≡ true
     agree k e = rw (is k, e) (equal_self (bit w k))
 
--- what a test said, where its answer is tested by `!`
-pub failed : (a b : Bool) → a ≡ b → not a ≡ true → b ≡ false
-failed a b e n = sym e ∙ not-true a n
-
-pub held : (a b : Bool) → a ≡ b → not a ≡ false → b ≡ true
-held a b e n = sym e ∙ not-false a n
-
 -- rows g and h of a table, as words
 module _ (t : Bytes) (g h x y : ℕ) (ex : x ≡ row t g) (ey : y ≡ row t h) where
-  -- question 5: row g has no bit h
-  pub pair5_off : bit x h ≡ false → true ≡ pair5 t g h
-  pair5_off e = rw (← ex, e)
-
+  -- question 5: row g has bit h
   pub pair5_on : bit x h ≡ true → x < 2 ^ 32 → y < 2 ^ 32 → eqb (bit_and y x) y ≡ pair5 t g h
   pair5_on e lx ly = rw (← ex, ← ey, e) (within_word y x ly lx)
 

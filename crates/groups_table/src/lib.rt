@@ -9,20 +9,18 @@ ghost use Rattle.rules.specs.Calls.{groups_check};
 ghost use Rattle.answer.specs.Said.{said};
 ghost use Rattle.groups_table.specs.Pairs.{pair5, pair6};
 
-use answer::Checked;
+use answer::{Checked, Question};
 use lattice::{GROUP_LIMIT, ROW_WIDTH};
-
-fn wide(word: u32) -> u64
-    ensures { result ≡ word }
-{
-    word as u64
-}
 
 // 2. Whole rows, 1 to 32?
 pub fn question_2(groups: &[u8]) -> Checked
     ensures { said result ≡ q2 groups.now }
 {
-    answer::ask(2, 0, answer::whole(groups.len(), ROW_WIDTH, GROUP_LIMIT))
+    answer::ask(
+        Question::GroupsLength,
+        0,
+        answer::whole(groups.len(), ROW_WIDTH, GROUP_LIMIT),
+    )
 }
 
 // Has row g no bit at or past the row count?
@@ -30,7 +28,7 @@ fn within_table(groups: &[u8], g: usize) -> bool
     requires { rows groups.now ≤ group_limit }
     ensures { result ≡ ok3 groups.now g }
 {
-    wide(lattice::row(groups, g)) >> lattice::row_count(groups) == 0
+    u64::from(lattice::row(groups, g)) >> lattice::row_count(groups) == 0
 }
 
 // 3. No bit at or past the row count?
@@ -39,14 +37,7 @@ pub fn question_3(groups: &[u8]) -> Checked
     ensures { said result ≡ q3 groups.now }
 {
     let n = lattice::row_count(groups);
-    let mut g: usize = 0;
-    while g < n {
-        if !within_table(groups, g) {
-            return Checked::Refused(3, g);
-        }
-        g += 1;
-    }
-    Checked::Passed
+    answer::each(Question::BitsInTable, n, |g| within_table(groups, g))
 }
 
 // Is g the lowest bit of row g?
@@ -54,7 +45,7 @@ fn lowest_is_own(groups: &[u8], g: usize) -> bool
     requires { g < group_limit }
     ensures { result ≡ ok4 groups.now g }
 {
-    u32::trailing_zeros(lattice::row(groups, g)) as usize == g
+    lattice::row(groups, g).trailing_zeros() as usize == g
 }
 
 // 4. Is g the lowest bit of row g?
@@ -63,14 +54,7 @@ pub fn question_4(groups: &[u8]) -> Checked
     ensures { said result ≡ q4 groups.now }
 {
     let n = lattice::row_count(groups);
-    let mut g: usize = 0;
-    while g < n {
-        if !lowest_is_own(groups, g) {
-            return Checked::Refused(4, g);
-        }
-        g += 1;
-    }
-    Checked::Passed
+    answer::each(Question::LowestBit, n, |g| lowest_is_own(groups, g))
 }
 
 // Is the row of `above` within row g, if g ⊑ `above`?
@@ -89,14 +73,7 @@ fn transitive_through(groups: &[u8], g: usize, above: usize) -> bool
 fn transitive(groups: &[u8], g: usize) -> bool
     ensures { result ≡ ok5 groups.now g }
 {
-    let mut above: usize = 0;
-    while above < GROUP_LIMIT {
-        if !transitive_through(groups, g, above) {
-            return false;
-        }
-        above += 1;
-    }
-    true
+    answer::all(GROUP_LIMIT, |above| transitive_through(groups, g, above))
 }
 
 // 5. Is row h within row g for every bit h of row g?
@@ -104,14 +81,7 @@ pub fn question_5(groups: &[u8]) -> Checked
     ensures { said result ≡ q5 groups.now }
 {
     let n = lattice::row_count(groups);
-    let mut g: usize = 0;
-    while g < n {
-        if !transitive(groups, g) {
-            return Checked::Refused(5, g);
-        }
-        g += 1;
-    }
-    Checked::Passed
+    answer::each(Question::Transitive, n, |g| transitive(groups, g))
 }
 
 // Are the bits common to both rows exactly the row of the lowest of them?
@@ -119,7 +89,7 @@ fn has_join(groups: &[u8], g: usize, other: usize) -> bool
     ensures { result ≡ pair6 groups.now g other }
 {
     let both = lattice::row(groups, g) & lattice::row(groups, other);
-    both != 0 && lattice::row(groups, u32::trailing_zeros(both) as usize) == both
+    both != 0 && lattice::row(groups, both.trailing_zeros() as usize) == both
 }
 
 // Question 6 of row g.
@@ -127,14 +97,7 @@ fn has_joins(groups: &[u8], g: usize) -> bool
     ensures { result ≡ ok6 groups.now g }
 {
     let n = lattice::row_count(groups);
-    let mut other: usize = 0;
-    while other < n {
-        if !has_join(groups, g, other) {
-            return false;
-        }
-        other += 1;
-    }
-    true
+    answer::all(n, |other| has_join(groups, g, other))
 }
 
 // 6. For each pair g, h, are the bits common to both rows exactly the row of the lowest of them?
@@ -142,54 +105,41 @@ pub fn question_6(groups: &[u8]) -> Checked
     ensures { said result ≡ q6 groups.now }
 {
     let n = lattice::row_count(groups);
-    let mut g: usize = 0;
-    while g < n {
-        if !has_joins(groups, g) {
-            return Checked::Refused(6, g);
-        }
-        g += 1;
-    }
-    Checked::Passed
+    answer::each(Question::Joins, n, |g| has_joins(groups, g))
 }
 
 // 7. Has row 0 all bits?
 pub fn question_7(groups: &[u8]) -> Checked
     ensures { said result ≡ q7 groups.now }
 {
-    let n = lattice::row_count(groups);
     let lowest = lattice::row(groups, 0);
-    let mut h: usize = 0;
-    while h < n {
-        if !lattice::bit(lowest, h) {
-            return Checked::Refused(7, 0);
-        }
-        h += 1;
-    }
-    Checked::Passed
+    let all = answer::all(lattice::row_count(groups), |h| lattice::bit(lowest, h));
+    answer::ask(Question::LowestGroup, 0, all)
 }
 
 // Questions 2 to 7, in order: the first refusal is passed on.
+#[tactic(auto, using(answer::proofs::Passed::then_asked, answer::proofs::Passed::stopped), unfolding(rules::specs::Calls::groups_check))]
 pub fn groups_check(groups: &[u8]) -> Checked
     ensures { said result ≡ groups_check groups.now }
 {
     let a2 = question_2(groups);
-    let Checked::Passed = a2 else {
+    let Ok(()) = a2 else {
         return a2;
     };
     let a3 = question_3(groups);
-    let Checked::Passed = a3 else {
+    let Ok(()) = a3 else {
         return a3;
     };
     let a4 = question_4(groups);
-    let Checked::Passed = a4 else {
+    let Ok(()) = a4 else {
         return a4;
     };
     let a5 = question_5(groups);
-    let Checked::Passed = a5 else {
+    let Ok(()) = a5 else {
         return a5;
     };
     let a6 = question_6(groups);
-    let Checked::Passed = a6 else {
+    let Ok(()) = a6 else {
         return a6;
     };
     question_7(groups)

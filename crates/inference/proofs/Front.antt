@@ -1,13 +1,8 @@
 -- What a list that starts with a type has at its front.
-use mathlib.Core.Path.{◌≡◌, refl, sym, ap, ◌∙◌, subst}
-use mathlib.Core.Bool.{Bool, true, false}
-use mathlib.Core.List.{◌++◌}
-use Prim.Native.Nat.{ℕ, ◌+◌, ◌-◌, ◌*◌, ◌≤◌}
-use native.Mathlib.Omega.{arith}
-use lib.ListN.{length, take, drop, length-append, length-drop}
-use lib.Seq.{take_at}
+use Rattle.std.proofs.Common.{◌≡◌, refl, sym, ap, ◌∙◌, subst, ◌++◌, ℕ, ◌+◌, ◌-◌, ◌*◌, ◌≤◌, arith, length, take, drop, length-append, length-drop, take_at}
 use Rattle.calculus.specs.Security.{Indirect, Security}
 use Rattle.calculus.specs.Types.{Ty, one, node, size_t, raise_t}
+use Rattle.calculus.specs.Terms.{Side, first, second}
 use Rattle.rules.specs.Limits.{type_width}
 use Rattle.rules.specs.Answer.{Bytes}
 use Rattle.rules.specs.Types.{encode_type}
@@ -53,9 +48,9 @@ module _ {l : Bytes} (t : Ty) (n : kind_of t ≡ 0 → ⊥) (h : Held l t) where
   pub held_right : (m : ℕ) → m ≡ size_t (left_of t) → Held (drop (type_width + type_width * m) l) (right t)
   held_right m e = subst (λ u. Held (drop (type_width + type_width * m) l) u) (sym (right_is t n)) (right_held t m n e h)
 
-pub side_small : (d : Bool) (t : Ty) → (kind_of t ≡ 0 → ⊥) → size_t (side_of d t) ≤ size_t t
-side_small true t n = omega (arith, sides_size t n)
-side_small false t n = omega (arith, sides_size t n)
+pub side_small : (d : Side) (t : Ty) → (kind_of t ≡ 0 → ⊥) → size_t (side_of d t) ≤ size_t t
+side_small first t n = omega (arith, sides_size t n)
+side_small second t n = omega (arith, sides_size t n)
 
 -- the sides' bytes
 pub sides_bytes : (w : Bytes) (t : Ty) → Held w t → (kind_of t ≡ 0 → ⊥) → take (type_width * (size_t t - 1)) (drop type_width w) ≡ encode_type (left t) ++ encode_type (right t)

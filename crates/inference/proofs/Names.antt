@@ -1,10 +1,5 @@
 -- The types that a formed node names.
-use mathlib.Core.Path.{◌≡◌, sym, ap, ◌∙◌, subst}
-use mathlib.Core.Bool.{false, ◌&&◌}
-use Prim.Native.Nat.{ℕ, suc, ◌+◌, ◌*◌, ◌<◌}
-use native.Mathlib.Omega.{arith}
-use lib.Dec.{eqb}
-use lib.Seq.{get_or-drop}
+use Rattle.std.proofs.Common.{◌≡◌, sym, ap, ◌∙◌, subst, false, ◌&&◌, ℕ, suc, ◌+◌, ◌*◌, ◌<◌, ◌≤◌, length, drop, arith, eqb, get_or-drop}
 use Rattle.calculus.specs.Security.{Property}
 use Rattle.calculus.specs.Types.{sum, function}
 use Rattle.calculus.specs.Typing.{finds_own}
@@ -16,23 +11,30 @@ use Rattle.rules.specs.Script.{number, own_at}
 use Rattle.records.specs.Kinds as kinds
 use Rattle.types.specs.Held.{kind_of}
 use Rattle.inference.specs.Operands.{Formed}
-use Rattle.inference.specs.Memory.{Table, Named, NamedSided}
+use Rattle.inference.specs.Memory.{Slot, Table, SlotType, SlotSided}
 use Rattle.inference.specs.Stages.{Case}
 use Rattle.types.proofs.Parts.{kind_is}
 
-pub named : {types : Bytes} {i : ℕ} → Table types → i < type_count types → Named types i
-named {types} {i} t l = record { type = type_at types i; slot = t.entry i l; within = omega arith }
+-- the type that a number names, in the part of the table that starts with it
+pub within : (types : Bytes) (i : ℕ) → i < type_count types → type_width * i ≤ length types
+within types i h = omega arith
+
+pub named_slot : {types l : Bytes} {i : ℕ} → Table types → i < type_count types → l ≡ drop (type_width * i) types → Slot l (type_at types i)
+named_slot {i = i} t h e = rw e (t.entry i h)
+
+pub named : {types l : Bytes} {i : ℕ} → Table types → i < type_count types → l ≡ drop (type_width * i) types → SlotType l
+named {types} {l} {i} t h e = record { type = type_at types i; slot = named_slot t h e }
 
 pub kind_at : {types : Bytes} {i : ℕ} → Table types → i < type_count types → type_kind types i ≡ kind_of (type_at types i)
 kind_at {types} {i} t l =
     let z : type_width * i ≡ type_width * i + 0 = omega arith in
     ap (byte types) z ∙ sym (get_or-drop (type_width * i) types 0 0) ∙ kind_is (type_at types i) (t.entry i l).held
 
-pub named_sided : {types : Bytes} {i k : ℕ} → Table types → i < type_count types → type_kind types i ≡ suc k → NamedSided types i
-named_sided {types} {i} t l q =
-    let e = kind_at t l in
+pub named_sided : {types l : Bytes} {i k : ℕ} → Table types → i < type_count types → type_kind types i ≡ suc k → l ≡ drop (type_width * i) types → SlotSided l
+named_sided {types} {l} {i} t h q e =
+    let k = kind_at t h in
     let two : kind_of (type_at types i) ≡ 0 → ⊥ = λ z. omega arith in
-    record { type = type_at types i; slot = t.entry i l; within = omega arith; two = two }
+    record { type = type_at types i; slot = named_slot t h e; two = two }
 
 module _ (t : Bytes) (b i : ℕ) (e : Term) (f : Formed t b e) where
   pub lam_index : {k : Property} {a : Term} → e ≡ lam k i a → i < type_count t

@@ -1,10 +1,6 @@
 -- The regions of the work buffer: front, middle, slots.
-use mathlib.Core.Path.{◌≡◌, refl, sym, ap, ◌∙◌, subst}
-use mathlib.Core.List.{List, [], ◌∷◌, ◌++◌, append-nil, append_assoc}
-use Prim.Native.Nat.{ℕ, zero, suc, ◌+◌, ◌-◌, ◌*◌, ◌≤◌, ◌<◌}
-use native.Mathlib.Omega.{arith}
-use lib.ListN.{length, take, drop, get_or, length-append, length-drop, take-append-drop, drop_of_length-le}
-use lib.Seq.{drop_at, drop-drop, take-append-le, take-take, length-take-le}
+use Rattle.std.proofs.Common.{Result, ◌≡◌, refl, sym, ap, ◌∙◌, subst, List, [], ◌∷◌, ◌++◌, append-nil, append_assoc, ℕ, zero, suc, ◌+◌, ◌-◌, ◌*◌, ◌≤◌, ◌<◌, arith, length, take, drop, get_or, length-append, length-drop, take-append-drop, drop_of_length-le, drop_at, drop-drop, take-take, length-take-le}
+use Rattle.std.proofs.Math.Seq.{take-append-le}
 use borrow.Rule.Slice.PartMut.{put_mid}
 use Rattle.calculus.specs.Types.{Ty, size_t, type_limit}
 use Rattle.rules.specs.Limits.{answer_length, type_width}
@@ -12,10 +8,10 @@ use Rattle.rules.specs.Answer.{Bytes, Answer}
 use Rattle.rules.specs.Types.{encode_type, no_type}
 use Rattle.rules.specs.Typing.{left, right}
 use Rattle.types.specs.Held.{Held, kind_of}
+use Rattle.answer.specs.declared.Refusal.{Refusal}
 use Rattle.memory.specs.Splice.{splice}
 use Rattle.memory.proofs.Laws.{length_splice, drop_past, drop_before}
 use Rattle.inference.specs.Memory.{high, Slot, Sized, Holds, Wrote, Meets, finds, refuses, Entered, Beside}
-use Rattle.inference.specs.declared.Found.{Found}
 use Rattle.inference.proofs.Front.{held_take, sides_size}
 use Rattle.types.proofs.Parts.{type_length}
 
@@ -127,7 +123,7 @@ pub stayed : {Γ : List Ty} {b : ℕ} {w : Bytes} → length Γ ≡ b → Holds 
 stayed {Γ} {b} {w} m h = record { least = omega arith; holds = subst (λ j. Holds Γ (high j w)) (sym m) h; kept = refl }
 
 -- a buffer whose slots are those of another
-pub rebase : {o : Answer Ty} {b : ℕ} {w w' : Bytes} {x : Found} {v : Bytes} → high b w' ≡ high b w → Meets o b w' x v → Meets o b w x v
+pub rebase : {o : Answer Ty} {b : ℕ} {w w' : Bytes} {x : Result ℕ Refusal} {v : Bytes} → high b w' ≡ high b w → Meets o b w' x v → Meets o b w x v
 rebase e (finds m) = finds (record { sized = m.sized; kept = m.kept ∙ e })
 rebase e refuses = refuses
 

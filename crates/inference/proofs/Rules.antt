@@ -1,15 +1,8 @@
 -- What the rule functions ask, and what they leave in the work buffer.
-use mathlib.Core.Path.{◌≡◌, refl, sym, ap, ◌∙◌, subst}
-use mathlib.Core.Bool.{Bool, true, false, cond}
-use mathlib.Core.List.{List, ◌++◌}
-use Prim.Native.Nat.{ℕ, ◌+◌, ◌*◌, ◌≤◌, ◌<◌}
-use native.Mathlib.Omega.{arith}
-use borrow.Author.Tests.{le-leb, lt-leb}
-use lib.ListN.{length, drop, length-append}
-use lib.Seq.{drop_at}
+use Rattle.std.proofs.Common.{◌≡◌, refl, sym, ap, ◌∙◌, subst, Bool, true, false, cond, leb, leb-true, Result, Ok, Err, IsErrAnd, List, ◌++◌, ℕ, ◌+◌, ◌*◌, ◌≤◌, ◌<◌, arith, length, drop, length-append, drop_at}
 use Rattle.calculus.specs.Security.{Property, Indirect, Security}
 use Rattle.calculus.specs.Types.{Former, sum, product, function, Ty, one, node, size_t, same, top, raise_t, type_limit}
-use Rattle.calculus.specs.Subtyping.{subtype, below}
+use Rattle.calculus.specs.Subtyping.{below}
 use Rattle.calculus.specs.Common.{common}
 use Rattle.calculus.specs.Typing.{finds_own}
 use Rattle.rules.specs.Limits.{answer_length, type_width}
@@ -19,41 +12,23 @@ use Rattle.rules.specs.Typing.{has_form, left, right, q21, q22, q24, q22_of_bran
 use Rattle.types.specs.Held.{kind_of}
 use Rattle.memory.specs.Splice.{splice}
 use Rattle.memory.proofs.Laws.{join_before, join_after}
+use Rattle.answer.specs.Numbers.{number}
 use Rattle.answer.specs.Said.{said}
-use Rattle.answer.specs.declared.Checked.{Checked}
-use Rattle.answer.specs.declared.Checked.TheVariants as checked
-use Rattle.inference.specs.Memory.{Sized, Wrote, Meets, finds, refuses, Entered, Enters, refusal}
-use Rattle.inference.specs.Stages.{wanting, may_read, function_type, pair_type, result_type, case_type}
-use Rattle.inference.specs.declared.Found.{Found}
-use Rattle.inference.specs.declared.Found.TheVariants.{Typed, Refused}
+use Rattle.answer.specs.declared.Refusal.{Refusal}
+use Rattle.inference.specs.Memory.{Sized, Wrote, Meets, finds, refuses, Entered, Enters}
+use Rattle.inference.specs.Stages.{may_read, result_type, case_type}
 use Rattle.inference.proofs.Front.{size_raised}
 use Rattle.types.proofs.Parts.{type_length}
 use Rattle.inference.proofs.Regions.{high_past, wrote_first}
 
--- question 22
-pub wanting_yes : (S : Security) (p : ℕ) (t u x : Ty) → true ≡ subtype S below t u → wanting S p t u x ≡ accepted x
-wanting_yes S p t u x e = ap (λ q. ◌>>◌ (ask 22 p q) (accepted x)) (sym e)
-
-pub wanting_no : (S : Security) (p : ℕ) (t u x : Ty) → false ≡ subtype S below t u → wanting S p t u x ≡ refused 22 p
-wanting_no S p t u x e = ap (λ q. ◌>>◌ (ask 22 p q) (accepted x)) (sym e)
-
 -- of a case's branches, and its result type
 module _ (S : Security) (p : ℕ) (tab : ℕ → Ty) (i : ℕ) (t u : Ty) where
-  pub branch_own : finds_own i ≡ true → q22_of_branch S p tab i t ≡ accepted tt
-  branch_own e = ap (λ b. cond b (accepted tt) (q22 S p t (tab i))) e
-
-  pub branch_named : finds_own i ≡ false → q22_of_branch S p tab i t ≡ q22 S p t (tab i)
-  branch_named e = ap (λ b. cond b (accepted tt) (q22 S p t (tab i))) e
-
   result_as : (b : Bool) → finds_own i ≡ b
       → result_type S tab p i t u ≡ ◌>>◌ (cond b (accepted tt) (q22 S p u (tab i))) (cond b (found_or p (common S below t u)) (accepted (tab i)))
   result_as b e = ap (λ b. ◌>>◌ (cond b (accepted tt) (q22 S p u (tab i))) (cond b (found_or p (common S below t u)) (accepted (tab i)))) e
 
   pub result_own : finds_own i ≡ true → result_type S tab p i t u ≡ found_or p (common S below t u)
   result_own e = result_as true e
-
-  pub result_named : finds_own i ≡ false → result_type S tab p i t u ≡ wanting S p u (tab i) (tab i)
-  result_named e = result_as false e
 
   pub case_raises : (by : Indirect) → case_type S tab p i t u by ≡ ◌>>=◌ (result_type S tab p i t u) (λ r. accepted (raise_t S r by))
   case_raises by = go (q22_of_branch S p tab i u)
@@ -119,8 +94,8 @@ module _ (S : Security) (p : ℕ) (f : Former) (t : Ty) (w : ℕ) where
   pub reads_20 : (kind_of t ≡ former_kind f → ⊥) → may_read S p f t w ≡ refused 20 p
   reads_20 n = ap (λ q. ◌>>◌ (ask 20 p q) (q21 S p t w)) (form_no f t n)
 
-  pub reads_21 : kind_of t ≡ former_kind f → (b : Bool) → S.permits (top t) w ≡ b → may_read S p f t w ≡ ask 21 p b
-  reads_21 e b q = ap (λ x. ◌>>◌ (ask 20 p x) (q21 S p t w)) (form_yes f t e) ∙ ap (ask 21 p) q
+  pub reads_21 : kind_of t ≡ former_kind f → may_read S p f t w ≡ q21 S p t w
+  reads_21 e = ap (λ x. ◌>>◌ (ask 20 p x) (q21 S p t w)) (form_yes f t e)
 
   form_cases : (a b : Bool) → ◌>>◌ (ask 20 p a) (ask 21 p b) ≡ accepted tt → a ≡ true
   form_cases true b e = refl
@@ -132,7 +107,7 @@ module _ (S : Security) (p : ℕ) (f : Former) (t : Ty) (w : ℕ) where
   pub read_two : may_read S p f t w ≡ accepted tt → kind_of t ≡ 0 → ⊥
   read_two e z = former_not_unit f (sym (read_kind e) ∙ z)
 
-pub meets_of : {o o' : Answer Ty} {b : ℕ} {w : Bytes} {x : Found} {v : Bytes} → o ≡ o' → Meets o' b w x v → Meets o b w x v
+pub meets_of : {o o' : Answer Ty} {b : ℕ} {w : Bytes} {x : Result ℕ Refusal} {v : Bytes} → o ≡ o' → Meets o' b w x v → Meets o b w x v
 meets_of {b = b} {w = w} {x = x} {v = v} e m = subst (λ y. Meets y b w x v) (sym e) m
 
 -- question 24
@@ -140,12 +115,15 @@ pub node_size : (f : Former) (k : Property) (s t : Ty) → size_t (node f k s t)
 unfolding size_t
 node_size f k s t = refl
 
-pub fits_yes : (p : ℕ) (f : Former) (k : Property) (s t : Ty) → size_t s + size_t t < type_limit
-    → ◌>>◌ (q24 p (node f k s t)) (accepted (node f k s t)) ≡ accepted (node f k s t)
-fits_yes p f k s t l = ap (λ q. ◌>>◌ (ask 24 p q) (accepted (node f k s t))) (le-leb (size_t (node f k s t)) type_limit (omega (arith, node_size f k s t)))
+pub in_limit : (q p : ℕ) {n : ℕ} → accepted tt ≡ ask q p (leb n type_limit) → n ≤ type_limit
+in_limit q p {n} e = leb-true n type_limit (yes (leb n type_limit) e)
+  where
+    yes : (b : Bool) → accepted tt ≡ ask q p b → b ≡ true
+    yes true e = refl
+    yes false e = let z : ◌≡◌ {A = ℕ} 0 1 = cc in absurd (omega arith)
 
-pub fits_no : (p : ℕ) (f : Former) (k : Property) (s t : Ty) → type_limit ≤ size_t s + size_t t → ◌>>◌ (q24 p (node f k s t)) (accepted (node f k s t)) ≡ refused 24 p
-fits_no p f k s t l = ap (λ q. ◌>>◌ (ask 24 p q) (accepted (node f k s t))) (lt-leb (size_t (node f k s t)) type_limit (omega (arith, node_size f k s t)))
+pub asks_24 : (p n : ℕ) (f : Former) (k : Property) (s t : Ty) → n ≡ 1 + (size_t s + size_t t) → ask 24 p (leb n type_limit) ≡ q24 p (node f k s t)
+asks_24 p n f k s t e = ap (λ j. ask 24 p (leb j type_limit)) (e ∙ sym (node_size f k s t))
 
 -- a record before two types
 node_front : (f : Former) (k : Property) (s t : Ty) (w w₂ w₃ : Bytes) → type_width + (type_width * size_t s + type_width * size_t t) ≤ length w
@@ -156,7 +134,7 @@ node_front f k s t w w₂ w₃ l e₂ e₃ =
     let m : length (encode_type s ++ encode_type t) ≡ type_width * size_t s + type_width * size_t t = length-append (encode_type s) (encode_type t) ∙ omega (arith, type_length s, type_length t) in
     e₃ ∙ ap (splice 0 (type_record (former_kind f) k)) e₂ ∙ join_before 0 (type_record (former_kind f) k) (encode_type s ++ encode_type t) w (omega (arith, m))
 
-module _ (p : ℕ) (k : Property) (m n : ℕ) (s t : Ty) {b : ℕ} {w y x : Bytes} (f : size_t s + size_t t < type_limit) (em : m ≡ size_t s) (en : n ≡ size_t t)
+module _ (k : Property) (m n : ℕ) (s t : Ty) {b : ℕ} {w y x : Bytes} (f : size_t s + size_t t < type_limit) (em : m ≡ size_t s) (en : n ≡ size_t t)
     (ex : x ≡ encode_type s) (ey : y ≡ encode_type t) (l : answer_length * (b + 1) ≤ length w) where
   placed : {w₂ w₃ : Bytes} (c : Former) → w₂ ≡ splice type_width (encode_type s ++ encode_type t) w → w₃ ≡ splice 0 (type_record (former_kind c) k) w₂
       → Wrote (node c k s t) b w (m + n + 1) w₃
@@ -166,7 +144,7 @@ module _ (p : ℕ) (k : Property) (m n : ℕ) (s t : Ty) {b : ℕ} {w y x : Byte
 
   -- the second type is moved first
   pub function_meets : {w₁ w₂ w₃ : Bytes} → w₁ ≡ splice (type_width + type_width * m) y w → w₂ ≡ splice type_width x w₁ → w₃ ≡ splice 0 (type_record (former_kind function) k) w₂
-      → Meets (function_type p k s t) b w (Typed (m + n + 1)) w₃
+      → Meets (accepted (node function k s t)) b w (Ok (m + n + 1)) w₃
   function_meets {w₁} {w₂} {w₃} e₁ e₂ e₃ =
       let ls : length (encode_type s) ≡ type_width * size_t s = type_length s in
       let lt : length (encode_type t) ≡ type_width * size_t t = type_length t in
@@ -175,11 +153,11 @@ module _ (p : ℕ) (k : Property) (m n : ℕ) (s t : Ty) {b : ℕ} {w y x : Byte
       e₂ ∙ ap (λ u. splice type_width u w₁) ex
       ∙ ap (splice type_width (encode_type s)) (e₁ ∙ ap (λ u. splice (type_width + type_width * m) u w) ey ∙ ap (λ j. splice j (encode_type t) w) a)
       ∙ join_before type_width (encode_type s) (encode_type t) w (omega arith) in
-      meets_of (fits_yes p function k s t f) (finds (placed function z₂ e₃))
+      finds (placed function z₂ e₃)
 
   -- the first one is
   pub pair_meets : {w₁ w₂ w₃ : Bytes} → w₁ ≡ splice type_width x w → w₂ ≡ splice (type_width + type_width * m) y w₁ → w₃ ≡ splice 0 (type_record (former_kind product) k) w₂
-      → Meets (pair_type p k s t) b w (Typed (m + n + 1)) w₃
+      → Meets (accepted (node product k s t)) b w (Ok (m + n + 1)) w₃
   pair_meets {w₁} {w₂} {w₃} e₁ e₂ e₃ =
       let ls : length (encode_type s) ≡ type_width * size_t s = type_length s in
       let lt : length (encode_type t) ≡ type_width * size_t t = type_length t in
@@ -188,7 +166,7 @@ module _ (p : ℕ) (k : Property) (m n : ℕ) (s t : Ty) {b : ℕ} {w y x : Byte
       e₂ ∙ ap (λ u. splice (type_width + type_width * m) u w₁) ey ∙ ap (λ j. splice j (encode_type t) w₁) a
       ∙ ap (splice (type_width + length (encode_type s)) (encode_type t)) (e₁ ∙ ap (λ u. splice type_width u w) ex)
       ∙ join_after type_width (type_width + length (encode_type s)) (encode_type s) (encode_type t) w refl (omega arith) in
-      meets_of (fits_yes p product k s t f) (finds (placed product z₂ e₃))
+      finds (placed product z₂ e₃)
 
 -- another record before the sides of a type
 pub other_record : (u : Ty) (k : Property) (w : Bytes) → (kind_of u ≡ 0 → ⊥)
@@ -227,36 +205,29 @@ pub record TypedAs (o : Answer Ty) (b : ℕ) (w : Bytes) (n : ℕ) (v : Bytes) :
   pub is : o ≡ accepted type
   pub wrote : Wrote type b w n v
 
-pub typed_as : {o : Answer Ty} {b : ℕ} {w : Bytes} {x : Found} {n : ℕ} {v : Bytes} → x ≡ Typed n → Meets o b w x v → TypedAs o b w n v
-typed_as {n = n} e (finds {t = t} {b = b} {w = w} {n = m} {w' = v} h) =
-    let q : m ≡ n = cc in
-    record { type = t; is = refl; wrote = subst (λ j. Wrote t b w j v) q h }
-typed_as e (refuses {q} {p}) = let z : ◌≡◌ {A = ℕ} 0 1 = cc in absurd (omega arith)
+pub typed_as : {o : Answer Ty} {b : ℕ} {w : Bytes} {n : ℕ} {v : Bytes} → Meets o b w (Ok n) v → TypedAs o b w n v
+typed_as (finds {t = t} h) = record { type = t; is = refl; wrote = h }
 
 -- a refusal is passed on
-pub refused_as : {o : Answer Ty} {b : ℕ} {w : Bytes} {x : Found} {v : Bytes} → ((n : ℕ) → x ≡ Typed n → ⊥) → Meets o b w x v → (q : ℕ) × (p : ℕ) × (o ≡ refused q p) × (x ≡ Refused q p)
-refused_as e (finds {n = n} m) = absurd (e n refl)
-refused_as e (refuses {q = q} {p = p}) = (q, p, refl, refl)
+pub refused_as : {o : Answer Ty} {b : ℕ} {w : Bytes} {e : Refusal} {v : Bytes} → Meets o b w (Err e) v → o ≡ refused (number e.question) e.place
+refused_as refuses = refl
 
-pub refused_meets : {o : Answer Ty} {q p b : ℕ} {w v : Bytes} {x : Found} → o ≡ refused q p → x ≡ Refused q p → Meets o b w x v
-refused_meets {o} {q} {p} {b} {w} {v} {x} e f = subst (λ y. Meets o b w y v) (sym f) (meets_of e refuses)
+-- what `?` returns then
+pub refused_meets : {o : Answer Ty} {b : ℕ} {w v : Bytes} {x : Result ℕ Refusal} (e : Refusal) → o ≡ refused (number e.question) e.place → IsErrAnd x (λ y. y ≡ e) → Meets o b w x v
+refused_meets {x = Ok n} e h p = absurd p
+refused_meets {b = b} {w = w} {v = v} {x = Err y} e h p = subst (λ z. Meets z b w (Err y) v) (sym (h ∙ ap (λ (z : Refusal). refused (number z.question) z.place) (sym p))) refuses
 
 -- ---- questions
 
--- a refusal, where a type was to be found
-pub refused_says : (x : Checked) {y : Found} (a : Answer (Unit {0})) → (x ≡ checked.Passed → ⊥) → said x ≡ a → y ≡ refusal x → (q : ℕ) × (p : ℕ) × (a ≡ refused q p) × (y ≡ Refused q p)
-refused_says checked.Passed a n e f = absurd (n refl)
-refused_says (checked.Refused q p) a n e f = (q, p, sym e, f)
+-- one answered yes, and what is found then
+pub passed : {a : Answer (Unit {0})} {o : Answer Ty} {b : ℕ} {w : Bytes} {x : Result ℕ Refusal} {v : Bytes} → accepted tt ≡ a → Meets o b w x v → Meets (◌>>◌ a o) b w x v
+passed {o = o} {b = b} {w = w} {x = x} {v = v} e m = subst (λ y. Meets (◌>>◌ y o) b w x v) e m
 
-pub refused_found : (x : Checked) {y : Found} (a : Answer (Unit {0})) (k : Answer Ty) {b : ℕ} {w v : Bytes} → (x ≡ checked.Passed → ⊥) → said x ≡ a → y ≡ refusal x → Meets (◌>>◌ a k) b w y v
-refused_found x a k n e f = let z = refused_says x a n e f in refused_meets (ap (λ o. ◌>>◌ o k) z.2) z.3
+-- one answered no
+pub stopped : {a : Answer (Unit {0})} (o : Answer Ty) {b : ℕ} {w v : Bytes} {x : Result ℕ Refusal} (e : Refusal) → said {A = Unit {0}} (Err e) ≡ a → IsErrAnd x (λ y. y ≡ e) → Meets (◌>>◌ a o) b w x v
+stopped o e h p = refused_meets e (ap (λ y. ◌>>◌ y o) (sym h)) p
 
--- a refusal is no yes
-pub not_yes : (x : Checked) (a : Answer (Unit {0})) → (x ≡ checked.Passed → ⊥) → said x ≡ a → a ≡ accepted tt → ⊥
-not_yes checked.Passed a n e f = n refl
-not_yes (checked.Refused q p) a n e f = let z : ◌≡◌ {A = ℕ} 0 1 = cc in omega arith
-
-module _ {A : Answer (Unit {0})} {Γ Γ' : List Ty} {b : ℕ} {w : Bytes} {x : Checked} {w' : Bytes} where
+module _ {A : Answer (Unit {0})} {Γ Γ' : List Ty} {b : ℕ} {w : Bytes} {x : Result (Unit {0}) Refusal} {w' : Bytes} where
   -- the next operand's context is there
   pub enters_as : said x ≡ A → Γ ≡ Γ' → Entered Γ' b w w' → Enters A Γ b w x w'
   enters_as e f h = record { says = e; entered = λ _. subst (λ g. Entered g b w w') (sym f) h }

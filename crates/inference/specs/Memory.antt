@@ -1,5 +1,5 @@
 -- The work buffer: the found type in front, the binders' types in slots at the high end, the nearest binder's lowest.
-use Rattle.std.specs.Prelude.{◌≡◌, List, ℕ, ◌+◌, ◌-◌, ◌*◌, ◌≤◌, ◌<◌, length, drop, get_or}
+use Rattle.std.specs.Prelude.{◌≡◌, List, ℕ, ◌+◌, ◌-◌, ◌*◌, ◌≤◌, ◌<◌, Result, Ok, Err, length, drop, get_or}
 use Rattle.calculus.specs.Types.{Ty, size_t, type_limit}
 use Rattle.calculus.specs.Terms.{Term}
 use Rattle.rules.specs.Answer.{Bytes, Answer, accepted, refused}
@@ -9,11 +9,9 @@ use Rattle.rules.specs.Script.{encode, size, depth}
 use Rattle.rules.specs.Typing.{left, right}
 use Rattle.types.specs.Held.{Held, kind_of}
 use Rattle.inference.specs.Operands.{Formed}
+use Rattle.answer.specs.Numbers.{number}
 use Rattle.answer.specs.Said.{said}
-use Rattle.answer.specs.declared.Checked.{Checked}
-use Rattle.answer.specs.declared.Checked.TheVariants as checked
-use Rattle.inference.specs.declared.Found.{Found}
-use Rattle.inference.specs.declared.Found.TheVariants.{Typed, Refused}
+use Rattle.answer.specs.declared.Refusal.{Refusal}
 
 -- the last b slots; each holds a type of the most records that there may be
 abbrev pub high : ℕ → Bytes → Bytes
@@ -45,9 +43,9 @@ pub record Wrote (t : Ty) (b : ℕ) (w : Bytes) (n : ℕ) (w' : Bytes) : Type 0 
   pub kept : high b w' ≡ high b w
 
 -- what a typing rule gives, against the answer and the buffer before and after
-pub data Meets : Answer Ty → ℕ → Bytes → Found → Bytes → Type 0 where
-  finds : {t : Ty} {b : ℕ} {w : Bytes} {n : ℕ} {w' : Bytes} → Wrote t b w n w' → Meets (accepted t) b w (Typed n) w'
-  refuses : {q p b : ℕ} {w w' : Bytes} → Meets (refused q p) b w (Refused q p) w'
+pub data Meets : Answer Ty → ℕ → Bytes → Result ℕ Refusal → Bytes → Type 0 where
+  finds : {t : Ty} {b : ℕ} {w : Bytes} {n : ℕ} {w' : Bytes} → Wrote t b w n w' → Meets (accepted t) b w (Ok n) w'
+  refuses : {e : Refusal} {b : ℕ} {w w' : Bytes} → Meets (refused (number e.question) e.place) b w (Err e) w'
 
 -- What a call of the checker is given: the context in b slots, the script part of one formed node, and a slot's room for each
 -- level below it.
@@ -69,14 +67,9 @@ pub record Entered (Γ : List Ty) (b : ℕ) (w w' : Bytes) : Type 0 where
   pub kept : high b w' ≡ high b w
 
 -- questions with no type of their own; if they are answered yes, the slots hold the next operand's context
-pub record Enters (asked : Answer (Unit {0})) (Γ : List Ty) (b : ℕ) (w : Bytes) (x : Checked) (w' : Bytes) : Type 0 where
+pub record Enters (asked : Answer (Unit {0})) (Γ : List Ty) (b : ℕ) (w : Bytes) (x : Result (Unit {0}) Refusal) (w' : Bytes) : Type 0 where
   pub says : said x ≡ asked
   pub entered : asked ≡ accepted tt → Entered Γ b w w'
-
--- a refused question, where a type was to be found
-abbrev pub refusal : Checked → Found
-refusal checked.Passed = Refused 0 0
-refusal (checked.Refused question place) = Refused question place
 
 -- a variable's slot
 pub record InScope (i b : ℕ) (w : Bytes) : Type 0 where
@@ -98,17 +91,15 @@ pub record Both (w : Bytes) : Type 0 where
   pub slot : Slot w first
   pub other : Held (drop answer_length w) second
 
--- a named type of the table
-pub record Named (types : Bytes) (i : ℕ) : Type 0 where
+-- a type in front that fits a slot, as each of the table's does
+pub record SlotType (l : Bytes) : Type 0 where
   pub type : Ty
-  pub slot : Slot (drop (type_width * i) types) type
-  pub within : type_width * i ≤ length types
+  pub slot : Slot l type
 
 -- with two sides
-pub record NamedSided (types : Bytes) (i : ℕ) : Type 0 where
+pub record SlotSided (l : Bytes) : Type 0 where
   pub type : Ty
-  pub slot : Slot (drop (type_width * i) types) type
-  pub within : type_width * i ≤ length types
+  pub slot : Slot l type
   pub two : kind_of type ≡ 0 → ⊥
 
 -- a case's slot b + 1 holds the two sides of the tested type, one after the other

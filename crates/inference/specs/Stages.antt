@@ -1,9 +1,9 @@
 -- The rules of `typing`, taken apart at the operands: what is asked before, between and after them.
-use Rattle.std.specs.Prelude.{◌≡◌, Bool, true, false, cond, List, ◌∷◌, ℕ, ◌+◌, ◌*◌, ◌≤◌, ◌<◌, length, get_or, drop}
+use Rattle.std.specs.Prelude.{◌≡◌, true, false, cond, List, ◌∷◌, ℕ, ◌+◌, ◌*◌, ◌≤◌, ◌<◌, length, get_or, drop}
 use Rattle.calculus.specs.Security.{Property, Indirect, Security}
 use Rattle.calculus.specs.Types.{Former, sum, product, function, Ty, one, node, top, raise_t}
 use Rattle.calculus.specs.Typing.{finds_own}
-use Rattle.calculus.specs.Terms.{first, second, Term, var, unit, lam, pair, inj, app, proj, case, protect, mu}
+use Rattle.calculus.specs.Terms.{Side, first, second, Term, var, unit, lam, pair, inj, app, proj, case, protect, mu}
 use Rattle.rules.specs.Answer.{Bytes, Answer, accepted, ◌>>=◌, ◌>>◌}
 use Rattle.rules.specs.Limits.{type_width, script_width, answer_length}
 use Rattle.rules.specs.Types.{no_type, type_count}
@@ -106,15 +106,15 @@ may_read S p f s w = do
   q21 S p s w
 
 -- the side that an injection or a projection names
-abbrev pub side_of : Bool → Ty → Ty
-side_of true t = right t
-side_of false t = left t
+abbrev pub side_of : Side → Ty → Ty
+side_of first t = left t
+side_of second t = right t
 
 -- a projection's type
-abbrev pub projection_type : Security → ℕ → ℕ → Bool → Ty → Answer Ty
-projection_type S p w other t = do
+abbrev pub projection_type : Security → ℕ → ℕ → Side → Ty → Answer Ty
+projection_type S p w d t = do
   may_read S p product t w
-  accepted (reads S t w (side_of other t))
+  accepted (reads S t w (side_of d t))
 
 -- one operand of type t
 unfoldable pub after_one : Security → (ℕ → Ty) → ℕ → Term → Ty → Answer Ty
@@ -122,11 +122,9 @@ after_one S tab p (var n) t = accepted t
 after_one S tab p (unit k) t = accepted t
 after_one S tab p (lam k i e) t = function_type p k (tab i) t
 after_one S tab p (pair k a b) t = accepted t
-after_one S tab p (inj first k i e) t = injection_type S p k (tab i) (side_of false (tab i)) t
-after_one S tab p (inj second k i e) t = injection_type S p k (tab i) (side_of true (tab i)) t
+after_one S tab p (inj d k i e) t = injection_type S p k (tab i) (side_of d (tab i)) t
 after_one S tab p (app w f a) t = accepted t
-after_one S tab p (proj first w e) t = projection_type S p w false t
-after_one S tab p (proj second w e) t = projection_type S p w true t
+after_one S tab p (proj d w e) t = projection_type S p w d t
 after_one S tab p (case w i e a b) t = accepted t
 after_one S tab p (protect m e) t = accepted (raise_t S t m)
 after_one S tab p (mu w i e) t = wanting S p t (tab i) (tab i)

@@ -1,22 +1,9 @@
 -- Bits of a number: those of its half, those common to two numbers, and the zeros below the lowest set one.
-use mathlib.Core.Path.{◌≡◌, refl, sym, ap, ◌∙◌}
-use mathlib.Core.Bool.{Bool, true, false, ◌&&◌, false≢true}
-use Prim.Native.Nat.{ℕ, zero, suc, ◌+◌, ◌/◌, ◌%◌, ◌^◌, ◌<◌, min}
-use native.Mathlib.Omega.{arith}
-use native.Mathlib.Nat.{div-one, mod-lt, zero-lt-suc}
-use native.Mathlib.Numerals.{one-add, add-one}
-use borrow.Author.Tests.{eq-eqb}
-use lib.Dec.{eqb}
+use Rattle.std.proofs.Common.{◌≡◌, refl, sym, ap, ◌∙◌, true, false, ◌&&◌, ℕ, zero, suc, ◌+◌, ◌/◌, ◌%◌, ◌^◌, ◌<◌, min, arith, div-one, mod-lt, zero-lt-suc, one-add, add-one, eq-eqb, eqb, shr-shr, shr_lt}
+use Rattle.std.proofs.Math.Bool.{false≢true}
 use lib.Bits.{bit_and, and_shr, and_step}
-use lib.Pow.{shr-shr, shr_lt}
 use lib.Count.{count_trailing_zeros, under}
 use Rattle.rules.specs.Groups.{bit}
-
--- two tests are the same where each gives the other
-pub same : (a b : Bool) → (a ≡ true → b ≡ true) → (b ≡ true → a ≡ true) → a ≡ b
-same true b f g = sym (f refl)
-same false true f g = g refl
-same false false f g = refl
 
 pub digit_lt : (x : ℕ) → x % 2 < 2
 digit_lt x = mod-lt x (zero-lt-suc 1)

@@ -1,10 +1,5 @@
 -- The bits of a word are its binary digits.
-use mathlib.Core.Path.{◌≡◌, refl, ap, ◌∙◌}
-use mathlib.Core.Bool.{Bool, true, false, cond}
-use Prim.Native.Nat.{ℕ, zero, suc, ◌+◌, ◌*◌, ◌/◌, ◌%◌, ◌^◌, ◌<◌}
-use native.Mathlib.Omega.{arith}
-use borrow.Author.Tests.{eq-eqb, ne_eqb}
-use lib.Dec.{eqb}
+use Rattle.std.proofs.Common.{◌≡◌, refl, ap, ◌∙◌, Bool, true, false, cond, ℕ, zero, suc, ◌+◌, ◌*◌, ◌/◌, ◌%◌, ◌^◌, ◌<◌, arith, eq-eqb, ne_eqb, eqb}
 use Rattle.rules.specs.Groups.{bit}
 use Rattle.lattice.proofs.Bits.{bit_suc, bit_zero, half_lt, digit_lt}
 use Rattle.lattice.specs.Digits.{word_of, BitsAreDigits}

@@ -1,32 +1,15 @@
 -- Rows as words: past the table, the lowest bit, the bits that two have in common.
-use mathlib.Core.Path.{◌≡◌, refl, sym, ap, ◌∙◌}
-use mathlib.Core.Bool.{Bool, true, false}
-use mathlib.Core.Option.{none, some}
-use Prim.Native.Nat.{ℕ, ◌+◌, ◌*◌, ◌/◌, ◌%◌, ◌^◌, ◌≤◌, ◌<◌}
-use native.Mathlib.Omega.{arith}
-use native.Mathlib.Nat.{div-eq_of_lt, zero-div, lt_of_lt_of_le, mod-lt, mod-eq_of_lt, one-mul, zero-lt-suc}
-use borrow.Author.Tests.{ltb-true, ltb-false, ne_eqb}
-use lib.Dec.{eqb, ltb}
-use lib.ListN.{get_or-eq_default}
+use Rattle.std.proofs.Common.{◌≡◌, refl, sym, ap, ◌∙◌, Bool, true, false, ℕ, ◌+◌, ◌*◌, ◌/◌, ◌%◌, ◌^◌, ◌≤◌, ◌<◌, arith, lt_of_lt_of_le, mod-lt, mod-eq_of_lt, one-mul, zero-lt-suc, ltb-true, ltb-false, ne_eqb, eqb, ltb, pow_mono}
+use Rattle.std.proofs.Math.Nat.{div-eq_of_lt, zero-div}
+use Rattle.std.proofs.Math.Option.{none, some}
+use Rattle.std.proofs.Math.Pow.{pow-lt}
 use lib.Bits.{bit_and, and_lt}
-use lib.Pow.{pow_pos, pow_mono, pow-lt}
 use lib.Count.{count_trailing_zeros, trailing_of_zero}
 use Rattle.rules.specs.Answer.{Bytes, first_below}
-use Rattle.rules.specs.Limits.{row_width, group_limit}
-use Rattle.rules.specs.Groups.{rows, row, bit, common, join, or_zero}
+use Rattle.rules.specs.Limits.{group_limit}
+use Rattle.rules.specs.Groups.{row, bit, common, join, or_zero}
 use Rattle.rules.proofs.Search.{from_none, from_some}
 use Rattle.lattice.proofs.Bits.{bit_of_and, trailing_set, trailing_clear, trailing_lt}
-
--- a row past the table
-pub row_past : (t : Bytes) (g : ℕ) → rows t < g → 0 ≡ row t g
-row_past t g l =
-    omega (
-      arith,
-      get_or-eq_default t 0 {n = row_width * g} (omega arith),
-      get_or-eq_default t 0 {n = row_width * g + 1} (omega arith),
-      get_or-eq_default t 0 {n = row_width * g + 2} (omega arith),
-      get_or-eq_default t 0 {n = row_width * g + 3} (omega arith),
-    )
 
 -- a word has 32 bits
 pub bit_past : (w h : ℕ) → w < 2 ^ 32 → 32 ≤ h → false ≡ bit w h
@@ -35,9 +18,6 @@ bit_past w h l m = sym (ap (λ (n : ℕ). eqb (n % 2) 1) (div-eq_of_lt (lt_of_lt
 -- a power of two below the 32nd, as a word
 power_word : (h : ℕ) → (1 * 2 ^ (h % 32)) % 2 ^ 32 ≡ 2 ^ (h % 32)
 power_word h = rw one-mul (mod-eq_of_lt (pow-lt (mod-lt h (zero-lt-suc 31))))
-
-pub power_pos : (h : ℕ) → 0 < (1 * 2 ^ (h % 32)) % 2 ^ 32
-power_pos h = rw (power_word h) (pow_pos (h % 32))
 
 -- The test that the code makes: the digit of weight 2 ^ (h % 32), held against 1 + h / 32, is bit h.
 pub bit_by_division : (w h : ℕ) → w < 2 ^ 32 → eqb (w / ((1 * 2 ^ (h % 32)) % 2 ^ 32) % 2) (1 + h / 32) ≡ bit w h

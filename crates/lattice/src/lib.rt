@@ -9,21 +9,98 @@ ghost use Rattle.rules.specs.Limits.{group_limit};
 ghost use Rattle.rules.specs.Groups.{rows, row, bit, leq, join, below_both, meet, properties_of};
 ghost use Rattle.lattice.specs.Said.{said_property, said_influence};
 
-// Readers and indirect readers, creators and indirect creators: four types, so that none is handed over in another's place.
-#[derive(Clone, Copy)]
+// A group, in one of the four places that it may have in a property: a type for each, so that none is handed over in another's place.
+pub trait Group: Copy {
+    ghost number: { Self → ℕ };
+
+    // The group of this number.
+    fn numbered(n: u8) -> Self
+        ensures { number result ≡ n };
+
+    fn number(self) -> u8
+        ensures { result ≡ number self };
+
+    // g ⊑ h
+    fn at_or_below(self, groups: &[u8], other: Self) -> bool
+        ensures { result ≡ leq groups.now (number self) (number other) }
+    {
+        leq(groups, self.number(), other.number())
+    }
+
+    // g ⊔ h
+    fn join(self, groups: &[u8], other: Self) -> Self
+        ensures { number result ≡ join groups.now (number self) (number other) }
+    {
+        Self::numbered(join(groups, self.number(), other.number()))
+    }
+}
+
+// Who may read an object.
+#[derive(Clone, Copy, Debug, PartialEq, Eq)]
 pub struct Reader(pub u8);
 
-#[derive(Clone, Copy)]
+// Who may be influenced by it.
+#[derive(Clone, Copy, Debug, PartialEq, Eq)]
 pub struct Indirect(pub u8);
 
-#[derive(Clone, Copy)]
+// Who made it.
+#[derive(Clone, Copy, Debug, PartialEq, Eq)]
 pub struct Creator(pub u8);
 
-#[derive(Clone, Copy)]
+// Who had an influence on it.
+#[derive(Clone, Copy, Debug, PartialEq, Eq)]
 pub struct IndirectCreator(pub u8);
 
-// The property of an object: who may read it and be influenced by it, who made it and had an influence on it.
-#[derive(Clone, Copy)]
+impl Group for Reader {
+    ghost number = { λ g. g.0 };
+
+    fn numbered(n: u8) -> Self {
+        Reader(n)
+    }
+
+    fn number(self) -> u8 {
+        self.0
+    }
+}
+
+impl Group for Indirect {
+    ghost number = { λ g. g.0 };
+
+    fn numbered(n: u8) -> Self {
+        Indirect(n)
+    }
+
+    fn number(self) -> u8 {
+        self.0
+    }
+}
+
+impl Group for Creator {
+    ghost number = { λ g. g.0 };
+
+    fn numbered(n: u8) -> Self {
+        Creator(n)
+    }
+
+    fn number(self) -> u8 {
+        self.0
+    }
+}
+
+impl Group for IndirectCreator {
+    ghost number = { λ g. g.0 };
+
+    fn numbered(n: u8) -> Self {
+        IndirectCreator(n)
+    }
+
+    fn number(self) -> u8 {
+        self.0
+    }
+}
+
+// The property of an object.
+#[derive(Clone, Copy, Debug, PartialEq, Eq)]
 pub struct Property {
     pub r: Reader,
     pub ir: Indirect,
@@ -32,7 +109,7 @@ pub struct Property {
 }
 
 // What a reading leaves on its result, and what a protect carries.
-#[derive(Clone, Copy)]
+#[derive(Clone, Copy, Debug, PartialEq, Eq)]
 pub struct Influence {
     pub ir: Indirect,
     pub ic: IndirectCreator,
@@ -43,20 +120,10 @@ pub const ROW_WIDTH: usize = 4;
 pub const GROUP_LIMIT: usize = 32;
 
 // Byte i, and 0 past the end, so that order, join and meet are total in the table's length.
-fn byte(groups: &[u8], i: usize) -> u32
-    ensures { (result ≡ byte groups.now i) × (result < 256) }
+fn byte(groups: &[u8], i: usize) -> u8
+    ensures { result ≡ byte groups.now i }
 {
-    if i < groups.len() {
-        groups[i] as u32
-    } else {
-        0
-    }
-}
-
-fn index(g: u8) -> usize
-    ensures { result ≡ g }
-{
-    g as usize
+    groups.get(i).copied().unwrap_or(0)
 }
 
 // How many whole rows the table has: a group is in the table when its number is below.
@@ -66,24 +133,13 @@ pub fn row_count(groups: &[u8]) -> usize
     groups.len() / ROW_WIDTH
 }
 
-// A byte of the table.
-fn octet(groups: &[u8], i: usize) -> u32
-    requires { i < length groups.now }
-    ensures { (result ≡ byte groups.now i) × (result < 256) }
-{
-    groups[i] as u32
-}
-
 // The row of a group of the table: its bytes are all there, so that they are read as one word.
 fn whole_row(groups: &[u8], g: usize) -> u32
     requires { g < rows groups.now }
     ensures { result ≡ row groups.now g }
 {
     let i = ROW_WIDTH * g;
-    octet(groups, i)
-        + 256 * octet(groups, i + 1)
-        + 65536 * octet(groups, i + 2)
-        + 16777216 * octet(groups, i + 3)
+    u32::from_le_bytes([groups[i], groups[i + 1], groups[i + 2], groups[i + 3]])
 }
 
 // The row of g, a little-endian word: a row cut short is read as far as it goes, and one past the table is 0.
@@ -97,10 +153,12 @@ pub fn row(groups: &[u8], g: usize) -> u32
         return 0;
     }
     let i = ROW_WIDTH * g;
-    byte(groups, i)
-        + 256 * byte(groups, i + 1)
-        + 65536 * byte(groups, i + 2)
-        + 16777216 * byte(groups, i + 3)
+    u32::from_le_bytes([
+        byte(groups, i),
+        byte(groups, i + 1),
+        byte(groups, i + 2),
+        byte(groups, i + 3),
+    ])
 }
 
 // Is bit h of a row set? Division by a power of two and remainder, with no branch: the same instructions for every row and every
@@ -116,18 +174,18 @@ pub fn bit(word: u32, h: usize) -> bool
 fn leq(groups: &[u8], g: u8, h: u8) -> bool
     ensures { result ≡ leq groups.now g h }
 {
-    bit(row(groups, index(g)), index(h))
+    bit(row(groups, usize::from(g)), usize::from(h))
 }
 
 // g ⊔ h, the lowest bit set in both rows; 0 where they have none in common.
 fn join(groups: &[u8], g: u8, h: u8) -> u8
     ensures { result ≡ join groups.now g h }
 {
-    let both = row(groups, index(g)) & row(groups, index(h));
+    let both = row(groups, usize::from(g)) & row(groups, usize::from(h));
     if both == 0 {
         return 0;
     }
-    u32::trailing_zeros(both) as u8
+    both.trailing_zeros() as u8
 }
 
 // How many rows a search over the groups goes through: past the table they are 0. A row cut short is one of them.
@@ -135,11 +193,7 @@ fn rows_to_search(groups: &[u8]) -> usize
     ensures { (result ≤ group_limit)
         × ((k : ℕ) → result ≤ k → k < group_limit → 0 ≡ row groups.now k) }
 {
-    let n = row_count(groups);
-    if n < GROUP_LIMIT {
-        return n + 1;
-    }
-    GROUP_LIMIT
+    (row_count(groups) + 1).min(GROUP_LIMIT)
 }
 
 // k ⊑ g and k ⊑ h. Most groups aren't below the first, so that the second is rarely asked.
@@ -147,7 +201,7 @@ fn below_both(groups: &[u8], k: usize, g: u8, h: u8) -> bool
     ensures { result ≡ below_both groups.now g h k }
 {
     let word = row(groups, k);
-    bit(word, index(g)) && bit(word, index(h))
+    bit(word, usize::from(g)) && bit(word, usize::from(h))
 }
 
 // g ⊓ h, the highest group ⊑ both; 0 where there is none. The groups below a group stand in its column, so this costs a pass down
@@ -155,9 +209,7 @@ fn below_both(groups: &[u8], k: usize, g: u8, h: u8) -> bool
 fn meet(groups: &[u8], g: u8, h: u8) -> u8
     ensures { result ≡ meet groups.now g h }
 {
-    let mut k = rows_to_search(groups);
-    while 0 < k {
-        k -= 1;
+    for k in (0..rows_to_search(groups)).rev() {
         if below_both(groups, k, g, h) {
             return k as u8;
         }
@@ -165,98 +217,45 @@ fn meet(groups: &[u8], g: u8, h: u8) -> u8
     0
 }
 
-// Two groups of one object.
-#[derive(Clone, Copy)]
-struct Two(u8, u8);
-
 // g ⊓ by and h ⊓ also. One search serves both where they are the same, as a group and the indirect one beside it mostly are.
-fn meet_both(groups: &[u8], g: u8, by: u8, h: u8, also: u8) -> Two
+fn meet_both(groups: &[u8], g: u8, by: u8, h: u8, also: u8) -> (u8, u8)
     ensures { (result.0 ≡ meet groups.now g by) × (result.1 ≡ meet groups.now h also) }
 {
     let first = meet(groups, g, by);
     if (g == h) & (by == also) {
-        return Two(first, first);
+        return (first, first);
     }
-    Two(first, meet(groups, h, also))
+    (first, meet(groups, h, also))
 }
 
 impl Reader {
-    // r ⊑ r'
-    pub fn at_or_below(self, groups: &[u8], reader: Reader) -> bool
-        ensures { result ≡ leq groups.now self.0 reader.0 }
-    {
-        leq(groups, self.0, reader.0)
-    }
-
     // r ⊔ ir: what • makes of the reader
     pub fn joined(self, groups: &[u8], by: Indirect) -> Reader
         ensures { result.0 ≡ join groups.now self.0 by.0 }
     {
         Reader(join(groups, self.0, by.0))
     }
-
-    // r ⊔ r'
-    pub fn join(self, groups: &[u8], reader: Reader) -> Reader
-        ensures { result.0 ≡ join groups.now self.0 reader.0 }
-    {
-        Reader(join(groups, self.0, reader.0))
-    }
 }
 
 impl Indirect {
-    // ir ⊑ ir'
-    pub fn at_or_below(self, groups: &[u8], indirect: Indirect) -> bool
-        ensures { result ≡ leq groups.now self.0 indirect.0 }
-    {
-        leq(groups, self.0, indirect.0)
-    }
-
     // ir ⊑ r
     pub fn within(self, groups: &[u8], r: Reader) -> bool
         ensures { result ≡ leq groups.now self.0 r.0 }
     {
         leq(groups, self.0, r.0)
     }
-
-    // ir ⊔ ir', which is also what • makes of the indirect reader
-    pub fn joined(self, groups: &[u8], by: Indirect) -> Indirect
-        ensures { result.0 ≡ join groups.now self.0 by.0 }
-    {
-        Indirect(join(groups, self.0, by.0))
-    }
 }
 
 impl Creator {
-    // c' ⊑ c: below turns creators round
-    pub fn at_or_above(self, groups: &[u8], creator: Creator) -> bool
-        ensures { result ≡ leq groups.now creator.0 self.0 }
-    {
-        leq(groups, creator.0, self.0)
-    }
-
     // c ⊑ ic: 23's condition on a recursion's result
     pub fn within(self, groups: &[u8], ic: IndirectCreator) -> bool
         ensures { result ≡ leq groups.now self.0 ic.0 }
     {
         leq(groups, self.0, ic.0)
     }
-
-    // c ⊔ c'
-    pub fn join(self, groups: &[u8], creator: Creator) -> Creator
-        ensures { result.0 ≡ join groups.now self.0 creator.0 }
-    {
-        Creator(join(groups, self.0, creator.0))
-    }
 }
 
 impl IndirectCreator {
-    // ic' ⊑ ic
-    pub fn at_or_above(self, groups: &[u8], indirect: IndirectCreator) -> bool
-        ensures { result ≡ leq groups.now indirect.0 self.0 }
-    {
-        leq(groups, indirect.0, self.0)
-    }
-
     // ic ⊑ c
     pub fn within(self, groups: &[u8], c: Creator) -> bool
         ensures { result ≡ leq groups.now self.0 c.0 }
@@ -270,24 +269,17 @@ impl IndirectCreator {
     {
         IndirectCreator(meet(groups, self.0, reader.0))
     }
-
-    // ic ⊔ ic'
-    pub fn join(self, groups: &[u8], indirect: IndirectCreator) -> IndirectCreator
-        ensures { result.0 ≡ join groups.now self.0 indirect.0 }
-    {
-        IndirectCreator(join(groups, self.0, indirect.0))
-    }
 }
 
 impl Property {
-    // κ ≤ κ'
+    // κ ≤ κ': creators are turned round
     pub fn at_or_below(self, groups: &[u8], property: Property) -> bool
         ensures { result ≡ (properties_of groups.now).le (said_property self) (said_property property) }
     {
         self.r.at_or_below(groups, property.r)
             && (self.ir.at_or_below(groups, property.ir)
-                && (self.c.at_or_above(groups, property.c)
-                    && self.ic.at_or_above(groups, property.ic)))
+                && (property.c.at_or_below(groups, self.c)
+                    && property.ic.at_or_below(groups, self.ic)))
     }
 
     // κ ⊔ κ': the least property at or above both
@@ -295,10 +287,10 @@ impl Property {
         ensures { said_property result ≡ (properties_of groups.now).join (said_property self) (said_property property) }
     {
         let r = self.r.join(groups, property.r);
-        let ir = self.ir.joined(groups, property.ir);
-        let made = meet_both(groups, self.c.0, property.c.0, self.ic.0, property.ic.0);
-        let c = Creator(made.0);
-        let ic = IndirectCreator(made.1);
+        let ir = self.ir.join(groups, property.ir);
+        let (c, ic) = meet_both(groups, self.c.0, property.c.0, self.ic.0, property.ic.0);
+        let c = Creator(c);
+        let ic = IndirectCreator(ic);
         Property { r, ir, c, ic }
     }
 
@@ -319,7 +311,7 @@ impl Property {
         ensures { said_property result ≡ (properties_of groups.now).raise (said_property self) (said_influence by) }
     {
         let r = self.r.joined(groups, by.ir);
-        let ir = self.ir.joined(groups, by.ir);
+        let ir = self.ir.join(groups, by.ir);
         let made = meet_both(groups, self.c.0, by.ic.0, self.ic.0, by.ic.0);
         let c = Creator(made.0);
         let ic = IndirectCreator(made.1);

@@ -1,46 +1,38 @@
 -- The lines of a sheet's first records, and those that follow.
-use mathlib.Core.Path.{◌≡◌, refl, sym, ap, subst, ◌∙◌}
-use mathlib.Core.List.{[], ◌++◌, append-nil, append_assoc}
-use Prim.Native.Nat.{ℕ, ◌+◌, ◌*◌, ◌/◌, ◌≤◌, ◌<◌}
-use native.Mathlib.Omega.{arith}
-use lib.ListN.{length, drop, length-append}
+use Rattle.std.proofs.Common.{◌≡◌, ◌<◌, [], ◌++◌, length, refl, sym, ap, ◌∙◌, append_assoc, append-nil}
 use Rattle.rules.specs.Answer.{Bytes}
 use Rattle.rules.specs.Limits.{sheet_width}
 use Rattle.rules.specs.Report.{sheet_lines}
-use Rattle.text.specs.Written.{Written}
-use Rattle.text.proofs.Placed.{nothing, then, keeps}
-use Rattle.lines.proofs.Lines.{line, no_lines, one_line}
+use Rattle.text.specs.Written.{Room, Written}
+use Rattle.text.specs.declared.Text.{Text}
+use Rattle.text.proofs.Placed.{nothing, then, room_first, room_next}
+use Rattle.lines.proofs.Lines.{line, no_line, one_line}
 
--- the lines so far, and that the others follow
-pub record SoFar (t s : Bytes) (i at : ℕ) (w : Bytes) (end : ℕ) (w' : Bytes) : Type 0 where
+-- the lines so far, and that the others follow: those of what is left of the sheet
+pub record SoFar (w s left : Bytes) (x y : Text) : Type 0 where
   pub lines : Bytes
-  pub splits : sheet_lines t s ≡ lines ++ sheet_lines t (drop (sheet_width * i) s)
-  pub wrote : Written at lines w end w'
+  pub splits : sheet_lines w s ≡ lines ++ sheet_lines w left
+  pub wrote : Written lines x y
 
-pub begins : (t s w : Bytes) (at : ℕ) → SoFar t s 0 at w at w
-begins t s w at = record { lines = []; splits = refl; wrote = nothing }
+pub begins : {w s left : Bytes} (x : Text) → left ≡ s → Room (sheet_lines w s) x → SoFar w s left x x
+begins {w} {s} x e l = rw e (record { lines = []; splits = refl; wrote = nothing x (room_first [] (sheet_lines w s) x l) })
 
-module _ {t s w w' : Bytes} {i at end : ℕ} (x : SoFar t s i at w end w') (l : at + length (sheet_lines t s) ≤ length w) where
-  fits : at + length x.lines ≤ length w
-  fits = omega (arith, ap length x.splits, length-append x.lines (sheet_lines t (drop (sheet_width * i) s)))
+module _ {w s left : Bytes} {x y : Text} (f : SoFar w s left x y) where
+  pub all : length left < sheet_width → Written (sheet_lines w s) x y
+  all l = rw (f.splits, no_line w left l, append-nil f.lines) f.wrote
 
-  pub same : length w' ≡ length w
-  same = keeps x.wrote fits
+  -- a record and what is left after it
+  module _ (b rest : Bytes) (e : left ≡ b ++ rest) (l : length b ≡ sheet_width) where
+    next_line : sheet_lines w left ≡ line w b ++ sheet_lines w rest
+    next_line = ap (sheet_lines w) e ∙ one_line w b rest l
 
-  pub room : i < length s / sheet_width → end + length (line t s i) ≤ length w'
-  room h =
-      omega
-      (arith, ap length x.splits, length-append x.lines (sheet_lines t (drop (sheet_width * i) s)), ap length (one_line t s i h), length-append (line t s i) (sheet_lines t (drop (sheet_width * (i + 1)) s)), same, x.wrote.ends)
+    pub room : Room (sheet_lines w s) x → Room (line w b) y
+    room r = room_first (line w b) (sheet_lines w rest) y (rw next_line at (room_next (sheet_lines w left) f.wrote (rw f.splits at r)))
 
-  pub goes_on : {after : ℕ} {w₂ : Bytes} → i < length s / sheet_width → Written end (line t s i) w' after w₂ → SoFar t s (i + 1) at w after w₂
-  goes_on h y =
-      record {
-        lines = x.lines ++ line t s i;
-        splits = x.splits ∙ ap (λ (b : Bytes). x.lines ++ b) (one_line t s i h) ∙ sym (append_assoc x.lines (line t s i) (sheet_lines t (drop (sheet_width * (i + 1)) s)));
-        wrote = then x.wrote y fits;
-      }
-
-  pub all : length s / sheet_width ≤ i → Written at (sheet_lines t s) w end w'
-  all h =
-      let e : x.lines ≡ sheet_lines t s = sym (x.splits ∙ ap (λ (b : Bytes). x.lines ++ b) (no_lines t s i h) ∙ append-nil x.lines) in
-      subst (λ (b : Bytes). Written at b w end w') e x.wrote
+    pub goes_on : {z : Text} → Written (line w b) y z → SoFar w s rest x z
+    goes_on g =
+        record {
+          lines = f.lines ++ line w b;
+          splits = f.splits ∙ ap (λ (o : Bytes). f.lines ++ o) next_line ∙ sym (append_assoc f.lines (line w b) (sheet_lines w rest));
+          wrote = then f.wrote g;
+        }

@@ -1,84 +1,83 @@
-// The report's lines, written over a lent buffer from an offset on.
+// The report's lines.
 
 #![tactic(auto)]
 
 ghost use Rattle.std.specs.Prelude.{◌≡◌, ◌++◌, ◌+◌, ◌≤◌, length};
 ghost use Rattle.rules.specs.Limits.{words_length};
 ghost use Rattle.rules.specs.Report.{decimal, refusal_line, accepted_line, run_line, sheet_line, sheet_lines};
-ghost use Rattle.text.specs.Written.{Written};
+ghost use Rattle.text.specs.Written.{Room, Written};
 
 use lattice::{Indirect, Reader};
 use sheet::SHEET_WIDTH;
+use text::Text;
 
 // A word and a number.
 #[tactic(auto, using(text::proofs::Placed::room_first, text::proofs::Placed::room_next))]
-fn named(word: &[u8], n: u64, out: &mut [u8], at: usize) -> usize
-    requires { at + length (word.now ++ decimal n) ≤ length out.old }
-    ensures { Written at (word.now ++ decimal n) out.old result out.new }
+fn named(text: &mut Text, word: &[u8], n: u64)
+    requires { Room (word.now ++ decimal n) text.old }
+    ensures { Written (word.now ++ decimal n) text.old text.new }
 {
-    let a = text::put(word, out, at);
-    text::decimal(n, out, a)
+    text.put(word);
+    text.decimal(n);
 }
 
 // "refused 21 at 0"
-#[tactic(auto, unfolding(rules::specs::Report::refusal_line, rules::specs::Report::text), using(text::proofs::Placed::both, text::proofs::Placed::room_first, text::proofs::Placed::room_next))]
-pub fn refusal_line(question: u64, place: u64, out: &mut [u8], at: usize) -> usize
-    requires { at + length (refusal_line question place) ≤ length out.old }
-    ensures { Written at (refusal_line question place) out.old result out.new }
+#[tactic(auto, unfolding(rules::specs::Report::refusal_line, rules::specs::Report::text), using(text::proofs::Placed::room_first, text::proofs::Placed::room_next))]
+pub fn refusal_line(text: &mut Text, question: u64, place: u64)
+    requires { Room (refusal_line question place) text.old }
+    ensures { Written (refusal_line question place) text.old text.new }
 {
-    let a = named(b"refused ", question, out, at);
-    let b = named(b" at ", place, out, a);
-    text::put(b"\n", out, b)
+    named(text, b"refused ", question);
+    named(text, b" at ", place);
+    text.put(b"\n");
 }
 
 // "accepted 3"
-#[tactic(auto, unfolding(rules::specs::Report::accepted_line, rules::specs::Report::text), using(text::proofs::Placed::both, text::proofs::Placed::room_first, text::proofs::Placed::room_next))]
-pub fn accepted_line(records: u64, out: &mut [u8], at: usize) -> usize
-    requires { at + length (accepted_line records) ≤ length out.old }
-    ensures { Written at (accepted_line records) out.old result out.new }
+#[tactic(auto, unfolding(rules::specs::Report::accepted_line, rules::specs::Report::text), using(text::proofs::Placed::room_first, text::proofs::Placed::room_next))]
+pub fn accepted_line(text: &mut Text, records: u64)
+    requires { Room (accepted_line records) text.old }
+    ensures { Written (accepted_line records) text.old text.new }
 {
-    let a = named(b"accepted ", records, out, at);
-    text::put(b"\n", out, a)
+    named(text, b"accepted ", records);
+    text.put(b"\n");
 }
 
 // "end 0 steps 2 records 2"
-#[tactic(auto, unfolding(rules::specs::Report::run_line, rules::specs::Report::text), using(text::proofs::Placed::both, text::proofs::Placed::room_first, text::proofs::Placed::room_next))]
-pub fn run_line(end: u64, steps: u64, records: u64, out: &mut [u8], at: usize) -> usize
-    requires { at + length (run_line end steps records) ≤ length out.old }
-    ensures { Written at (run_line end steps records) out.old result out.new }
+#[tactic(auto, unfolding(rules::specs::Report::run_line, rules::specs::Report::text), using(text::proofs::Placed::room_first, text::proofs::Placed::room_next))]
+pub fn run_line(text: &mut Text, end: u64, steps: u64, records: u64)
+    requires { Room (run_line end steps records) text.old }
+    ensures { Written (run_line end steps records) text.old text.new }
 {
-    let a = named(b"end ", end, out, at);
-    let b = named(b" steps ", steps, out, a);
-    let c = named(b" records ", records, out, b);
-    text::put(b"\n", out, c)
+    named(text, b"end ", end);
+    named(text, b" steps ", steps);
+    named(text, b" records ", records);
+    text.put(b"\n");
 }
 
 // "closed 0 0", in the words of a table
-#[tactic(auto, unfolding(rules::specs::Report::sheet_line, rules::specs::Report::text), using(text::proofs::Placed::both, text::proofs::Placed::room_first, text::proofs::Placed::room_next))]
-fn sheet_line(words: &[u8], kind: u8, r: Reader, ir: Indirect, out: &mut [u8], at: usize) -> usize
-    requires { (length words.now ≡ words_length) × (at + length (sheet_line words.now kind r.0 ir.0) ≤ length out.old) }
-    ensures { Written at (sheet_line words.now kind r.0 ir.0) out.old result out.new }
+#[tactic(auto, unfolding(rules::specs::Report::sheet_line, rules::specs::Report::text), using(text::proofs::Placed::room_first, text::proofs::Placed::room_next))]
+fn sheet_line(text: &mut Text, words: &[u8], kind: u8, r: Reader, ir: Indirect)
+    requires { (length words.now ≡ words_length) × Room (sheet_line words.now kind r.0 ir.0) text.old }
+    ensures { Written (sheet_line words.now kind r.0 ir.0) text.old text.new }
 {
-    let a = text::word(words, kind, out, at);
-    let b = named(b" ", r.0 as u64, out, a);
-    let c = named(b" ", ir.0 as u64, out, b);
-    text::put(b"\n", out, c)
+    text.word(words, kind);
+    named(text, b" ", u64::from(r.0));
+    named(text, b" ", u64::from(ir.0));
+    text.put(b"\n");
 }
 
 // A line for each whole record of a sheet, in the words of a table.
-pub fn sheet_lines(words: &[u8], sheet: &[u8], out: &mut [u8], at: usize) -> usize
-    requires { (length words.now ≡ words_length) × (at + length (sheet_lines words.now sheet.now) ≤ length out.old) }
-    ensures { Written at (sheet_lines words.now sheet.now) out.old result out.new }
+pub fn sheet_lines(text: &mut Text, words: &[u8], sheet: &[u8])
+    requires { (length words.now ≡ words_length) × Room (sheet_lines words.now sheet.now) text.old }
+    ensures { Written (sheet_lines words.now sheet.now) text.old text.new }
 {
-    let n = sheet.len() / SHEET_WIDTH;
-    let mut end = at;
-    let mut i: usize = 0;
-    while i < n {
-        let k = SHEET_WIDTH * i;
-        let r = Reader(sheet[k + 1]);
-        let ir = Indirect(sheet[k + 2]);
-        end = sheet_line(words, sheet[k], r, ir, out, end);
-        i += 1;
+    for record in sheet.chunks_exact(SHEET_WIDTH) {
+        sheet_line(
+            text,
+            words,
+            record[0],
+            Reader(record[1]),
+            Indirect(record[2]),
+        );
     }
-    end
 }

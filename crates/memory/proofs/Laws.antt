@@ -1,10 +1,6 @@
 -- Laws of writing over a piece.
-use mathlib.Core.Path.{◌≡◌, refl, sym, ap, ◌∙◌}
-use mathlib.Core.List.{List, [], ◌∷◌, ◌++◌, append_assoc}
-use Prim.Native.Nat.{ℕ, zero, suc, ◌+◌, ◌-◌, ◌≤◌}
-use native.Mathlib.Omega.{arith}
-use lib.ListN.{length, take, drop, set, length-append, length-take, length-drop, take-append-drop}
-use lib.Seq.{length-take-le, drop_at, take_at, drop-drop, drop-append-le, drop-append-add, take-append-le, take-take, take-add}
+use Rattle.std.proofs.Common.{◌≡◌, refl, sym, ap, ◌∙◌, List, [], ◌∷◌, ◌++◌, append_assoc, ℕ, zero, suc, ◌+◌, ◌-◌, ◌≤◌, arith, length, take, drop, set, length-append, length-take, length-drop, take-append-drop, length-take-le, drop_at, take_at, drop-drop, take-take, take-add}
+use Rattle.std.proofs.Math.Seq.{drop-append-le, drop-append-add, take-append-le}
 use Rattle.memory.specs.Splice.{splice}
 
 pub length_splice : (at : ℕ) (x w : List ℕ) → at + length x ≤ length w → length (splice at x w) ≡ length w

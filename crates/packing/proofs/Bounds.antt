@@ -1,14 +1,7 @@
 -- Every call's refusal has a question of the document and a place of at most 8,192, and what it gives has its bound too: all of it
 -- fits the exported number. Assumes nothing.
-use mathlib.Core.Path.{◌≡◌, refl}
-use mathlib.Core.Bool.{Bool, true, false, not, ◌&&◌, ◌||◌}
-use mathlib.Core.List.{List, [], ◌∷◌}
-use mathlib.Core.Option.{Option, none, some}
-use Prim.Native.Nat.{ℕ, zero, suc, ◌+◌, ◌-◌, ◌/◌, ◌%◌, ◌≤◌}
-use native.Mathlib.Omega.{arith}
-use borrow.Author.Tests.{eqb-true, leb-true}
-use lib.Dec.{eqb, leb, ltb}
-use lib.ListN.{length, get_or}
+use Rattle.std.proofs.Common.{◌≡◌, refl, Bool, true, false, not, ◌&&◌, ◌||◌, List, [], ◌∷◌, ℕ, zero, suc, ◌+◌, ◌-◌, ◌/◌, ◌%◌, ◌≤◌, arith, eqb-true, leb-true, eqb, leb, ltb, length, get_or}
+use Rattle.std.proofs.Math.Option.{Option, none, some}
 use Rattle.calculus.specs.Terms.{is_value}
 use Rattle.rules.specs.Answer.{Bytes, Octets, Answer, accepted, refused, ◌>>◌, ask, first_from, refused_at, each, all_below}
 use Rattle.rules.specs.Limits.{row_width, type_width, script_width, old_type_width, old_script_width, group_limit, table_limit, script_limit, word_limit, words_length, last_question, work_length, answer_length}

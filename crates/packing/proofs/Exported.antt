@@ -1,10 +1,5 @@
 -- Every exported answer is bounded, and one number holds it: `unpack` gives it back.
-use mathlib.Core.Path.{◌≡◌, refl, ap, subst}
-use mathlib.Core.List.{[], ◌∷◌}
-use Prim.Native.Nat.{ℕ, ◌/◌, ◌≤◌, ◌<◌, min}
-use native.Mathlib.Omega.{arith}
-use borrow.Author.Tests.{leb-true}
-use lib.ListN.{length}
+use Rattle.std.proofs.Common.{◌≡◌, refl, ap, subst, [], ◌∷◌, ℕ, ◌/◌, ◌≤◌, ◌<◌, min, arith, leb-true, length}
 use Rattle.calculus.specs.Types.{Ty, size_t, type_limit}
 use Rattle.rules.specs.Answer.{Bytes, Octets, Answer, accepted, refused}
 use Rattle.rules.specs.Limits.{type_width, script_width, old_type_width, old_script_width, sheet_width, table_limit, script_limit}

@@ -1,8 +1,5 @@
 -- A caller reads off an exported number the answer that was packed.
-use mathlib.Core.Path.{◌≡◌, ap, ap₂}
-use Prim.Native.Nat.{ℕ, ◌+◌, ◌*◌, ◌/◌, ◌%◌, ◌≤◌, ◌<◌}
-use native.Mathlib.Omega.{arith}
-use borrow.Author.Tests.{eq-eqb, ne_eqb}
+use Rattle.std.proofs.Common.{◌≡◌, ap, ap₂, ℕ, ◌+◌, ◌*◌, ◌/◌, ◌%◌, ◌≤◌, ◌<◌, arith, eq-eqb, ne_eqb}
 use Rattle.rules.specs.Answer.{Answer, accepted, refused}
 use Rattle.rules.specs.Limits.{script_limit}
 use Rattle.packing.specs.Packed.{half, packed, unpacked, ended, end_of, count_of, Holds, holds_yes, holds_no}

@@ -2,8 +2,12 @@
 
 #![tactic(auto)]
 
-ghost use Rattle.std.specs.Prelude.{◌≡◌, ◌+◌, ◌*◌, ◌<◌, min};
-ghost use Rattle.packing.specs.Packed.{half, ended, steps_width, steps_in};
+ghost use Rattle.std.specs.Prelude.{◌≡◌, ◌+◌, ◌*◌, ◌<◌};
+ghost use Rattle.answer.specs.Numbers.{number};
+ghost use Rattle.answer.specs.Said.{said};
+ghost use Rattle.packing.specs.Packed.{half, packed, ended, steps_in, Bounded};
+
+use answer::Refusal;
 
 const HALF: u64 = 4294967296;
 
@@ -12,11 +16,22 @@ const QUARTER: u64 = 65536;
 const STEPS_WIDTH: usize = 8;
 
 // A refusal: the question in the upper half, the place in the lower.
-pub fn refusal(question: u8, place: usize) -> u64
-    requires { place < half }
-    ensures { result ≡ question * half + place }
+pub fn refusal(refusal: Refusal) -> u64
+    requires { refusal.place < half }
+    ensures { result ≡ number refusal.question * half + refusal.place }
 {
-    (question as u64) * HALF + (place as u64)
+    u64::from(refusal.question.number()) * HALF + (refusal.place as u64)
+}
+
+// A call's number, or its refusal.
+pub fn answer(a: Result<usize, Refusal>) -> u64
+    requires { Bounded (said a) }
+    ensures { result ≡ packed (said a) }
+{
+    match a {
+        Ok(n) => n as u64,
+        Err(e) => refusal(e),
+    }
 }
 
 // A run's or a step's end and record count.
@@ -24,25 +39,14 @@ pub fn end_and_count(end: u8, count: usize) -> u64
     requires { count < half }
     ensures { result ≡ ended end count }
 {
-    (end as u64) * QUARTER + (count as u64)
-}
-
-fn within_steps(n: usize) -> usize
-    ensures { result ≡ min n steps_width }
-{
-    if n < STEPS_WIDTH { n } else { STEPS_WIDTH }
+    u64::from(end) * QUARTER + (count as u64)
 }
 
 // The step count, lowest byte first, as far as the slice goes.
 pub fn put_steps(n: u64, steps: &mut [u8])
     ensures { steps.new ≡ steps_in n steps.old }
 {
-    let end = within_steps(steps.len());
-    let mut rest = n;
-    let mut i: usize = 0;
-    while i < end {
-        steps[i] = (rest % 256) as u8;
-        rest = rest / 256;
-        i += 1;
-    }
+    let end = steps.len().min(STEPS_WIDTH);
+    let bytes = n.to_le_bytes();
+    steps[..end].copy_from_slice(&bytes[..end]);
 }

@@ -2,7 +2,7 @@
 
 #![tactic(auto)]
 
-ghost use Rattle.std.specs.Prelude.{◌≡◌, cond, min, length, take};
+ghost use Rattle.std.specs.Prelude.{◌≡◌, cond, length, take};
 ghost use Rattle.rules.specs.Groups.{bit};
 ghost use Rattle.rules.specs.Script.{subterm};
 ghost use Rattle.rules.specs.Words.{words_check};
@@ -12,8 +12,8 @@ ghost use Rattle.answer.specs.Said.{said};
 ghost use Rattle.reduction.specs.Steps.{said_step};
 ghost use Rattle.packing.specs.Packed.{packed, passed, step_ended, Bounded, StepCounted};
 
-use answer::Checked;
-use reduction::StepAnswer;
+use answer::{Checked, Refusal};
+use reduction::StepReport;
 
 // A check of tables: 0 for a pass.
 fn checked(a: Checked) -> u64
@@ -21,11 +21,12 @@ fn checked(a: Checked) -> u64
     ensures { result ≡ packed (passed (said a)) }
 {
     match a {
-        Checked::Passed => 0,
-        Checked::Refused(question, place) => packing::refusal(question, place),
+        Ok(()) => 0,
+        Err(refusal) => packing::refusal(refusal),
     }
 }
 
+#[tactic(auto, using(packing::proofs::Bounds::groups_bounded))]
 #[unsafe(no_mangle)]
 pub extern "C" fn probe_groups_check(groups: &[u8]) -> u64
     ensures { result ≡ packed (passed (groups_check groups.now)) }
@@ -33,6 +34,7 @@ pub extern "C" fn probe_groups_check(groups: &[u8]) -> u64
     checked(groups_table::groups_check(groups))
 }
 
+#[tactic(auto, using(packing::proofs::Bounds::types_bounded))]
 #[unsafe(no_mangle)]
 pub extern "C" fn probe_types_check(groups: &[u8], types: &[u8]) -> u64
     ensures { result ≡ packed (passed (types_check groups.now types.now)) }
@@ -40,6 +42,7 @@ pub extern "C" fn probe_types_check(groups: &[u8], types: &[u8]) -> u64
     checked(types_table::types_check(groups, types))
 }
 
+#[tactic(auto, using(packing::proofs::Bounds::words_bounded))]
 #[unsafe(no_mangle)]
 pub extern "C" fn probe_words_check(words: &[u8]) -> u64
     ensures { result ≡ packed (passed (words_check words.now)) }
@@ -47,31 +50,26 @@ pub extern "C" fn probe_words_check(words: &[u8]) -> u64
     checked(words::words_check(words))
 }
 
-fn one_or_zero(yes: bool) -> u64
-    ensures { result ≡ cond yes 1 0 }
-{
-    if yes { 1 } else { 0 }
-}
-
 // Bit h of a row: 1 or 0. It has no conditional jump; the gate reads that off the compiled function.
 #[unsafe(no_mangle)]
 pub extern "C" fn probe_bit(word: u32, h: u64) -> u64
     ensures { result ≡ cond (bit word h) 1 0 }
 {
-    one_or_zero(lattice::bit(word, h as usize))
+    u64::from(lattice::bit(word, h as usize))
 }
 
 // A step: end * 65,536 + records.
-fn stepped(a: StepAnswer) -> u64
+fn stepped(a: Result<StepReport, Refusal>) -> u64
     requires { StepCounted (said_step a) }
     ensures { result ≡ packed (step_ended (said_step a)) }
 {
     match a {
-        StepAnswer::Ended(end, count) => packing::end_and_count(end, count),
-        StepAnswer::Refused(question, place) => packing::refusal(question, place),
+        Ok(report) => packing::end_and_count(reduction::end_number(report.stop), report.records),
+        Err(refusal) => packing::refusal(refusal),
     }
 }
 
+#[tactic(auto, using(crate::proofs::Reports::step_counted))]
 #[unsafe(no_mangle)]
 pub extern "C" fn probe_step(groups: &[u8], types: &[u8], script: &[u8], written: &mut [u8]) -> u64
     ensures { (result ≡ packed
@@ -84,12 +82,6 @@ pub extern "C" fn probe_step(groups: &[u8], types: &[u8], script: &[u8], written
     stepped(reduction::step(groups, types, script, written))
 }
 
-fn shorter(a: usize, b: usize) -> usize
-    ensures { result ≡ min a b }
-{
-    if a < b { a } else { b }
-}
-
 // The part that the look-up hands back: its bytes to the front of `copy` as far as they fit, and their count.
 #[unsafe(no_mangle)]
 pub extern "C" fn probe_subterm(script: &[u8], index: u64, copy: &mut [u8]) -> u64
@@ -98,7 +90,7 @@ pub extern "C" fn probe_subterm(script: &[u8], index: u64, copy: &mut [u8]) -> u
         copy.old) }
 {
     let part = syntax::subterm(script, index as usize);
-    let n = shorter(part.len(), copy.len());
+    let n = part.len().min(copy.len());
     memory::copy(part, n, copy, 0);
     part.len() as u64
 }

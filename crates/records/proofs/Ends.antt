@@ -1,21 +1,12 @@
 -- Where a term ends.
-use mathlib.Core.Path.{◌≡◌, ap, sym, ◌∙◌}
-use mathlib.Core.Option.{Option, none, some}
-use mathlib.Core.List.{[], ◌∷◌}
-use Prim.Native.Nat.{ℕ, zero, suc, ◌+◌, ◌-◌, ◌≤◌, ◌<◌}
-use native.Mathlib.Omega.{arith}
-use native.Mathlib.Decide.{dec_lt}
-use types.Run.{OneOf}
-use denote.Enum.Declared.{tag_of}
+use Rattle.std.proofs.Common.{◌≡◌, sym, ◌∙◌, ℕ, zero, suc, ◌+◌, ◌-◌, ◌≤◌, ◌<◌, arith}
+use Rattle.std.proofs.Math.Decide.{dec_lt}
+use Rattle.std.proofs.Math.Option.{some}
 use Rattle.rules.specs.Answer.{Bytes}
 use Rattle.rules.specs.Types.{end_after}
 use Rattle.rules.specs.Script.{records, kind, arity, term_end}
 use Rattle.rules.proofs.PrefixLaws.{runs_out}
-use Rattle.records.specs.declared.Ended.{Ended}
-use Rattle.records.specs.declared.Ended.TheVariants.{Before, Short}
-use Rattle.records.specs.Said.{said_end}
 use Rattle.rules.proofs.Search.{some_inj, none≢some}
-use Rattle.records.specs.contracts.Ended.{the_type}
 
 bounds : (f : ℕ → ℕ) (left need i e : ℕ) → end_after f left need i ≡ some e → (i ≤ e) × (e ≤ i + left)
 unfolding end_after
@@ -35,17 +26,3 @@ end_inside s i e h = within (dec_lt i (records s))
     within : Dec (i < records s) → (i ≤ e) × (e ≤ records s)
     within (yes l) = let b = bounds (λ j. arity (kind s j)) (records s - i) 1 i e h in (b.0, omega (arith, b.1))
     within (no l) = absurd (none_past (λ j. arity (kind s j)) (records s - i) i e (omega arith) h)
-
--- the answer taken apart
-pub is_short : (x : Ended) (o : Option ℕ) → OneOf (1 ∷ []) (tag_of the_type x) → said_end x ≡ o → o ≡ none
-is_short (Before i) o k e = absurd (omega arith)
-is_short Short o k e = sym e
-
-pub is_before : (x : Ended) (o : Option ℕ) (e : ℕ) → x ≡ Before e → said_end x ≡ o → o ≡ some e
-is_before x o e p h = sym h ∙ ap said_end p
-
-pub not_short : (x : Ended) (o : Option ℕ) (e : ℕ) → OneOf (1 ∷ []) (tag_of the_type x) → said_end x ≡ o → o ≡ some e → ⊥
-not_short x o e k h p = none≢some (sym (is_short x o k h) ∙ p)
-
-pub before_inj : (o : Option ℕ) (a b : ℕ) → o ≡ some a → o ≡ some b → a ≡ b
-before_inj o a b p q = some_inj (sym p ∙ q)

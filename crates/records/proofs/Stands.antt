@@ -1,11 +1,7 @@
 -- A term that stands at a record: its record's kind, and where its operands stand.
-use mathlib.Core.Path.{◌≡◌, refl, ap, sym, ◌∙◌}
-use mathlib.Core.List.{List, [], ◌∷◌, ◌++◌, append_assoc, append-nil}
-use mathlib.Core.Option.{some}
-use Prim.Native.Nat.{ℕ, suc, ◌+◌, ◌*◌, ◌-◌, ◌≤◌, ◌<◌}
-use native.Mathlib.Omega.{arith}
-use lib.ListN.{length, take, drop, length-append, length-drop}
-use Rattle.calculus.specs.Terms.{Term, var, unit, lam, pair, inj, app, proj, case, protect, mu}
+use Rattle.std.proofs.Common.{◌≡◌, refl, ap, sym, ◌∙◌, List, [], ◌∷◌, ◌++◌, append_assoc, append-nil, ℕ, suc, ◌+◌, ◌*◌, ◌-◌, ◌≤◌, ◌<◌, arith, length, take, drop, length-append, length-drop}
+use Rattle.std.proofs.Math.Option.{some}
+use Rattle.calculus.specs.Terms.{first, second, Term, var, unit, lam, pair, inj, app, proj, case, protect, mu}
 use Rattle.rules.specs.Answer.{Bytes, byte}
 use Rattle.rules.specs.Limits.{script_width}
 use Rattle.rules.specs.Script.{kind, records, encode, size, term, term_end, arity}
@@ -15,6 +11,7 @@ use Rattle.rules.proofs.PrefixLaws.{size_positive, encode_length, ops_at, tree_e
 use Rattle.rules.proofs.Nodes.{operand_at}
 use Rattle.rules.proofs.TermCode.{term_code, term_prefix, term_head, term_operands, term_head_length, term_encode_is}
 use Rattle.rules.proofs.Scripts.{records_encode}
+use Rattle.records.specs.Kinds as kinds
 use Rattle.records.specs.Place.{At, Here}
 use Rattle.records.specs.Operands.{first_operand, second_operand, third_operand}
 
@@ -119,3 +116,21 @@ start_records s h = ap records (sym h) ∙ records_encode (term s)
 pub stands_end : (s : Bytes) (i : ℕ) (e : Term) → At s i e → term_end s i ≡ some (i + size e)
 unfolding term_end
 stands_end s i e w = tree_end term_prefix e s i (records s - i) w.rest (omega (arith, room s i e w)) w.stands
+
+-- every term's record has a kind
+known : (e : Term) → kind_of e ≤ kinds.recursion
+known (var n) = omega arith
+known (unit k) = omega arith
+known (lam k i e) = omega arith
+known (pair k a b) = omega arith
+known (inj first k i e) = omega arith
+known (inj second k i e) = omega arith
+known (app w f a) = omega arith
+known (proj first w e) = omega arith
+known (proj second w e) = omega arith
+known (case w i e a b) = omega arith
+known (protect m e) = omega arith
+known (mu w i e) = omega arith
+
+pub stands_known : (s : Bytes) (i : ℕ) (e : Term) → At s i e → kind s i ≤ kinds.recursion
+stands_known s i e w = omega (arith, stands_kind s i e w, known e)

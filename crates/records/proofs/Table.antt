@@ -1,12 +1,7 @@
 -- The table of kinds.
-use mathlib.Core.Path.{◌≡◌, refl}
-use mathlib.Core.Bool.{Bool, true, false, ◌&&◌, So, and-eq-true_iff}
-use mathlib.Core.List.{List, [], ◌∷◌}
-use Prim.Native.Nat.{ℕ, zero, suc, ◌≤◌}
-use native.Mathlib.Omega.{arith}
-use borrow.Author.Tests.{leb-true}
-use lib.Dec.{leb}
-use lib.ListN.{length, get_or, get_or-eq_default}
+use Rattle.std.proofs.Common.{◌≡◌, refl, Bool, true, false, ◌&&◌, List, [], ◌∷◌, ℕ, zero, suc, ◌≤◌, arith, leb-true, leb, length, get_or}
+use Rattle.std.proofs.Math.Bool.{So, and-eq-true_iff}
+use Rattle.std.proofs.Math.ListN.{get_or-eq_default}
 use Rattle.rules.specs.Script.{Signature, signatures, signature_of, arity, signature}
 
 abbrev unnamed : Signature

@@ -1,5 +1,5 @@
 -- The kinds of records, by the names that the code has for them.
-use Rattle.std.specs.Prelude.{ℕ}
+use Rattle.std.specs.Prelude.{Bool, ◌||◌, ℕ, eqb}
 
 abbrev pub variable : ℕ
 variable = 0
@@ -36,3 +36,7 @@ protect = 10
 
 abbrev pub recursion : ℕ
 recursion = 11
+
+-- Is it the kind of an injection, the first or the second?
+abbrev pub is_injection : ℕ → Bool
+is_injection kind = eqb kind first_injection || eqb kind second_injection

@@ -5,3 +5,4 @@ pub mod Operands
 pub mod Binders
 pub mod Weight
 pub mod Said
+pub mod Numbers

@@ -4,11 +4,14 @@
 
 ghost use Rattle.std.specs.Prelude.{◌≡◌, ◌+◌, ◌≤◌, ◌<◌};
 ghost use Rattle.calculus.specs.Terms.{Term};
-ghost use Rattle.rules.specs.Script.{records, kind, r, ir, zero_byte, number, c, ic, signature, signature_of, arity, size, own_at, term_end};
+ghost use Rattle.rules.specs.Script.{records, kind, r, ir, zero_byte, number, c, ic, signature, signature_of, arity, is_object, size, own_at, term_end};
 ghost use Rattle.lattice.specs.Said.{said_property, said_influence};
+ghost use Rattle.records.specs.Kinds.{is_injection};
+ghost use Rattle.records.specs.Numbers.{kind_number, Names, KindIs};
 ghost use Rattle.records.specs.Place.{At, Here};
 ghost use Rattle.records.specs.Labels.{property_at, influence_at};
-ghost use Rattle.records.specs.Said.{said_line, said_end};
+ghost use Rattle.answer.specs.Said.{found};
+ghost use Rattle.records.specs.Said.{said_line};
 ghost use Rattle.records.specs.Binders.{binds};
 ghost use Rattle.records.specs.Weight.{weight_at};
 
@@ -16,52 +19,118 @@ use lattice::{Creator, Indirect, IndirectCreator, Influence, Property, Reader};
 
 pub const SCRIPT_WIDTH: usize = 8;
 
-// The kinds of records.
-pub const VARIABLE: u8 = 0;
+// The kinds of records, in the order of their numbers.
+#[derive(Clone, Copy, Debug, PartialEq, Eq)]
+pub enum Kind {
+    Variable,
+    Unit,
+    Function,
+    Pair,
+    FirstInjection,
+    SecondInjection,
+    Application,
+    FirstProjection,
+    SecondProjection,
+    Case,
+    Protect,
+    Recursion,
+}
 
-pub const UNIT: u8 = 1;
+// A number that no kind has.
+#[derive(Clone, Copy, Debug, PartialEq, Eq)]
+pub struct UnknownKind(pub u8);
 
-pub const FUNCTION: u8 = 2;
+impl TryFrom<u8> for Kind {
+    type Error = UnknownKind;
 
-pub const PAIR: u8 = 3;
+    ghost try_from_gives = { Names };
 
-pub const FIRST_INJECTION: u8 = 4;
+    fn try_from(n: u8) -> Result<Self, UnknownKind> {
+        match n {
+            0 => Ok(Kind::Variable),
+            1 => Ok(Kind::Unit),
+            2 => Ok(Kind::Function),
+            3 => Ok(Kind::Pair),
+            4 => Ok(Kind::FirstInjection),
+            5 => Ok(Kind::SecondInjection),
+            6 => Ok(Kind::Application),
+            7 => Ok(Kind::FirstProjection),
+            8 => Ok(Kind::SecondProjection),
+            9 => Ok(Kind::Case),
+            10 => Ok(Kind::Protect),
+            11 => Ok(Kind::Recursion),
+            _ => Err(UnknownKind(n)),
+        }
+    }
+}
 
-pub const SECOND_INJECTION: u8 = 5;
+impl Kind {
+    pub fn number(self) -> u8
+        ensures { result ≡ kind_number self }
+    {
+        self as u8
+    }
 
-pub const APPLICATION: u8 = 6;
+    // Its line of the table of kinds: operands, r, ir, number, type.
+    #[tactic(auto, unfolding(rules::specs::Script::signature_of, rules::specs::Script::signatures))]
+    pub fn signature(self) -> Signature
+        ensures { said_line result ≡ signature_of (kind_number self) }
+    {
+        match self {
+            Kind::Variable => entry(0, false, false, true, false),
+            Kind::Unit => entry(0, true, true, false, false),
+            Kind::Function => entry(1, true, true, true, true),
+            Kind::Pair => entry(2, true, true, false, false),
+            Kind::FirstInjection => entry(1, true, true, true, true),
+            Kind::SecondInjection => entry(1, true, true, true, true),
+            Kind::Application => entry(2, true, false, false, false),
+            Kind::FirstProjection => entry(1, true, false, false, false),
+            Kind::SecondProjection => entry(1, true, false, false, false),
+            Kind::Case => entry(3, true, false, true, true),
+            Kind::Protect => entry(1, false, true, false, false),
+            Kind::Recursion => entry(1, true, false, true, true),
+        }
+    }
 
-pub const FIRST_PROJECTION: u8 = 7;
+    // The number of operands that follow a record of this kind.
+    pub fn arity(self) -> usize
+        ensures { (result ≡ arity (kind_number self)) × (result ≤ 3) }
+    {
+        usize::from(self.signature().operands)
+    }
 
-pub const SECOND_PROJECTION: u8 = 8;
+    // How many binders stand over operand j, counted from 0.
+    #[tactic(auto, unfolding(crate::specs::Binders::binds))]
+    pub fn binders(self, j: usize) -> usize
+        ensures { (result ≡ binds (kind_number self) j) × (result ≤ 1) }
+    {
+        match self {
+            Kind::Function | Kind::Recursion => usize::from(j == 0),
+            Kind::Case => usize::from(j != 0),
+            _ => 0,
+        }
+    }
 
-pub const CASE: u8 = 9;
+    // Kinds 1 to 5.
+    pub fn is_object(self) -> bool
+        ensures { result ≡ is_object (kind_number self) }
+    {
+        matches!(
+            self,
+            Kind::Unit | Kind::Function | Kind::Pair | Kind::FirstInjection | Kind::SecondInjection
+        )
+    }
 
-pub const PROTECT: u8 = 10;
-
-pub const RECURSION: u8 = 11;
+    // Kinds 4 and 5.
+    pub fn is_injection(self) -> bool
+        ensures { result ≡ is_injection (kind_number self) }
+    {
+        matches!(self, Kind::FirstInjection | Kind::SecondInjection)
+    }
+}
 
 // The number of a case that finds its own type, in the place of a type's.
 pub const OWN_TYPE: u16 = 65535;
-
-pub fn wide(x: u8) -> usize
-    ensures { (result ≡ x) × (result < 256) }
-{
-    x as usize
-}
-
-pub fn word(x: u8) -> u16
-    ensures { (result ≡ x) × (result < 256) }
-{
-    x as u16
-}
-
-// A number of a record, as an index.
-pub fn index(n: u16) -> usize
-    ensures { (result ≡ n) × (result < 65536) }
-{
-    n as usize
-}
 
 // How many whole records the script has.
 pub fn record_count(script: &[u8]) -> usize
@@ -70,14 +139,50 @@ pub fn record_count(script: &[u8]) -> usize
     script.len() / SCRIPT_WIDTH
 }
 
-// The fields of record i.
-pub fn kind(script: &[u8], i: usize) -> u8
+// The number that record i has for its kind, be it that of a kind or not.
+pub fn kind_number_at(script: &[u8], i: usize) -> u8
     requires { i < records script.now }
     ensures { result ≡ kind script.now i }
 {
     script[SCRIPT_WIDTH * i]
 }
 
+// The kind of record i, if there is a kind of its number.
+pub fn kind_at(script: &[u8], i: usize) -> Option<Kind>
+    requires { i < records script.now }
+    ensures { KindIs (kind script.now i) result }
+{
+    Kind::try_from(kind_number_at(script, i)).ok()
+}
+
+// The kind of the term that stands at record i.
+pub fn kind_of(script: &[u8], i: usize) -> Kind
+    requires { Here script.now i }
+    ensures { kind_number result ≡ kind script.now i }
+{
+    kind_at(script, i).unwrap()
+}
+
+// The line of the table of kinds for record i: nothing is named if its number names no kind.
+pub fn signature_at(script: &[u8], i: usize) -> Signature
+    requires { i < records script.now }
+    ensures { said_line result ≡ signature_of (kind script.now i) }
+{
+    match kind_at(script, i) {
+        Some(kind) => kind.signature(),
+        None => entry(0, false, false, false, false),
+    }
+}
+
+// The number of operands that follow record i.
+pub fn arity_at(script: &[u8], i: usize) -> usize
+    requires { i < records script.now }
+    ensures { (result ≡ arity (kind script.now i)) × (result ≤ 3) }
+{
+    usize::from(signature_at(script, i).operands)
+}
+
+// The fields of record i.
 pub fn reader(script: &[u8], i: usize) -> Reader
     requires { i < records script.now }
     ensures { result.0 ≡ r script.now i }
@@ -103,7 +208,7 @@ pub fn number(script: &[u8], i: usize) -> u16
     requires { i < records script.now }
     ensures { result ≡ number script.now i }
 {
-    word(script[SCRIPT_WIDTH * i + 4]) + 256 * word(script[SCRIPT_WIDTH * i + 5])
+    u16::from_le_bytes([script[SCRIPT_WIDTH * i + 4], script[SCRIPT_WIDTH * i + 5]])
 }
 
 pub fn creator(script: &[u8], i: usize) -> Creator
@@ -143,7 +248,7 @@ pub fn influence(script: &[u8], i: usize) -> Influence
 }
 
 // A line of the table of kinds: the number of operands, which fields are named, and whether the number names a type.
-#[derive(Clone, Copy)]
+#[derive(Clone, Copy, Debug, PartialEq, Eq)]
 pub struct Signature {
     pub operands: u8,
     pub r: bool,
@@ -169,42 +274,12 @@ fn entry(operands: u8, r: bool, ir: bool, number: bool, typed: bool) -> Signatur
     }
 }
 
-// The table of kinds: operands, r, ir, number, type.
-#[tactic(auto, unfolding(rules::specs::Script::signature_of))]
-pub fn signature_of(kind: u8) -> Signature
-    ensures { said_line result ≡ signature_of kind }
-{
-    match kind {
-        VARIABLE => entry(0, false, false, true, false),
-        UNIT => entry(0, true, true, false, false),
-        FUNCTION => entry(1, true, true, true, true),
-        PAIR => entry(2, true, true, false, false),
-        FIRST_INJECTION => entry(1, true, true, true, true),
-        SECOND_INJECTION => entry(1, true, true, true, true),
-        APPLICATION => entry(2, true, false, false, false),
-        FIRST_PROJECTION => entry(1, true, false, false, false),
-        SECOND_PROJECTION => entry(1, true, false, false, false),
-        CASE => entry(3, true, false, true, true),
-        PROTECT => entry(1, false, true, false, false),
-        RECURSION => entry(1, true, false, true, true),
-        _ => entry(0, false, false, false, false),
-    }
-}
-
-// The number of operands that follow a record.
-pub fn arity(kind: u8) -> usize
-    ensures { (result ≡ arity kind) × (result ≤ 3) }
-{
-    let f = signature_of(kind);
-    wide(f.operands)
-}
-
 // Is record i a case that finds its own type?
 pub fn finds_own(script: &[u8], i: usize) -> bool
     requires { i < records script.now }
     ensures { result ≡ own_at script.now i }
 {
-    (kind(script, i) == CASE) & (number(script, i) == OWN_TYPE)
+    matches!(kind_at(script, i), Some(Kind::Case)) & (number(script, i) == OWN_TYPE)
 }
 
 // How much deeper than record i its operands stand.
@@ -212,64 +287,28 @@ pub fn weight(script: &[u8], i: usize) -> usize
     requires { i < records script.now }
     ensures { (result ≡ weight_at script.now i) × (result ≤ 2) }
 {
-    if finds_own(script, i) {
-        return 2;
-    }
-    1
+    if finds_own(script, i) { 2 } else { 1 }
 }
 
-// How many binders stand over operand j, counted from 0, of a record of this kind.
-#[tactic(auto, unfolding(crate::specs::Binders::binds))]
-pub fn binders(kind: u8, j: usize) -> usize
-    ensures { (result ≡ binds kind j) × (result ≤ 1) }
+// The record after the term that starts at record `start`, if it ends before the script does: how many terms are still to come, record
+// by record.
+pub fn term_end(script: &[u8], start: usize) -> Option<usize>
+    ensures { found result ≡ term_end script.now start }
 {
-    if j == 0 {
-        if kind == FUNCTION {
-            return 1;
-        }
-        if kind == RECURSION {
-            return 1;
-        }
-        return 0;
-    }
-    if kind == CASE {
-        return 1;
-    }
-    0
-}
-
-// Where a term ends: before a record, or not before the script does.
-#[derive(Clone, Copy)]
-pub enum Ended {
-    Before(usize),
-    Short,
-}
-
-// The record after the term that starts at record `start`: how many terms are still to come, record by record.
-pub fn term_end(script: &[u8], start: usize) -> Ended
-    ensures { said_end result ≡ term_end script.now start }
-{
-    let n = record_count(script);
     let mut pending: usize = 1;
-    let mut i = start;
-    while 0 < pending {
-        if n <= i {
-            return Ended::Short;
+    for i in start..record_count(script) {
+        pending = pending - 1 + arity_at(script, i);
+        if pending == 0 {
+            return Some(i + 1);
         }
-        pending = pending - 1 + arity(kind(script, i));
-        i += 1;
     }
-    Ended::Before(i)
+    None
 }
 
-// The record after the term that stands at record i. A term that stands there is not cut short, so the i is never returned.
+// The record after the term that stands at record i. A term that stands there is not cut short.
 pub fn end_of(script: &[u8], i: usize) -> usize
     requires { Here script.now i }
     ensures { (e : Term) → At script.now i e → result ≡ i + size e }
 {
-    let e = term_end(script, i);
-    let Ended::Before(end) = e else {
-        return i;
-    };
-    end
+    term_end(script, i).unwrap()
 }

@@ -1,14 +1,9 @@
 -- The answers that are read off records: whether a type is a function, and the fate of a node.
-use mathlib.Core.Path.{◌≡◌, refl, sym, ap, ap₂, subst, ◌∙◌}
-use mathlib.Core.Bool.{Bool, cond, So, false≢true}
-use mathlib.Core.List.{[], ◌∷◌}
-use Prim.Native.Nat.{ℕ, zero, suc, ◌+◌, ◌*◌, ◌≤◌, ◌<◌}
-use native.Mathlib.Omega.{arith}
-use native.Mathlib.Decide.{dec_lt}
-use lib.Dec.{eqb}
+use Rattle.std.proofs.Common.{◌≡◌, refl, sym, ap, ap₂, subst, ◌∙◌, Bool, cond, [], ◌∷◌, ℕ, zero, suc, ◌+◌, ◌*◌, ◌≤◌, ◌<◌, arith, eqb, length, get_or, drop, length-drop, get_or-drop}
+use Rattle.std.proofs.Math.Bool.{So}
+use Rattle.std.proofs.lemmas.Bool.{false≢true}
+use Rattle.std.proofs.Math.Decide.{dec_lt}
 use borrow.Author.Tests.{ne_eqb}
-use lib.ListN.{length, get_or, drop, length-drop}
-use lib.Seq.{get_or-drop}
 use Rattle.calculus.specs.Security.{Property, Security}
 use Rattle.calculus.specs.Types.{Ty, top}
 use Rattle.calculus.specs.Terms.{Term}
@@ -18,8 +13,8 @@ use Rattle.rules.specs.Groups.{leq, properties_of}
 use Rattle.rules.specs.Types.{type_count, type_kind, type_at, parse_types, make_type, no_type}
 use Rattle.rules.specs.Script.{kind, r, number}
 use Rattle.records.specs.Kinds as kinds
-use Rattle.records.specs.Place.{At}
-use Rattle.records.proofs.Stands.{kind_of, stands_kind, at_first}
+use Rattle.records.specs.Place.{At, Here}
+use Rattle.records.proofs.Stands.{kind_of, stands_kind, at_first, here}
 use Rattle.rules.proofs.TypePlaces.{type_at_outside}
 use Rattle.types.specs.Held.{type_property}
 use Rattle.redex.specs.Fates.{goes, wrong_kind, is_function, reading_fate, fate}
@@ -27,7 +22,7 @@ use Rattle.records.specs.Operands.{first_operand}
 use Rattle.redex.specs.Found.{answer, is_destructor, takes_apart}
 use Rattle.records.proofs.Made.{number_at}
 use Rattle.redex.proofs.Places.{reader_at}
-use Rattle.redex.proofs.Forms.{recursion_turn, reading_is}
+use Rattle.redex.proofs.Forms.{recursion_turn, destructor_operand, reading_is}
 
 -- a type is a function by its first byte
 made_function : (k : ℕ) (p : Property) (s t : Ty) → eqb k 3 ≡ is_function (make_type k p s t)
@@ -87,6 +82,12 @@ function_top t i h =
     let past : (n : ℕ) → byte b n ≡ byte t (type_width * i + n) = λ n. get_or-drop (type_width * i) t n 0 in
     first_top b h ∙ (λ j. record { r = past 1 j; ir = past 2 j; c = past 4 j; ic = past 5 j })
 
+-- what a destructor reads stands after it
+pub operand_here : {s : Bytes} {i : ℕ} → Here s i → So (is_destructor (kind s i)) → Here s (i + 1)
+operand_here {s} {i} q h =
+    let d : So (is_destructor (kind_of q.tree)) = subst (λ n. So (is_destructor n)) (stands_kind s i q.tree q.at) h in
+    here (at_first s i q.tree q.at (destructor_operand q.tree d))
+
 module _ {s : Bytes} {i : ℕ} {e : Term} (a : At s i e) where
   -- of a recursion, by the kind of the type that it names
   pub recursion_answer : (S : Security) (t : Bytes) (n d : ℕ) (b : Bool) → kind s i ≡ kinds.recursion → n ≡ number s i → is_function (type_at t n) ≡ b
@@ -104,8 +105,8 @@ module _ {s : Bytes} {i : ℕ} {e : Term} (a : At s i e) where
       let k = stands_kind s i e a in
       let x : So (is_destructor (kind_of e)) = subst (λ n. So (is_destructor n)) k h in
       let z = reading_is (properties_of g) tab e x in
-      let o = at_first s i e a z.0 in
+      let o = at_first s i e a (destructor_operand e x) in
       ap (λ x. answer x i d)
       (ap₂ reading_fate (sym p) (sym q)
       ∙ ap₂ reading_fate (ap₂ takes_apart k (stands_kind s (i + 1) (first_operand e) o)) (ap₂ (leq g) (reader_at o) (reader_at a))
-      ∙ sym z.1)
+      ∙ sym z)

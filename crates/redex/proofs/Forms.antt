@@ -1,9 +1,7 @@
 -- What a node does by its kind: which operand it evaluates next, when it is a value, when its own turn comes, and its fate.
-use mathlib.Core.Path.{◌≡◌, refl}
-use mathlib.Core.Bool.{cond, So, false, false≢true, true≢false}
-use Prim.Native.Nat.{ℕ, ◌+◌, ◌≤◌, ◌<◌}
-use native.Mathlib.Omega.{arith}
-use lib.Dec.{eqb}
+use Rattle.std.proofs.Common.{◌≡◌, refl, cond, ℕ, ◌+◌, ◌≤◌, ◌⊎◌, inl, inr, arith, eqb}
+use Rattle.std.proofs.Math.Bool.{So}
+use Rattle.std.proofs.lemmas.Bool.{false≢true}
 use Rattle.calculus.specs.Security.{Security}
 use Rattle.calculus.specs.Types.{sum, product, function, Ty}
 use Rattle.calculus.specs.Terms.{first, second, Term, var, unit, lam, pair, inj, app, proj, case, protect, mu, is_value}
@@ -19,7 +17,7 @@ use Rattle.records.proofs.Stands.{kind_of, operands}
 use Rattle.records.proofs.Made.{number_of, by_kind}
 use Rattle.redex.specs.Contexts.{offset, level}
 use Rattle.redex.specs.Fates.{goes, wrong_kind, property_of, is_function, ready, reading_fate, fate}
-use Rattle.redex.specs.Found.{is_destructor, is_injection, takes_apart}
+use Rattle.redex.specs.Found.{is_destructor, takes_apart}
 
 -- x is the operand that e evaluates next, n records on and m levels down
 pub record Position (e x : Term) (n m : ℕ) : Type 0 where
@@ -52,22 +50,28 @@ pub record Second (e : Term) : Type 0 where
   pub sizes : size e ≡ 1 + (size (first_operand e) + size (second_operand e))
   pub applies : (kind_of e ≡ kinds.pair → ⊥) → kind_of e ≡ kinds.application
 
-pub second_position : (e : Term) → Evaluates e → is_injection (kind_of e) ≡ false → kind_of e ≤ kinds.application → So (is_value (first_operand e)) → Second e
+-- no injection, no destructor of one operand and no protect
+abbrev pub Twofold : Term → Type 0
+Twofold e =
+    (kind_of e ≡ kinds.first_injection → ⊥) × (kind_of e ≡ kinds.second_injection → ⊥) × (kind_of e ≡ kinds.first_projection → ⊥)
+    × (kind_of e ≡ kinds.second_projection → ⊥) × (kind_of e ≡ kinds.case → ⊥) × (kind_of e ≡ kinds.protect → ⊥)
+
+pub second_position : (e : Term) → Evaluates e → Twofold e → So (is_value (first_operand e)) → Second e
 unfolding plug offset level size
-second_position (var n) v h l w = absurd (v.0 refl)
-second_position (unit k) v h l w = absurd (v.1 refl)
-second_position (lam k i e) v h l w = absurd (v.2 refl)
-second_position (pair k a b) v h l w =
+second_position (var n) v h w = absurd (v.0 refl)
+second_position (unit k) v h w = absurd (v.1 refl)
+second_position (lam k i e) v h w = absurd (v.2 refl)
+second_position (pair k a b) v h w =
     record { position = record { context = pair_right k a w hole; whole = refl; under = refl; from = omega arith }; sizes = refl; applies = λ n. absurd (n refl) }
-second_position (inj first k i e) v h l w = absurd (true≢false h)
-second_position (inj second k i e) v h l w = absurd (true≢false h)
-second_position (app u f a) v h l w =
+second_position (inj first k i e) v h w = absurd (h.0 refl)
+second_position (inj second k i e) v h w = absurd (h.1 refl)
+second_position (app u f a) v h w =
     record { position = record { context = app_right u f w hole; whole = refl; under = refl; from = omega arith }; sizes = refl; applies = λ n. refl }
-second_position (proj first u e) v h l w = absurd (omega arith)
-second_position (proj second u e) v h l w = absurd (omega arith)
-second_position (case u i e a b) v h l w = absurd (omega arith)
-second_position (protect m e) v h l w = absurd (omega arith)
-second_position (mu u i e) v h l w = absurd (omega arith)
+second_position (proj first u e) v h w = absurd (h.2 refl)
+second_position (proj second u e) v h w = absurd (h.3 refl)
+second_position (case u i e a b) v h w = absurd (h.4 refl)
+second_position (protect m e) v h w = absurd (h.5 refl)
+second_position (mu u i e) v h w = absurd (v.3 refl)
 
 -- the kinds of values
 pub unit_value : (e : Term) → kind_of e ≡ kinds.unit → So (is_value e) × (size e ≡ 1)
@@ -82,7 +86,7 @@ pub pair_value : (e : Term) → kind_of e ≡ kinds.pair → So (is_value (first
 unfolding is_value
 pair_value e h = by_kind (λ x. So (is_value (first_operand x)) → So (is_value (second_operand x)) → So (is_value x)) kinds.pair e h both
 
-pub injection_value : (e : Term) → So (is_injection (kind_of e)) → So (is_value (first_operand e)) → So (is_value e) × (size e ≡ 1 + size (first_operand e))
+pub injection_value : (e : Term) → So (kinds.is_injection (kind_of e)) → So (is_value (first_operand e)) → So (is_value e) × (size e ≡ 1 + size (first_operand e))
 unfolding is_value size
 injection_value (var n) h v = absurd (false≢true h)
 injection_value (unit k) h v = absurd (false≢true h)
@@ -123,25 +127,24 @@ unfolding is_destructor
 application_reads = refl
 
 -- a destructor of one evaluated operand
-pub destructor_turn : (e : Term) → Evaluates e → (kind_of e ≡ kinds.protect → ⊥) → kinds.application < kind_of e → So (is_value (first_operand e))
-    → So (ready e) × So (is_destructor (kind_of e))
-unfolding ready is_destructor
-destructor_turn (var n) v p l w = absurd (omega arith)
-destructor_turn (unit k) v p l w = absurd (omega arith)
-destructor_turn (lam k i e) v p l w = absurd (omega arith)
-destructor_turn (pair k a b) v p l w = absurd (omega arith)
-destructor_turn (inj first k i e) v p l w = absurd (omega arith)
-destructor_turn (inj second k i e) v p l w = absurd (omega arith)
-destructor_turn (app u f a) v p l w = absurd (omega arith)
-destructor_turn (proj first u e) v p l w = (w, refl)
-destructor_turn (proj second u e) v p l w = (w, refl)
-destructor_turn (case u i e a b) v p l w = (w, refl)
-destructor_turn (protect m e) v p l w = absurd (p refl)
-destructor_turn (mu u i e) v p l w = absurd (v.3 refl)
+abbrev pub ReadsOne : ℕ → Type 0
+ReadsOne n = (n ≡ kinds.first_projection) ⊎ ((n ≡ kinds.second_projection) ⊎ (n ≡ kinds.case))
+
+pub one_reads : (n : ℕ) → ReadsOne n → So (is_destructor n)
+unfolding is_destructor
+one_reads n (inl h) = rw h
+one_reads n (inr (inl h)) = rw h
+one_reads n (inr (inr h)) = rw h
+
+pub destructor_turn : (e : Term) → ReadsOne (kind_of e) → So (is_value (first_operand e)) → So (ready e)
+unfolding ready
+destructor_turn e (inl h) = by_kind (λ x. So (is_value (first_operand x)) → So (ready x)) kinds.first_projection e h (λ v. v)
+destructor_turn e (inr (inl h)) = by_kind (λ x. So (is_value (first_operand x)) → So (ready x)) kinds.second_projection e h (λ v. v)
+destructor_turn e (inr (inr h)) = by_kind (λ x. So (is_value (first_operand x)) → So (ready x)) kinds.case e h (λ v. v)
 
 -- the kinds of what a function type, a pair type and a sum type have for values
 pub built_is : (e : Term) → (built_by function e ≡ eqb (kind_of e) kinds.function) × (built_by product e ≡ eqb (kind_of e) kinds.pair)
-    × (built_by sum e ≡ is_injection (kind_of e))
+    × (built_by sum e ≡ kinds.is_injection (kind_of e))
 unfolding built_by
 built_is (var n) = (refl, refl, refl)
 built_is (unit k) = (refl, refl, refl)
@@ -156,10 +159,24 @@ built_is (case w i e a b) = (refl, refl, refl)
 built_is (protect m e) = (refl, refl, refl)
 built_is (mu w i e) = (refl, refl, refl)
 
+-- a destructor has an operand
+pub destructor_operand : (e : Term) → So (is_destructor (kind_of e)) → 1 ≤ operands e
+unfolding is_destructor
+destructor_operand (var n) h = absurd (false≢true h)
+destructor_operand (unit k) h = absurd (false≢true h)
+destructor_operand (lam k i e) h = absurd (false≢true h)
+destructor_operand (pair k a b) h = absurd (false≢true h)
+destructor_operand (inj first k i e) h = absurd (false≢true h)
+destructor_operand (inj second k i e) h = absurd (false≢true h)
+destructor_operand (app w f a) h = omega arith
+destructor_operand (proj d w e) h = omega arith
+destructor_operand (case w i e a b) h = omega arith
+destructor_operand (protect m e) h = absurd (false≢true h)
+destructor_operand (mu w i e) h = absurd (false≢true h)
+
 -- a destructor's fate, by its own record and by that of the operand that it reads
-pub reading_is : (S : Security) (tab : ℕ → Ty) (e : Term) → So (is_destructor (kind_of e)) → (1 ≤ operands e)
-    × (fate S tab e
-    ≡ reading_fate (takes_apart (kind_of e) (kind_of (first_operand e))) (S.permits (property_of (first_operand e)) (property_of e).r))
+pub reading_is : (S : Security) (tab : ℕ → Ty) (e : Term) → So (is_destructor (kind_of e))
+    → fate S tab e ≡ reading_fate (takes_apart (kind_of e) (kind_of (first_operand e))) (S.permits (property_of (first_operand e)) (property_of e).r)
 unfolding fate is_destructor
 reading_is S tab (var n) h = absurd (false≢true h)
 reading_is S tab (unit k) h = absurd (false≢true h)
@@ -167,9 +184,9 @@ reading_is S tab (lam k i e) h = absurd (false≢true h)
 reading_is S tab (pair k a b) h = absurd (false≢true h)
 reading_is S tab (inj first k i e) h = absurd (false≢true h)
 reading_is S tab (inj second k i e) h = absurd (false≢true h)
-reading_is S tab (app w f a) h = (omega arith, rw (built_is f).0)
-reading_is S tab (proj first w e) h = (omega arith, rw (built_is e).1)
-reading_is S tab (proj second w e) h = (omega arith, rw (built_is e).1)
-reading_is S tab (case w i e a b) h = (omega arith, rw (built_is e).2)
+reading_is S tab (app w f a) h = rw (built_is f).0
+reading_is S tab (proj first w e) h = rw (built_is e).1
+reading_is S tab (proj second w e) h = rw (built_is e).1
+reading_is S tab (case w i e a b) h = rw (built_is e).2
 reading_is S tab (protect m e) h = absurd (false≢true h)
 reading_is S tab (mu w i e) h = absurd (false≢true h)

@@ -1,3 +1,4 @@
+pub mod Numbered
 pub mod Plugs
 pub mod Places
 pub mod Turns

@@ -1,10 +1,5 @@
 -- Plugging in bytes: a term in an evaluation context is what stands before the hole, the term, what stands after it.
-use mathlib.Core.Path.{◌≡◌, refl, sym, ap, ◌∙◌}
-use mathlib.Core.List.{◌++◌, append_assoc, append-nil}
-use Prim.Native.Nat.{ℕ, ◌+◌, ◌*◌, ◌≤◌, ◌<◌, max}
-use native.Mathlib.Omega.{arith}
-use lib.ListN.{length, take, drop, length-append}
-use lib.Seq.{take_at, drop_at}
+use Rattle.std.proofs.Common.{◌≡◌, refl, sym, ap, ◌∙◌, ◌++◌, append_assoc, append-nil, ℕ, ◌+◌, ◌*◌, ◌≤◌, ◌<◌, max, arith, length, take, drop, length-append, take_at, drop_at}
 use Rattle.calculus.specs.Terms.{first, second, Term}
 use Rattle.calculus.specs.Reduction.{Context, hole, app_left, app_right, in_proj, in_inj, pair_left, pair_right, in_protect, in_case, plug}
 use Rattle.calculus.proofs.Contexts.{compose}

@@ -1,7 +1,7 @@
 -- Fate and contractum are the step function's: of a node whose own turn it is, and of a term around it.
-use mathlib.Core.Path.{◌≡◌, refl, ap, ◌∙◌}
-use mathlib.Core.Bool.{Bool, true, false, cond, So, false≢true}
-use Prim.Native.Nat.{ℕ, zero}
+use Rattle.std.proofs.Common.{◌≡◌, refl, ap, ◌∙◌, Bool, true, false, cond, ℕ, zero}
+use Rattle.std.proofs.Math.Bool.{So}
+use Rattle.std.proofs.lemmas.Bool.{false≢true}
 use Rattle.calculus.specs.Security.{Reader, Security}
 use Rattle.calculus.specs.Types.{sum, product, function, Ty, one, node, top}
 use Rattle.calculus.specs.Terms.{Side, Term, var, unit, lam, pair, inj, app, proj, case, protect, mu, is_value, subst}

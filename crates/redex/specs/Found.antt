@@ -45,10 +45,6 @@ answer goes i d = Redex i d
 answer not_permitted i d = Denied
 answer wrong_kind i d = Stuck
 
--- Is it the kind of an injection, the first or the second?
-abbrev pub is_injection : ℕ → Bool
-is_injection kind = eqb kind kinds.first_injection || eqb kind kinds.second_injection
-
 -- Is it the kind of a projection, the first or the second?
 abbrev is_projection : ℕ → Bool
 is_projection kind = eqb kind kinds.first_projection || eqb kind kinds.second_projection
@@ -62,4 +58,4 @@ abbrev pub takes_apart : ℕ → ℕ → Bool
 takes_apart destructor value =
     cond (eqb destructor kinds.application) (eqb value kinds.function)
     (cond (is_projection destructor) (eqb value kinds.pair)
-    (cond (eqb destructor kinds.case) (is_injection value) false))
+    (cond (eqb destructor kinds.case) (kinds.is_injection value) false))

@@ -11,21 +11,20 @@ ghost use Rattle.rules.specs.Groups.{leq, properties_of};
 ghost use Rattle.rules.specs.Types.{type_at};
 ghost use Rattle.rules.specs.Script.{records, kind, r};
 ghost use Rattle.records.specs.Kinds as kinds;
-ghost use Rattle.records.specs.Place.{At};
+ghost use Rattle.records.specs.Numbers.{kind_number};
+ghost use Rattle.records.specs.Place.{At, Here};
 ghost use Rattle.redex.specs.Fates.{is_function, fate};
 ghost use Rattle.redex.specs.Found.{Shallow, Finds, answer, is_destructor, takes_apart};
 
-use records::{
-    APPLICATION, CASE, FIRST_INJECTION, FIRST_PROJECTION, FUNCTION, PAIR, PROTECT, RECURSION,
-    SECOND_INJECTION, SECOND_PROJECTION, UNIT, VARIABLE,
-};
+use lattice::Group;
+use records::Kind;
 
-// What the search for the redex reports: a value and the record after it; the redex and its depth less one; or why no
+// What the search for the redex reports: a value and the record after it; the redex and how many levels are around it; or why no
 // step moves the term, a reader that may not (end 2) or a wrong kind (end 3).
-#[derive(Clone, Copy)]
+#[derive(Clone, Copy, Debug, PartialEq, Eq)]
 pub enum Found {
     Value(usize),
-    Redex(usize, usize),
+    Redex { place: usize, around: usize },
     Denied,
     Stuck,
 }
@@ -37,18 +36,20 @@ fn unrolls(types: &[u8], i: usize) -> bool
     if types::type_count(types) <= i {
         return false;
     }
-    types::kind_at(types, i) == types::FUNCTION
+    match types::kind_at(types, i) {
+        Some(kind) => kind == types::Kind::Function,
+        None => false,
+    }
 }
 
 // Does a destructor of this kind take apart a value of that kind?
-fn takes_apart(destructor: u8, value: u8) -> bool
-    ensures { result ≡ takes_apart destructor value }
+fn takes_apart(destructor: Kind, value: Kind) -> bool
+    ensures { result ≡ takes_apart (kind_number destructor) (kind_number value) }
 {
     match destructor {
-        APPLICATION => value == FUNCTION,
-        FIRST_PROJECTION => value == PAIR,
-        SECOND_PROJECTION => value == PAIR,
-        CASE => (value == FIRST_INJECTION) | (value == SECOND_INJECTION),
+        Kind::Application => value == Kind::Function,
+        Kind::FirstProjection | Kind::SecondProjection => value == Kind::Pair,
+        Kind::Case => value.is_injection(),
         _ => false,
     }
 }
@@ -65,19 +66,22 @@ fn may_read(groups: &[u8], script: &[u8], at: usize) -> bool
 
 // The answer of the destructor at record `at`, whose evaluated operands are values: the kind is asked before the reader.
 fn reading(groups: &[u8], script: &[u8], at: usize, depth: usize) -> Found
-    requires { at + 1 < records script.now }
+    requires { Here script.now at × So (is_destructor (kind script.now at)) }
     ensures { (tab : ℕ → Ty) (e : Term) → At script.now at e
-        → So (is_destructor (kind script.now at)) → result ≡ answer (fate (properties_of groups.now) tab e) at depth }
+        → result ≡ answer (fate (properties_of groups.now) tab e) at depth }
 {
-    let destructor = records::kind(script, at);
-    let value = records::kind(script, at + 1);
-    if takes_apart(destructor, value) {
-        if may_read(groups, script, at) {
-            return Found::Redex(at, depth);
+    let destructor = records::kind_of(script, at);
+    let value = records::kind_of(script, at + 1);
+    if !takes_apart(destructor, value) {
+        Found::Stuck
+    } else if may_read(groups, script, at) {
+        Found::Redex {
+            place: at,
+            around: depth,
         }
-        return Found::Denied;
+    } else {
+        Found::Denied
     }
-    Found::Stuck
 }
 
 // The answer of the recursion at record `at`.
@@ -86,11 +90,14 @@ fn unrolling(types: &[u8], script: &[u8], at: usize, depth: usize) -> Found
     ensures { (S : Security) (e : Term) → At script.now at e → kind script.now at ≡ kinds.recursion
         → result ≡ answer (fate S (type_at types.now) e) at depth }
 {
-    let named = records::index(records::number(script, at));
+    let named = usize::from(records::number(script, at));
     if !unrolls(types, named) {
         return Found::Stuck;
     }
-    Found::Redex(at, depth)
+    Found::Redex {
+        place: at,
+        around: depth,
+    }
 }
 
 // One pass from left to right over the term at record `at`, which stands `depth` levels down. A value tells its end, so none is
@@ -100,39 +107,38 @@ pub fn find(groups: &[u8], types: &[u8], script: &[u8], at: usize, depth: usize)
     ensures { (e : Term) → At script.now at e
         → Finds (properties_of groups.now) (type_at types.now) at depth e result }
 {
-    let kind = records::kind(script, at);
-    if kind == VARIABLE {
-        return Found::Stuck;
-    }
-    if kind == UNIT {
-        return Found::Value(at + 1);
-    }
-    if kind == FUNCTION {
-        return Found::Value(records::end_of(script, at));
-    }
-    if kind == RECURSION {
-        return unrolling(types, script, at, depth);
+    let kind = records::kind_of(script, at);
+    match kind {
+        Kind::Variable => return Found::Stuck,
+        Kind::Unit => return Found::Value(at + 1),
+        Kind::Function => return Found::Value(records::end_of(script, at)),
+        Kind::Recursion => return unrolling(types, script, at, depth),
+        _ => {}
     }
     let inside = depth + records::weight(script, at);
     let first = find(groups, types, script, at + 1, inside);
     let Found::Value(next) = first else {
         return first;
     };
-    if (kind == FIRST_INJECTION) | (kind == SECOND_INJECTION) {
-        return first;
-    }
-    if kind == PROTECT {
-        return Found::Redex(at, depth);
-    }
-    if APPLICATION < kind {
-        return reading(groups, script, at, depth);
+    match kind {
+        Kind::FirstInjection | Kind::SecondInjection => return first,
+        Kind::Protect => {
+            return Found::Redex {
+                place: at,
+                around: depth,
+            };
+        }
+        Kind::FirstProjection | Kind::SecondProjection | Kind::Case => {
+            return reading(groups, script, at, depth);
+        }
+        _ => {}
     }
     let second = find(groups, types, script, next, depth + 1);
     let Found::Value(end) = second else {
         return second;
     };
-    if kind == PAIR {
-        return Found::Value(end);
+    match kind {
+        Kind::Pair => Found::Value(end),
+        _ => reading(groups, script, at, depth),
     }
-    reading(groups, script, at, depth)
 }

@@ -1,9 +1,6 @@
 -- How a step ends, from what the search and the count say; and a step's answer to the questions.
-use mathlib.Core.Path.{◌≡◌, refl, ap}
-use mathlib.Core.Path.{subst as transport}
-use mathlib.Core.Bool.{true, false}
-use mathlib.Core.List.{List, []}
-use Prim.Native.Nat.{ℕ, ◌≤◌}
+use Rattle.std.proofs.Common.{◌≡◌, refl, sym, ◌∙◌, None, Some, Result, Ok, Err, ap, true, false, List, [], ℕ, ◌≤◌}
+use Rattle.std.proofs.Common.{subst as transport}
 use Rattle.calculus.specs.Security.{Security}
 use Rattle.calculus.specs.Types.{Ty}
 use Rattle.calculus.specs.Terms.{Term}
@@ -15,14 +12,16 @@ use Rattle.rules.specs.Types.{type_count, type_at, q8}
 use Rattle.rules.specs.Script.{records, term}
 use Rattle.rules.specs.Step.{End, at_value, moves, may_not, wrong_kind, too_big, exceeds, limited, step_in}
 use Rattle.rules.specs.Calls.{step_report, types_check, groups_check, script_check, stepping, written_after}
-use Rattle.answer.specs.declared.Checked.{Checked}
-use Rattle.answer.specs.declared.Checked.TheVariants.{Refused}
 use Rattle.rules.proofs.Asked.{and_then, few_types}
 use Rattle.demands.proofs.Checked.{script_passed}
 use Rattle.redex.specs.Found.{Site, Finds, finds_redex}
 use Rattle.redex.specs.declared.Found.TheVariants.{Value, Redex, Denied, Stuck}
 use Rattle.redex.proofs.Searches.{finds_step}
-use Rattle.reduction.specs.Steps.{Startable, told, as_step, refused_step, said_step}
+use Rattle.answer.specs.Numbers.{number}
+use Rattle.answer.specs.declared.Refusal.{Refusal}
+use Rattle.reduction.specs.Steps.{Startable, told, said_step}
+use Rattle.reduction.specs.declared.Stop.{Stop}
+use Rattle.reduction.specs.declared.StepReport.{StepReport as Reported}
 
 module _ {S : Security} {tab : ℕ → Ty} {e : Term} where
   pub ends_value : (room : ℕ) {n : ℕ} → Finds S tab 0 0 e (Value n) → step_in S tab room e ≡ at_value
@@ -49,22 +48,29 @@ module _ (S : Security) (tab : ℕ → Ty) (e : Term) where
   unfolding step_in
   ends_too_big room e' h k = rw (h, k)
 
--- the report of a step that was made
-pub made_report : (s : Bytes) (x : End) → said_step (as_step (records s) (told x)) ≡ step_report s (accepted x)
-made_report s at_value = refl
-made_report s (moves e) = refl
-made_report s may_not = refl
-made_report s wrong_kind = refl
-made_report s too_big = refl
+-- what is reported of a step, with the script's own count where it didn't move
+abbrev reported : ℕ → Result ℕ Stop → Reported
+reported own (Ok count) = record { stop = None; records = count }
+reported own (Err stop) = record { stop = Some stop; records = own }
+
+made : (s : Bytes) (x : End) → said_step (Ok (reported (records s) (told x))) ≡ step_report s (accepted x)
+made s at_value = refl
+made s (moves e) = refl
+made s may_not = refl
+made s wrong_kind = refl
+made s too_big = refl
+
+pub made_report : (s : Bytes) {x : End} {r : Result ℕ Stop} {o : Answer End} → r ≡ told x → o ≡ accepted x → said_step (Ok (reported (records s) r)) ≡ step_report s o
+made_report s {x} h k = ap (λ (r : Result ℕ Stop). said_step (Ok (reported (records s) r))) h ∙ made s x ∙ sym (ap (step_report s) k)
 
 -- a refusal, and the buffer as it was
-abbrev pub Keeps : Bytes → Bytes → Checked → Answer End → Type 0
-Keeps s old x o = (said_step (refused_step x) ≡ step_report s o) × (old ≡ written_after o old)
+abbrev Keeps : Bytes → Bytes → Refusal → Answer End → Type 0
+Keeps s old e o = (said_step (Err e) ≡ step_report s o) × (old ≡ written_after o old)
 
-pub refused_keeps : (g t s old : Bytes) (room : ℕ) {q p : ℕ} → refused q p ≡ script_check [] g t s → Keeps s old (Refused q p) (stepping g t s room)
+pub refused_keeps : (g t s old : Bytes) (room : ℕ) (e : Refusal) → refused (number e.question) e.place ≡ script_check [] g t s → Keeps s old e (stepping g t s room)
 unfolding stepping
-refused_keeps g t s old room {q} {p} e =
-    transport (λ (c : Answer (Unit {0})). Keeps s old (Refused q p) (◌>>◌ c (accepted (step_in (properties_of g) (type_at t) room (term s))))) e (refl, refl)
+refused_keeps g t s old room e h =
+    transport (λ (c : Answer (Unit {0})). Keeps s old e (◌>>◌ c (accepted (step_in (properties_of g) (type_at t) room (term s))))) h (refl, refl)
 
 pub passed_step : (g t s : Bytes) (room : ℕ) → script_check [] g t s ≡ accepted tt
     → stepping g t s room ≡ accepted (step_in (properties_of g) (type_at t) room (term s))

@@ -1,5 +1,5 @@
 -- One step: what it is given, and what it reports.
-use Rattle.std.specs.Prelude.{◌≡◌, ℕ, ◌+◌, ◌*◌, ◌≤◌, length}
+use Rattle.std.specs.Prelude.{◌≡◌, ℕ, ◌+◌, ◌*◌, ◌≤◌, length, Option, None, Some, Result, Ok, Err}
 use Rattle.calculus.specs.Terms.{Term}
 use Rattle.calculus.specs.Reduction.{plug}
 use Rattle.rules.specs.Answer.{Bytes, Answer, accepted, refused}
@@ -9,16 +9,15 @@ use Rattle.rules.specs.Types.{type_count, type_at}
 use Rattle.rules.specs.Script.{encode, term, size, depth}
 use Rattle.rules.specs.Step.{End, at_value, moves, may_not, wrong_kind, too_big}
 use Rattle.rules.specs.Calls.{StepReport}
-use Rattle.answer.specs.declared.Checked.{Checked}
-use Rattle.answer.specs.declared.Checked.TheVariants as checked
+use Rattle.answer.specs.Numbers.{number}
+use Rattle.answer.specs.declared.Refusal.{Refusal}
 use Rattle.redex.specs.Fates.{contractum}
 use Rattle.redex.specs.Found.{Site}
 use Rattle.contraction.specs.declared.Plan.{Plan}
-use Rattle.reduction.specs.declared.Stepped.{Stepped}
-use Rattle.reduction.specs.declared.Stepped.TheVariants.{Stopped, Moved}
-use Rattle.reduction.specs.declared.StepAnswer.{StepAnswer}
-use Rattle.reduction.specs.declared.StepAnswer.TheVariants.{Ended, Refused}
 use Rattle.contraction.specs.Plans.{Planned}
+use Rattle.reduction.specs.declared.Stop.{Stop}
+use Rattle.reduction.specs.declared.Stop.TheVariants.{Value, MayNot, WrongKind, TooBig}
+use Rattle.reduction.specs.declared.StepReport.{StepReport as Reported}
 
 -- the script is one whole term, within the limits, and so is the types table
 pub record Startable (t s : Bytes) : Type 0 where
@@ -46,25 +45,26 @@ pub record Placing (g t s : Bytes) (at : ℕ) (p : Plan) (end count : ℕ) (w : 
   pub count_is : count ≡ size (contractum (properties_of g) (type_at t) site.redex)
   pub fits : script_width * size whole ≤ length w
 
+-- the documents' number of an end: of a step that doesn't move the term, and 1 where nothing stops it
+abbrev pub stop_number : Stop → ℕ
+stop_number Value = 0
+stop_number MayNot = 2
+stop_number WrongKind = 3
+stop_number TooBig = 4
+
+abbrev pub end_number : Option Stop → ℕ
+end_number None = 1
+end_number (Some stop) = stop_number stop
+
 -- a step's end, as the crate tells it
-abbrev pub told : End → Stepped
-told at_value = Stopped 0
-told (moves e) = Moved (size e)
-told may_not = Stopped 2
-told wrong_kind = Stopped 3
-told too_big = Stopped 4
-
--- the end's number and the record count, the script's own unless the step moved
-abbrev pub as_step : ℕ → Stepped → StepAnswer
-as_step own (Stopped end) = Ended end own
-as_step own (Moved count) = Ended 1 count
-
--- a refused script as a step's answer
-abbrev pub refused_step : Checked → StepAnswer
-refused_step checked.Passed = Ended 0 0
-refused_step (checked.Refused question place) = Refused question place
+abbrev pub told : End → Result ℕ Stop
+told at_value = Err Value
+told (moves e) = Ok (size e)
+told may_not = Err MayNot
+told wrong_kind = Err WrongKind
+told too_big = Err TooBig
 
 -- "A step reports its end and a record count."
-abbrev pub said_step : StepAnswer → Answer StepReport
-said_step (Ended end count) = accepted (record { end = end; count = count })
-said_step (Refused question place) = refused question place
+abbrev pub said_step : Result Reported Refusal → Answer StepReport
+said_step (Ok report) = accepted (record { end = end_number report.stop; count = report.records })
+said_step (Err e) = refused (number e.question) e.place

@@ -10,25 +10,40 @@ ghost use Rattle.rules.specs.Script.{encode, term, depth};
 ghost use Rattle.rules.specs.Step.{step_in};
 ghost use Rattle.rules.specs.Calls.{step_report, stepping, front_after, written_after};
 ghost use Rattle.memory.specs.Splice.{splice};
-ghost use Rattle.reduction.specs.Steps.{told, Startable, Sited, Placing, as_step, refused_step, said_step};
+ghost use Rattle.reduction.specs.Steps.{end_number, told, Startable, Sited, Placing, said_step};
 
-use answer::Checked;
+use answer::Refusal;
 use contraction::Plan;
 use records::SCRIPT_WIDTH;
 use redex::Found;
 
-// What a step of a term reports: an end without a move (0, 2, 3 or 4), or the records of the new term.
-#[derive(Clone, Copy)]
-pub enum Stepped {
-    Stopped(u8),
-    Moved(usize),
+// Why no step moves a term: it is a value, the reader may not, an operand is of the wrong kind, or the new term is too big.
+#[derive(Clone, Copy, Debug, PartialEq, Eq)]
+pub enum Stop {
+    Value,
+    MayNot,
+    WrongKind,
+    TooBig,
 }
 
-// What a step reports: its end and a record count, or the number of the first question answered no and the place.
-#[derive(Clone, Copy)]
-pub enum StepAnswer {
-    Ended(u8, usize),
-    Refused(u8, usize),
+// What a step reports: why it didn't move, if it didn't, and a record count.
+#[derive(Clone, Copy, Debug, PartialEq, Eq)]
+pub struct StepReport {
+    pub stop: Option<Stop>,
+    pub records: usize,
+}
+
+// The number that the documents give the end of a step or of a run. 1 is theirs for a term that still moves.
+pub fn end_number(stop: Option<Stop>) -> u8
+    ensures { result ≡ end_number stop }
+{
+    match stop {
+        Some(Stop::Value) => 0,
+        None => 1,
+        Some(Stop::MayNot) => 2,
+        Some(Stop::WrongKind) => 3,
+        Some(Stop::TooBig) => 4,
+    }
 }
 
 // The new term, over the front of `written`: what stands before the redex, the contractum of this many records, what stands
@@ -73,7 +88,7 @@ fn contract(
     around: usize,
     written: &mut [u8],
     room: usize,
-) -> Stepped
+) -> Result<usize, Stop>
     requires { Sited groups.now types.now script.now at around written.old room }
     ensures { (result ≡ told
         (step_in (properties_of groups.now) (type_at types.now) room (term script.now)))
@@ -86,10 +101,10 @@ fn contract(
     let end = records::end_of(script, at);
     let total = at + size.records + (records::record_count(script) - end);
     if exceeds(room, total, around + size.depth) {
-        return Stepped::Stopped(4);
+        return Err(Stop::TooBig);
     }
     write_new(groups, types, script, at, plan, end, size.records, written);
-    Stepped::Moved(total)
+    Ok(total)
 }
 
 // One step of a term that stands alone in `script`; the new term to the front of `written`, of which `room` bytes may be used.
@@ -99,7 +114,7 @@ pub fn step_term(
     script: &[u8],
     written: &mut [u8],
     room: usize,
-) -> Stepped
+) -> Result<usize, Stop>
     requires { Startable types.now script.now × (room ≤ length written.old) }
     ensures { (result ≡ told
         (step_in (properties_of groups.now) (type_at types.now) room (term script.now)))
@@ -107,37 +122,23 @@ pub fn step_term(
         ≡ front_after (step_in (properties_of groups.now) (type_at types.now) room
         (term script.now)) written.old) }
 {
-    let found = redex::find(groups, types, script, 0, 0);
-    match found {
-        Found::Value(_) => Stepped::Stopped(0),
-        Found::Redex(at, around) => contract(groups, types, script, at, around, written, room),
-        Found::Denied => Stepped::Stopped(2),
-        Found::Stuck => Stepped::Stopped(3),
-    }
-}
-
-// A refusal, as an answer to a step.
-fn refused_step(a: Checked) -> StepAnswer
-    ensures { result ≡ refused_step a }
-{
-    match a {
-        Checked::Passed => StepAnswer::Ended(0, 0),
-        Checked::Refused(question, place) => StepAnswer::Refused(question, place),
-    }
-}
-
-// The end and the record count, the script's own unless the step moved.
-fn ended(x: Stepped, own: usize) -> StepAnswer
-    ensures { result ≡ as_step own x }
-{
-    match x {
-        Stepped::Stopped(end) => StepAnswer::Ended(end, own),
-        Stepped::Moved(records) => StepAnswer::Ended(1, records),
+    match redex::find(groups, types, script, 0, 0) {
+        Found::Value(_) => Err(Stop::Value),
+        Found::Redex { place, around } => contract(
+            groups, types, script, place, around, written, room,
+        ),
+        Found::Denied => Err(Stop::MayNot),
+        Found::Stuck => Err(Stop::WrongKind),
     }
 }
 
 // A step: questions 2 to 19 and 36, in order, and then one step of the script's term. The written buffer may be shorter than the script.
-pub fn step(groups: &[u8], types: &[u8], script: &[u8], written: &mut [u8]) -> StepAnswer
+pub fn step(
+    groups: &[u8],
+    types: &[u8],
+    script: &[u8],
+    written: &mut [u8],
+) -> Result<StepReport, Refusal>
     ensures { (said_step result
         ≡ step_report script.now
         (stepping groups.now types.now script.now (length written.old)))
@@ -145,12 +146,17 @@ pub fn step(groups: &[u8], types: &[u8], script: &[u8], written: &mut [u8]) -> S
         ≡ written_after (stepping groups.now types.now script.now
         (length written.old)) written.old) }
 {
-    let asked = syntax::script_check(groups, types, script);
-    let Checked::Passed = asked else {
-        return refused_step(asked);
-    };
+    syntax::script_check(groups, types, script, &[])?;
     let own = records::record_count(script);
     let room = written.len();
-    let x = step_term(groups, types, script, written, room);
-    ended(x, own)
+    match step_term(groups, types, script, written, room) {
+        Ok(moved) => Ok(StepReport {
+            stop: None,
+            records: moved,
+        }),
+        Err(stop) => Ok(StepReport {
+            stop: Some(stop),
+            records: own,
+        }),
+    }
 }

@@ -1,15 +1,8 @@
 -- The report's texts from what the calls answer, and how long they can be.
-use mathlib.Core.Path.{◌≡◌, refl, sym, ap, ◌∙◌}
-use mathlib.Core.Path.{subst as transport}
-use mathlib.Core.Bool.{Bool, true, false, false≢true}
-use mathlib.Core.List.{[], ◌∷◌, ◌++◌}
-use mathlib.Core.Option.{Option, none, some}
-use Prim.Native.Nat.{ℕ, zero, suc, ◌+◌, ◌*◌, ◌-◌, ◌/◌, ◌≤◌}
-use native.Mathlib.Omega.{arith}
-use borrow.Author.Tests.{leb-true, eqb-true, ne_eqb}
-use lib.Dec.{leb, eqb}
-use lib.ListN.{length, take, drop, length-append}
-use lib.Seq.{take_at}
+use Rattle.std.proofs.Common.{◌≡◌, ℕ, zero, suc, ◌+◌, ◌*◌, ◌-◌, ◌/◌, ◌≤◌, Bool, true, false, [], ◌∷◌, ◌++◌, length, take, drop, refl, sym, ap, ◌∙◌, arith, length-append, leb, eqb}
+use Rattle.std.proofs.Math.Option.{Option, none, some}
+use Rattle.std.proofs.lemmas.Bool.{leb-true, eqb-true, ne_eqb}
+use Rattle.std.proofs.lemmas.List.{take_at}
 use Rattle.calculus.specs.Types.{Ty, size_t}
 use Rattle.rules.specs.Answer.{Bytes, Octets, Answer, accepted, refused}
 use Rattle.rules.specs.Limits.{script_width, sheet_width, script_limit, words_length, report_budget, report_buffer, report_sheet}
@@ -26,9 +19,9 @@ use Rattle.rules.proofs.Asked.{ask_true, and_then}
 use Rattle.substitution.proofs.Reading.{term_length}
 use Rattle.packing.proofs.Exported.{run_ends}
 use Rattle.text.specs.Written.{Written}
+use Rattle.text.specs.declared.Text.{Text}
 use Rattle.text.proofs.Placed.{keeps}
-use Rattle.lines.proofs.Lines.{refusal_length, accepted_length, run_length, sheet_length, sheet_lines_first, no_lines}
-use Rattle.report.specs.Supplied.{file}
+use Rattle.lines.proofs.Lines.{refusal_length, accepted_length, run_length, sheet_length, sheet_lines_first, no_line}
 use Rattle.report.specs.Room.{value_room, run_room, report_room}
 
 -- no answer is both
@@ -56,7 +49,7 @@ count_within (refused q p) count room e f = absurd (either e)
 whole_lines : (w : Bytes) (n : ℕ) (b rest : Bytes) → n ≡ length b / sheet_width
     → sheet_lines w (take (sheet_width * n) (b ++ rest)) ≡ sheet_lines w b
 unfolding sheet_lines
-whole_lines w zero b rest e = sym (no_lines w b 0 (omega arith))
+whole_lines w zero b rest e = sym (no_line w b (omega arith))
 whole_lines w (suc n) [] rest e = absurd (omega arith)
 whole_lines w (suc n) (k ∷ []) rest e = absurd (omega arith)
 whole_lines w (suc n) (k ∷ r ∷ []) rest e = absurd (omega arith)
@@ -162,27 +155,18 @@ script_refused w g t s q p = go (verdict g t s)
     go (accepted type) h = absurd (either (sym h))
     go (refused q' p') h = cc
 
--- what is written for one text is written for the same one in other words
-pub written_as : {at end : ℕ} {b b' w w' : Bytes} → b ≡ b' → Written at b w end w' → Written at b' w end w'
-written_as {at} {end} {b} {b'} {w} {w'} e h = transport (λ (x : Bytes). Written at x w end w') e h
-
 -- the words first: none supplied, accepted, refused
-pub ours_report : (w v g t s : Bytes) (supplied : Bool) → supplied ≡ false → v ≡ our_words → script_text v g t s ≡ report (file supplied w) g t s
+pub ours_report : (v g t s : Bytes) → v ≡ our_words → script_text v g t s ≡ report none g t s
 unfolding report
-ours_report w v g t s true n e = absurd (false≢true (sym n))
-ours_report w v g t s false n e = ap (λ (b : Bytes). script_text b g t s) e
+ours_report v g t s e = ap (λ (b : Bytes). script_text b g t s) e
 
-pub own_report : (w g t s : Bytes) (supplied : Bool) → supplied ≡ true → words_check w ≡ accepted tt
-    → script_text w g t s ≡ report (file supplied w) g t s
+pub own_report : (w g t s : Bytes) → words_check w ≡ accepted tt → script_text w g t s ≡ report (some w) g t s
 unfolding report
-own_report w g t s true n e = sym (ap (λ (a : Answer (Unit {0})). after_words a (script_text w g t s)) e)
-own_report w g t s false n e = absurd (false≢true n)
+own_report w g t s e = sym (ap (λ (a : Answer (Unit {0})). after_words a (script_text w g t s)) e)
 
-pub words_refused : (w g t s : Bytes) (supplied : Bool) (q p : ℕ) → supplied ≡ true → words_check w ≡ refused q p
-    → refusal_line q p ≡ report (file supplied w) g t s
+pub words_refused : (w g t s : Bytes) (q p : ℕ) → words_check w ≡ refused q p → refusal_line q p ≡ report (some w) g t s
 unfolding report
-words_refused w g t s true q p n e = sym (ap (λ (a : Answer (Unit {0})). after_words a (script_text w g t s)) e)
-words_refused w g t s false q p n e = absurd (false≢true n)
+words_refused w g t s q p e = sym (ap (λ (a : Answer (Unit {0})). after_words a (script_text w g t s)) e)
 
 -- question 32 leaves 72 bytes
 pub words_whole : (w : Bytes) → words_check w ≡ accepted tt → length w ≡ words_length
@@ -197,8 +181,11 @@ pub accepted_fits : (records at room : ℕ) → at + 30 ≤ room → at + length
 accepted_fits records at room l = omega (arith, accepted_length records)
 
 -- and what is left after the first line
-pub after_accepted : (records room : ℕ) {end : ℕ} {w w1 : Bytes} → Written 0 (accepted_line records) w end w1 → 30 + room ≤ length w → end + room ≤ length w1
-after_accepted records room x l = omega (arith, x.ends, keeps x (accepted_fits records 0 _ (omega arith)), accepted_length records)
+pub after_accepted : (records room : ℕ) {x y : Text} → Written (accepted_line records) x y → x.end + (30 + room) ≤ length x.out.now → y.end + room ≤ length y.out.now
+after_accepted records room w l = omega (arith, w.ends, keeps w, accepted_length records)
+
+pub after_run : (end steps records room : ℕ) {x y : Text} → Written (run_line end steps records) x y → x.end + (81 + room) ≤ length x.out.now → y.end + room ≤ length y.out.now
+after_run end steps records room w l = omega (arith, w.ends, keeps w, run_length end steps records)
 
 pub run_line_fits : (end steps records at room : ℕ) → at + 81 ≤ room → at + length (run_line end steps records) ≤ room
 run_line_fits end steps records at room l = omega (arith, run_length end steps records)

@@ -1,8 +1,9 @@
--- A file as the program hands it on: whether there is one, and its bytes.
-use Rattle.std.specs.Prelude.{Bool, true, false}
-use Rattle.std.proofs.Math.Option.{Option, none, some}
+-- A file as the program hands it on: its bytes, if there is one.
+use Rattle.std.specs.Prelude.{Option, Some, None}
+use Rattle.std.specs.Borrow.{Bor}
+use Rattle.std.proofs.Math.Option as math
 use Rattle.rules.specs.Answer.{Bytes}
 
-abbrev pub file : Bool → Bytes → Option Bytes
-file true bytes = some bytes
-file false bytes = none
+abbrev pub file : Option (Bor Bytes) → math.Option Bytes
+file None = math.none
+file (Some bytes) = math.some bytes.now

@@ -1,31 +1,33 @@
 // The report program: the files `groups`, `types` and `script` of the current folder are checked and run, and the report is
 // written to standard output, in the words of the file `words` if there is one. What a program reads and writes is in no contract, so
-// `write_report` makes the whole text of the files' bytes in a lent buffer, and `main` only reads, calls it and writes. Each function
-// has the buffers of the call that it makes, so that the text's is all that is lent for writing.
+// `write_report` makes the whole text of the files' bytes in a lent buffer, and what is around it only reads, calls it and writes. Each
+// function has the buffers of the call that it makes, so that the text's is all that is lent for writing.
 
 #![tactic(auto)]
 
-ghost use Rattle.std.specs.Prelude.{◌≡◌, ℕ, ◌+◌, ◌≤◌, length, IfOk};
+ghost use Rattle.std.specs.Prelude.{◌≡◌, ◌+◌, ◌≤◌, length, IfOk, IfSome};
 ghost use Rattle.rules.specs.Limits.{words_length, report_budget, report_buffer};
 ghost use Rattle.rules.specs.Script.{encode};
 ghost use Rattle.rules.specs.Run.{Ran};
 ghost use Rattle.rules.specs.Calls.{running};
-ghost use Rattle.rules.specs.Report.{value_text, run_text, script_text, report};
-ghost use Rattle.text.specs.Written.{Written};
-ghost use Rattle.report.specs.declared.Loaded.TheVariants.{Bytes};
+ghost use Rattle.rules.specs.Report.{refusal_line, value_text, run_text, script_text, report};
+ghost use Rattle.answer.specs.Numbers.{number};
+ghost use Rattle.reduction.specs.Steps.{end_number};
+ghost use Rattle.text.specs.Written.{Room, Written};
 ghost use Rattle.report.specs.Supplied.{file};
 ghost use Rattle.report.specs.Room.{value_room, run_room, report_room};
 
-use answer::Checked;
-use evaluation::RunAnswer;
-use inference::{Found, SLOT};
+use answer::Refusal;
+use inference::SLOT;
 use lattice::{GROUP_LIMIT, ROW_WIDTH};
 use records::SCRIPT_WIDTH;
+use reduction::Stop;
 use script::SCRIPT_LIMIT;
-use sheet::{SHEET_WIDTH, Sheet};
+use sheet::SHEET_WIDTH;
 use std::fs::Files;
 use std::io::Read;
 use std::{fs, io};
+use text::Text;
 use types::TYPE_WIDTH;
 use types_table::TABLE_LIMIT;
 use typing::WORK_LENGTH;
@@ -52,148 +54,107 @@ const SHEET_LENGTH: usize = SCRIPT_LIMIT * SHEET_WIDTH;
 // No report is longer (`report_room`).
 const REPORT_LENGTH: usize = 450671;
 
+// The line of a refusal.
+fn refused(text: &mut Text, refusal: Refusal)
+    requires { Room (refusal_line (number refusal.question) refusal.place) text.old }
+    ensures { Written (refusal_line (number refusal.question) refusal.place) text.old text.new }
+{
+    lines::refusal_line(
+        text,
+        u64::from(refusal.question.number()),
+        refusal.place as u64,
+    );
+}
+
 // The value's text: the sheet of the run's last term for group 0, only when the end is 0.
 fn value_text(
+    text: &mut Text,
     words: &[u8],
     groups: &[u8],
     types: &[u8],
     value: &[u8],
-    end: u8,
-    out: &mut [u8],
-    at: usize,
-) -> usize
-    requires { (length words.now ≡ words_length) × (at + value_room ≤ length out.old) }
-    ensures { (x : Ran) → x.end ≡ end → encode x.last ≡ value.now
-        → Written at (value_text words.now groups.now types.now x) out.old result out.new }
+    stop: Option<Stop>,
+)
+    requires { (length words.now ≡ words_length) × (text.old.end + value_room ≤ length text.old.out.now) }
+    ensures { (x : Ran) → x.end ≡ end_number stop → encode x.last ≡ value.now
+        → Written (value_text words.now groups.now types.now x) text.old text.new }
 {
+    let end = reduction::end_number(stop);
     if end != 0 {
-        return at;
+        return;
     }
     let mut sheet = [0u8; SHEET_LENGTH];
-    let a = sheet::page(groups, types, value, READER, &mut sheet);
-    match a {
-        Sheet::Written(count) => {
-            let bytes = SHEET_WIDTH * count;
-            lines::sheet_lines(words, &sheet[..bytes], out, at)
-        }
-        Sheet::Refused(question, place) => lines::refusal_line(
-            question as u64,
-            place as u64,
-            out,
-            at,
-        ),
+    match sheet::page(groups, types, value, READER, &mut sheet) {
+        Ok(count) => lines::sheet_lines(text, words, &sheet[..SHEET_WIDTH * count]),
+        Err(refusal) => refused(text, refusal),
     }
 }
 
 // The run's text: its line, and the value's text. An accepted script's run isn't refused; the definition has a text for every
 // answer, and so has this.
-fn run_text(
-    words: &[u8],
-    groups: &[u8],
-    types: &[u8],
-    script: &[u8],
-    out: &mut [u8],
-    at: usize,
-) -> usize
-    requires { (length words.now ≡ words_length) × (at + run_room ≤ length out.old) }
-    ensures { Written at (run_text words.now groups.now types.now
+fn run_text(text: &mut Text, words: &[u8], groups: &[u8], types: &[u8], script: &[u8])
+    requires { (length words.now ≡ words_length) × (text.old.end + run_room ≤ length text.old.out.now) }
+    ensures { Written (run_text words.now groups.now types.now
         (running groups.now types.now script.now report_budget report_buffer report_buffer))
-        out.old result out.new }
+        text.old text.new }
 {
     let mut first = [0u8; RUN_LENGTH];
     let mut scratch = [0u8; RUN_LENGTH];
-    let a = evaluation::run(groups, types, script, BUDGET, &mut first, &mut scratch);
-    match a {
-        RunAnswer::Ended(end, steps, records) => {
-            let after = lines::run_line(end as u64, steps, records as u64, out, at);
-            let bytes = SCRIPT_WIDTH * records;
-            value_text(words, groups, types, &first[..bytes], end, out, after)
+    match evaluation::run(groups, types, script, BUDGET, &mut first, &mut scratch) {
+        Ok(halt) => {
+            let end = u64::from(reduction::end_number(halt.stop));
+            lines::run_line(text, end, halt.steps, halt.records as u64);
+            value_text(
+                text,
+                words,
+                groups,
+                types,
+                &first[..SCRIPT_WIDTH * halt.records],
+                halt.stop,
+            );
         }
-        RunAnswer::Refused(question, place) => lines::refusal_line(
-            question as u64,
-            place as u64,
-            out,
-            at,
-        ),
+        Err(refusal) => refused(text, refusal),
     }
 }
 
 // The script's text, in the words of a table.
-fn script_text(words: &[u8], groups: &[u8], types: &[u8], script: &[u8], out: &mut [u8]) -> usize
-    requires { (length words.now ≡ words_length) × (report_room ≤ length out.old) }
-    ensures { Written 0 (script_text words.now groups.now types.now script.now)
-        out.old result out.new }
+fn script_text(text: &mut Text, words: &[u8], groups: &[u8], types: &[u8], script: &[u8])
+    requires { (length words.now ≡ words_length) × (text.old.end + report_room ≤ length text.old.out.now) }
+    ensures { Written (script_text words.now groups.now types.now script.now) text.old text.new }
 {
     let mut work = [0u8; WORK_LENGTH];
     let mut answer = [0u8; SLOT];
-    let a = typing::checking(groups, types, script, &mut work, &mut answer);
-    match a {
-        Found::Typed(records) => {
-            let at = lines::accepted_line(records as u64, out, 0);
-            run_text(words, groups, types, script, out, at)
+    match typing::checking(groups, types, script, &mut work, &mut answer) {
+        Ok(records) => {
+            lines::accepted_line(text, records as u64);
+            run_text(text, words, groups, types, script);
         }
-        Found::Refused(question, place) => lines::refusal_line(
-            question as u64,
-            place as u64,
-            out,
-            0,
-        ),
+        Err(refusal) => refused(text, refusal),
     }
 }
 
-// The whole report, written over the front of `out`; its later bytes are kept. The answer is the report's length. A studio's own words
-// are asked questions 32 to 34 first; where none are supplied, ours are used.
-fn write_report(
-    supplied: bool,
-    words: &[u8],
-    groups: &[u8],
-    types: &[u8],
-    script: &[u8],
-    out: &mut [u8],
-) -> usize
-    requires { report_room ≤ length out.old }
-    ensures { Written 0 (report (file supplied words.now)
-        groups.now types.now script.now) out.old result out.new }
+// The whole report. A studio's own words are asked questions 32 to 34 first; where none are supplied, ours are used.
+fn write_report(text: &mut Text, words: Option<&[u8]>, groups: &[u8], types: &[u8], script: &[u8])
+    requires { text.old.end + report_room ≤ length text.old.out.now }
+    ensures { Written (report (file words.entry) groups.now types.now script.now) text.old text.new }
 {
-    if !supplied {
+    let Some(supplied) = words else {
         let mut ours = [0u8; WORDS_LENGTH];
         words::our_words(&mut ours);
-        return script_text(&ours, groups, types, script, out);
-    }
-    let a = words::words_check(words);
-    match a {
-        Checked::Passed => script_text(words, groups, types, script, out),
-        Checked::Refused(question, place) => lines::refusal_line(
-            question as u64,
-            place as u64,
-            out,
-            0,
-        ),
+        script_text(text, &ours, groups, types, script);
+        return;
+    };
+    match words::words_check(supplied) {
+        Ok(()) => script_text(text, supplied, groups, types, script),
+        Err(refusal) => refused(text, refusal),
     }
 }
 
-// What came of a file: so many of its bytes at the front of a buffer, no such file, or an error.
-#[derive(Clone, Copy)]
-enum Loaded {
-    Bytes(usize),
-    Missing,
-    Failed,
-}
-
-// Tells an error on standard error. Where that takes nothing there is nobody to tell.
-fn tell(rt: &impl Eprint, what: &str, error: io::Error) {
-    let _ = eprintln!(rt; "{what}: {error}");
-}
-
-// A file that can't be opened is missing, or has an error, which is told on standard error.
-fn unopened(rt: &impl Eprint, path: &str, error: io::Error) -> Loaded
-    ensures { (n : ℕ) → result ≡ Bytes n → ⊥ }
-{
-    if error.kind() == io::ErrorKind::NotFound {
-        return Loaded::Missing;
-    }
-    tell(rt, path, error);
-    Loaded::Failed
+// An error, and the file or the stream that it came of.
+#[derive(Drop)]
+struct Failure {
+    pub at: &'static str,
+    pub error: io::Error,
 }
 
 // Fills the buffer from the front until it is full or nothing is left to read. The answer is how many bytes there are.
@@ -211,77 +172,76 @@ fn fill(file: &mut impl Read, buffer: &mut [u8]) -> io::Result<usize>
     Ok(n)
 }
 
-// The bytes of a file, as many as the buffer takes.
-fn load<R: Files + Eprint>(rt: &R, path: &str, buffer: &mut [u8]) -> Loaded
-    ensures { (n : ℕ) → result ≡ Bytes n → n ≤ length buffer.new }
+// How many bytes of a file there are, as many as the buffer takes, if there is such a file.
+fn load<R: Files>(rt: &R, path: &'static str, buffer: &mut [u8]) -> Result<Option<usize>, Failure>
+    ensures { IfOk result (λ found. IfSome found (λ n. n ≤ length buffer.new)) }
 {
     let mut file = match fs::open(rt, path) {
         Ok(file) => file,
-        Err(error) => return unopened(rt, path, error),
+        Err(error) if error.kind() == io::ErrorKind::NotFound => return Ok(None),
+        Err(error) => return Err(Failure { at: path, error }),
     };
     match fill(&mut file, buffer) {
-        Ok(n) => Loaded::Bytes(n),
-        Err(error) => {
-            tell(rt, path, error);
-            Loaded::Failed
-        }
+        Ok(n) => Ok(Some(n)),
+        Err(error) => Err(Failure { at: path, error }),
     }
 }
 
-// A table or a script that is missing is empty.
-fn load_or_empty<R: Files + Eprint>(rt: &R, path: &str, buffer: &mut [u8]) -> Loaded
-    ensures { (n : ℕ) → result ≡ Bytes n → n ≤ length buffer.new }
+// The same of a table or a script, which is empty where there is no such file.
+fn load_or_empty<R: Files>(rt: &R, path: &'static str, buffer: &mut [u8]) -> Result<usize, Failure>
+    ensures { IfOk result (λ n. n ≤ length buffer.new) }
 {
-    let a = load(rt, path, buffer);
-    let Loaded::Missing = a else {
-        return a;
-    };
-    Loaded::Bytes(0)
+    Ok(load(rt, path, buffer)?.unwrap_or(0))
 }
 
 // The report of the files' bytes, on standard output.
-fn print_report<R: Print + Eprint>(
+fn print_report<R: Print>(
     rt: &R,
-    supplied: bool,
-    words: &[u8],
+    words: Option<&[u8]>,
     groups: &[u8],
     types: &[u8],
     script: &[u8],
-) {
+) -> Result<(), Failure> {
     let mut out = [0u8; REPORT_LENGTH];
-    let end = write_report(supplied, words, groups, types, script, &mut out);
-    if let Err(error) = rt.write_all(&out[..end]) {
-        tell(rt, "standard output", error);
-    }
+    let mut text = Text {
+        out: &mut out,
+        end: 0,
+    };
+    write_report(&mut text, words, groups, types, script);
+    rt.write_all(text.written()).map_err(|error| Failure {
+        at: "standard output",
+        error,
+    })
 }
 
 // Reads the file `words` and prints the report. A missing one means ours, and an empty one is refused.
-fn report_in_words<R: Files + Print + Eprint>(rt: &R, groups: &[u8], types: &[u8], script: &[u8]) {
+fn report_in_words<R: Files + Print>(
+    rt: &R,
+    groups: &[u8],
+    types: &[u8],
+    script: &[u8],
+) -> Result<(), Failure> {
     let mut words = [0u8; WORDS_ROOM];
-    let w = load(rt, "words", &mut words);
-    match w {
-        Loaded::Bytes(n) => print_report(rt, true, &words[..n], groups, types, script),
-        Loaded::Missing => print_report(rt, false, &words[..0], groups, types, script),
-        Loaded::Failed => {}
+    match load(rt, "words", &mut words)? {
+        Some(n) => print_report(rt, Some(&words[..n]), groups, types, script),
+        None => print_report(rt, None, groups, types, script),
     }
 }
 
 // Reads the files and prints their report.
-fn main(rt: HostRuntime) {
+fn report_files<R: Files + Print>(rt: &R) -> Result<(), Failure> {
     let mut groups = [0u8; GROUPS_LENGTH];
-    let g = load_or_empty(&rt, "groups", &mut groups);
-    let Loaded::Bytes(rows) = g else {
-        return;
-    };
+    let rows = load_or_empty(rt, "groups", &mut groups)?;
     let mut types = [0u8; TYPES_LENGTH];
-    let t = load_or_empty(&rt, "types", &mut types);
-    let Loaded::Bytes(named) = t else {
-        return;
-    };
+    let named = load_or_empty(rt, "types", &mut types)?;
     let mut script = [0u8; SCRIPT_LENGTH];
-    let s = load_or_empty(&rt, "script", &mut script);
-    let Loaded::Bytes(written) = s else {
-        return;
-    };
-    report_in_words(&rt, &groups[..rows], &types[..named], &script[..written]);
+    let written = load_or_empty(rt, "script", &mut script)?;
+    report_in_words(rt, &groups[..rows], &types[..named], &script[..written])
+}
+
+// An error is told on standard error. Where that takes nothing there is nobody to tell.
+fn main(rt: HostRuntime) {
+    if let Err(Failure { at, error }) = report_files(&rt) {
+        let _ = eprintln!(&rt; "{at}: {error}");
+    }
 }

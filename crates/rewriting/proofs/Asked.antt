@@ -1,44 +1,24 @@
 -- The questions of an old table, one after another, and what then stands in front of the copy.
-use mathlib.Core.Path.{◌≡◌, refl, sym, ap, ◌∙◌}
-use mathlib.Core.Bool.{Bool, true, false, ◌&&◌, and-eq-true_iff}
-use mathlib.Core.List.{[]}
-use Prim.Native.Nat.{ℕ, ◌*◌, ◌/◌, ◌%◌, ◌≤◌, ◌<◌}
-use native.Mathlib.Nat.{mul_comm, mul-div_cancel}
-use native.Mathlib.Omega.{arith}
-use borrow.Author.Tests.{leb-true, le-leb, lt-leb}
-use lib.Dec.{eqb, leb}
-use lib.ListN.{length, take, drop}
-use lib.Seq.{take_at, length-take-le}
+use Rattle.std.proofs.Common.{◌≡◌, refl, sym, ap, ◌∙◌, Bool, true, false, ◌&&◌, [], ℕ, ◌*◌, ◌/◌, ◌%◌, ◌≤◌, ◌<◌, arith, leb-true, le-leb, eqb, leb, length, take, drop, take_at, length-take-le}
+use Rattle.std.proofs.Math.Bool.{and-eq-true_iff}
+use Rattle.std.proofs.Math.Nat.{mul_comm, mul-div_cancel}
+use borrow.Author.Tests.{lt-leb}
 use Rattle.rules.specs.Answer.{Bytes, Answer, accepted, refused, ◌>>◌, ask, first_from}
-use Rattle.rules.specs.Limits.{old_type_width, old_script_width, table_limit, script_limit}
+use Rattle.rules.proofs.Widening.{widen_types_length, widen_script_length}
+use Rattle.rules.specs.Callers.{old_type_count, old_records}
+use Rattle.rules.specs.Limits.{type_width, script_width, old_type_width, old_script_width, table_limit, script_limit}
 use Rattle.rules.specs.Types.{q8_of}
 use Rattle.rules.specs.Script.{q13_of}
-use Rattle.rules.specs.Calls.{groups_check, types_check, script_check}
+use Rattle.rules.specs.Calls.{groups_check}
 use Rattle.rules.specs.Rewriting.{widen_types, widen_script, old_types_check, old_script_check, rewriting_types, rewriting_script, rewritten_records, rewritten_after}
 use Rattle.rules.proofs.Asked.{ask_true, and_then}
-use Rattle.answer.specs.declared.Checked.{Checked}
-use Rattle.answer.specs.declared.Checked.TheVariants.{Refused}
-use Rattle.answer.specs.Said.{said}
 use Rattle.memory.specs.Splice.{splice}
 use Rattle.memory.proofs.Laws.{splice_front}
 use Rattle.rewriting.specs.Widened.{fitting}
 
-pub no_yes : {x : Checked} {q p : ℕ} → x ≡ Refused q p → said x ≡ accepted tt → ⊥
-no_yes i e = let x : ◌≡◌ {A = ℕ} 0 1 = cc (ap said i) in omega arith
-
-pub types_asked : (g t : Bytes)
-    → ◌>>◌ (groups_check g) (◌>>◌ (q8_of old_type_width t) (types_check g (widen_types t))) ≡ old_types_check g t
-unfolding old_types_check
-types_asked g t = refl
-
 pub rewriting_types_is : (g t : Bytes) (room : ℕ) → ◌>>◌ (old_types_check g t) (fitting (widen_types t) room) ≡ rewriting_types g t room
 unfolding rewriting_types
 rewriting_types_is g t room = refl
-
-pub script_asked : (g t s : Bytes)
-    → ◌>>◌ (old_types_check g t) (◌>>◌ (q13_of old_script_width [] s) (script_check [] g (widen_types t) (widen_script s))) ≡ old_script_check g t s
-unfolding old_script_check
-script_asked g t s = refl
 
 pub rewriting_script_is : (g t s : Bytes) (room : ℕ) → ◌>>◌ (old_script_check g t s) (fitting (widen_script s) room) ≡ rewriting_script g t s room
 unfolding rewriting_script
@@ -75,8 +55,14 @@ few_records g t s q =
     (length_asked s refl ∙ (and_then (q13_of old_script_width [] s) _ (and_then (old_types_check g t) _ q).1).0)
 
 -- what was written in front
-pub front_is : (b w w' : Bytes) (n : ℕ) → n ≡ length b → w' ≡ splice 0 b w → take n w' ≡ b
+front_is : (b w w' : Bytes) (n : ℕ) → n ≡ length b → w' ≡ splice 0 b w → take n w' ≡ b
 front_is b w w' n l e = ap (take n) (e ∙ splice_front b w) ∙ take_at b (drop (length b) w) n (sym l)
+
+pub types_front : (t w : Bytes) {w' : Bytes} → w' ≡ splice 0 (widen_types t) w → take (type_width * old_type_count t) w' ≡ widen_types t
+types_front t w e = front_is (widen_types t) w _ (type_width * old_type_count t) (sym (widen_types_length t)) e
+
+pub script_front : (s w : Bytes) {w' : Bytes} → w' ≡ splice 0 (widen_script s) w → take (script_width * old_records s) w' ≡ widen_script s
+script_front s w e = front_is (widen_script s) w _ (script_width * old_records s) (sym (widen_script_length s)) e
 
 -- What a rewriting answers and leaves in the lent buffer, where o is what the document's call gives.
 abbrev pub Delivered : ℕ → Answer Bytes → Bytes → Answer ℕ → Bytes → Type 0

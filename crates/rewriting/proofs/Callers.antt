@@ -1,13 +1,7 @@
 -- A loop that writes the callers, a record a turn.
-use mathlib.Core.Path.{◌≡◌, refl, sym, ap, ap₂, ◌∙◌}
-use mathlib.Core.Bool.{Bool, true, false, cond, ◌&&◌}
-use mathlib.Core.List.{[], ◌∷◌, ◌++◌, append_assoc}
-use Prim.Native.Nat.{ℕ, ◌+◌, ◌*◌, ◌≤◌, ◌<◌}
-use native.Mathlib.Omega.{arith}
-use borrow.Author.Tests.{ltb-true}
-use lib.Dec.{eqb, ltb}
-use lib.ListN.{length, take, drop, set, take-append-drop, length-drop}
-use lib.Seq.{set-get_or}
+use Rattle.std.proofs.Common.{◌≡◌, refl, sym, ap, ap₂, ◌∙◌, Bool, true, false, cond, ◌&&◌, [], ◌∷◌, ◌++◌, append_assoc, ℕ, ◌+◌, ◌*◌, ◌≤◌, ◌<◌, arith, ltb-true, eqb, ltb, length, take, drop, set, take-append-drop, length-drop}
+use mir.Val.{bool_byte}
+use Rattle.std.proofs.Math.Seq.{set-get_or}
 use Rattle.rules.specs.Answer.{Bytes}
 use Rattle.rules.specs.Limits.{old_script_width}
 use Rattle.rules.specs.Callers.{old_type_count, old_type_r, old_records, old_kind, old_r, old_number, recursion_of_type, write_callers, callers_written}
@@ -22,7 +16,12 @@ and_second true b h = h
 and_second false true h = refl
 and_second false false h = h
 
-at_most_one : (b : Bool) → cond b 1 0 ≤ 1
+-- what the test is as a number
+pub counted : (b : Bool) → bool_byte b ≡ cond b 1 0
+counted true = refl
+counted false = refl
+
+pub at_most_one : (b : Bool) → bool_byte b ≤ 1
 at_most_one true = omega arith
 at_most_one false = omega arith
 
@@ -46,17 +45,14 @@ module _ (s : Bytes) (i : ℕ) where
 
 module _ (t s : Bytes) (i : ℕ) (there : i < old_records s) where
   -- a record that is no recursion of a type is left as it is
-  pub left_as_is : recursion_at t s i ≡ false → WrittenAt t s i 0 s
-  left_as_is h = record { count = rw h; script = rw (callers_r t s i there, h) (sym (set-get_or s (old_script_width * i + 1) 0)) }
+  pub left_as_is : recursion_at t s i ≡ false → WrittenAt t s i false s
+  left_as_is h = record { wrote = sym h; script = rw (callers_r t s i there, h) (sym (set-get_or s (old_script_width * i + 1) 0)) }
 
   -- in one that is, byte 1 is set
-  pub set_in : (v : ℕ) → recursion_at t s i ≡ true → v ≡ old_type_r t (old_number s i) → WrittenAt t s i 1 (set s (old_script_width * i + 1) v)
-  set_in v h e = record { count = rw h; script = rw (callers_r t s i there, h) (ap (set s (old_script_width * i + 1)) e) }
+  pub set_in : (v : ℕ) → recursion_at t s i ≡ true → v ≡ old_type_r t (old_number s i) → WrittenAt t s i true (set s (old_script_width * i + 1) v)
+  set_in v h e = record { wrote = sym h; script = rw (callers_r t s i there, h) (ap (set s (old_script_width * i + 1)) e) }
 
 module _ (t : Bytes) where
-  pub few_written : {s s' : Bytes} {i n : ℕ} → WrittenAt t s i n s' → n ≤ 1
-  few_written {s} {i = i} w = omega (arith, w.count, at_most_one (recursion_at t s i))
-
   -- the first record is written, and then those after it
   first : (s : Bytes) → old_script_width ≤ length s
       → (write_callers t s ≡ set (take old_script_width s) 1 (caller_at t (take old_script_width s) 0) ++ write_callers t (drop old_script_width s))
@@ -89,8 +85,8 @@ module _ (t : Bytes) where
   pub none_passed : (s : Bytes) → Passed s s 0 0
   none_passed s = record { script = refl; count = omega arith }
 
-  pub one_more : {s₀ s s' : Bytes} {i n m : ℕ} → i < old_records s → WrittenAt t s i m s' → Passed s₀ s i n → Passed s₀ s' (i + 1) (n + m)
-  one_more {s₀} {s} {s'} {i} {n} {m} l w p =
+  pub one_more : {s₀ s s' : Bytes} {i n : ℕ} {b : Bool} → i < old_records s → WrittenAt t s i b s' → Passed s₀ s i n → Passed s₀ s' (i + 1) (n + bool_byte b)
+  one_more {s₀} {s} {s'} {i} {n} {b} l w p =
       let rest = drop (old_script_width * i) s in
       let own = record_at old_script_width s i in
       let v = old_r (write_callers t s) i in
@@ -101,8 +97,8 @@ module _ (t : Bytes) where
       sym (ap (take (old_script_width * (i + 1))) w.script ∙ set_up_to old_script_width s i 1 v (omega arith)) in
       let past : drop old_script_width rest ≡ drop (old_script_width * (i + 1)) s' =
       sym (ap (drop (old_script_width * (i + 1))) w.script ∙ set_past old_script_width s i 1 v (omega arith)) in
-      let more : callers_written t rest ≡ m + callers_written t (drop (old_script_width * (i + 1)) s') =
-      one.1 ∙ ap₂ (λ b d. cond b 1 0 + callers_written t d) same_test past ∙ ap (λ k. k + callers_written t (drop (old_script_width * (i + 1)) s')) (sym w.count) in
+      let more : callers_written t rest ≡ bool_byte b + callers_written t (drop (old_script_width * (i + 1)) s') =
+      one.1 ∙ ap₂ (λ b d. cond b 1 0 + callers_written t d) (same_test ∙ sym w.wrote) past ∙ ap (λ k. k + callers_written t (drop (old_script_width * (i + 1)) s')) (sym (counted b)) in
       record {
         script =
             p.script

@@ -1,11 +1,7 @@
 -- A byte set in record i of a list of records, whatever their width.
-use mathlib.Core.Path.{◌≡◌, sym, ap, ap₂, ◌∙◌}
-use mathlib.Core.List.{◌++◌}
-use Prim.Native.Nat.{ℕ, ◌+◌, ◌*◌, ◌<◌}
-use native.Mathlib.Nat.{mul-add, mul-one}
-use native.Mathlib.Omega.{arith}
-use lib.ListN.{take, drop, set}
-use lib.Seq.{take-add, drop-drop, take-set-le, take-set-lt, drop-set-lt, drop-set-add}
+use Rattle.std.proofs.Common.{◌≡◌, sym, ap, ap₂, ◌∙◌, ◌++◌, ℕ, ◌+◌, ◌*◌, ◌<◌, arith, take, drop, set, take-add, drop-drop, drop-set-lt}
+use Rattle.std.proofs.Math.Nat.{mul-add, mul-one}
+use Rattle.std.proofs.Math.Seq.{take-set-le, take-set-lt, drop-set-add}
 use Rattle.rules.specs.Answer.{Bytes}
 use Rattle.rules.proofs.Prefix.{record_at}
 

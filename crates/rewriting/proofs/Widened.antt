@@ -1,11 +1,6 @@
 -- Records widened one by one, whatever their width.
-use mathlib.Core.Path.{◌≡◌, refl, sym, ap, ◌∙◌}
-use mathlib.Core.List.{[], ◌∷◌, ◌++◌, append_assoc}
-use Prim.Native.Nat.{ℕ, zero, suc, ◌+◌, ◌*◌, ◌-◌, ◌≤◌, ◌<◌}
-use native.Mathlib.Nat.{mul-add, mul-one}
-use native.Mathlib.Omega.{arith}
-use lib.ListN.{length, take, drop, length-append, length-drop}
-use lib.Seq.{drop-drop, length-take-le}
+use Rattle.std.proofs.Common.{◌≡◌, refl, sym, ap, ◌∙◌, [], ◌∷◌, ◌++◌, append_assoc, ℕ, zero, suc, ◌+◌, ◌*◌, ◌-◌, ◌≤◌, ◌<◌, arith, length, take, drop, length-append, length-drop, drop-drop, length-take-le}
+use Rattle.std.proofs.Math.Nat.{mul-add, mul-one}
 use Rattle.rules.specs.Answer.{Bytes}
 use Rattle.rules.specs.Limits.{old_type_width, old_script_width}
 use Rattle.rules.specs.Callers.{old_type_count, old_records}
@@ -72,48 +67,50 @@ widen_script_is (k ∷ r ∷ ir ∷ z ∷ lo ∷ hi ∷ s) =
     let p : old_records (k ∷ r ∷ ir ∷ z ∷ lo ∷ hi ∷ s) ≡ suc (old_records s) = omega arith in
     ap (λ b. k ∷ r ∷ ir ∷ z ∷ lo ∷ hi ∷ 0 ∷ 0 ∷ b) (widen_script_is s) ∙ ap (λ n. widened old_script_width n (k ∷ r ∷ ir ∷ z ∷ lo ∷ hi ∷ s)) (sym p)
 
--- The first i records of `old` stand widened in front of what was w₀, the next goes from byte `from` to byte `to`.
-pub record Widens (width : ℕ) (old w₀ : Bytes) (i from to : ℕ) (w : Bytes) : Type 0 where
+-- what the loop wrote is the new form
+pub types_written : (t w : Bytes) {w' : Bytes} → w' ≡ splice 0 (widened old_type_width (old_type_count t) t) w → w' ≡ splice 0 (widen_types t) w
+types_written t w e = e ∙ ap (λ (b : Bytes). splice 0 b w) (sym (widen_types_is t))
+
+pub script_written : (s w : Bytes) {w' : Bytes} → w' ≡ splice 0 (widened old_script_width (old_records s) s) w → w' ≡ splice 0 (widen_script s) w
+script_written s w e = e ∙ ap (λ (b : Bytes). splice 0 b w) (sym (widen_script_is s))
+
+-- The first i records of `old` stand widened in front of what was w₀.
+pub record Widens (width : ℕ) (old w₀ : Bytes) (i : ℕ) (w : Bytes) : Type 0 where
   pub length_kept : length w ≡ length w₀
-  pub read : from ≡ width * i
-  pub written : to ≡ (width + 2) * i
   pub bytes : w ≡ splice 0 (widened width i old) w₀
 
 module _ {width : ℕ} {old w₀ : Bytes} where
-  pub none_widened : Widens width old w₀ 0 0 0 w₀
+  pub none_widened : Widens width old w₀ 0 w₀
   unfolding widened
-  none_widened = record { length_kept = refl; read = omega arith; written = omega arith; bytes = sym (splice_none 0 w₀) }
+  none_widened = record { length_kept = refl; bytes = sym (splice_none 0 w₀) }
 
   -- the next record is there, and so is its room
-  pub next_fits : {i n from to : ℕ} {w : Bytes} → i < n → width * n ≤ length old → (width + 2) * n ≤ length w₀ → Widens width old w₀ i from to w
-      → (from + width ≤ length old) × (to + width + 2 ≤ length w)
-  next_fits {i} {n} l long room x =
-      (omega (arith, within width i n l, x.read), omega (arith, within (width + 2) i n l, x.written, x.length_kept))
+  pub next_fits : {i n : ℕ} {w : Bytes} → i < n → width * n ≤ length old → (width + 2) * n ≤ length w₀ → Widens width old w₀ i w
+      → (width * i + width ≤ length old) × ((width + 2) * i + width + 2 ≤ length w)
+  next_fits {i} {n} l long room x = (omega (arith, within width i n l), omega (arith, within (width + 2) i n l, x.length_kept))
 
   -- a record and the two zeros after it
-  pub one_widened : {i n from to : ℕ} {w w1 w2 : Bytes} → i < n → width * n ≤ length old → (width + 2) * n ≤ length w₀ → Widens width old w₀ i from to w
-      → w1 ≡ splice to (take width (drop from old)) w → w2 ≡ splice (to + width) (0 ∷ 0 ∷ []) w1 → Widens width old w₀ (i + 1) (from + width) (to + width + 2) w2
-  one_widened {i} {n} {from} {to} {w} {w1} {w2} l long room x e1 e2 =
+  pub one_widened : {i n : ℕ} {w w1 w2 : Bytes} → i < n → width * n ≤ length old → (width + 2) * n ≤ length w₀ → Widens width old w₀ i w
+      → w1 ≡ splice ((width + 2) * i) (take width (drop (width * i) old)) w → w2 ≡ splice ((width + 2) * i + width) (0 ∷ 0 ∷ []) w1 → Widens width old w₀ (i + 1) w2
+  one_widened {i} {n} {w} {w1} {w2} l long room x e1 e2 =
       let here = within width i n l in
       let there = within (width + 2) i n l in
-      let own = take width (drop from old) in
-      let size : length own ≡ width = length-take-le width (drop from old) (simp length-drop (omega (arith, x.read))) in
+      let to = (width + 2) * i in
+      let own = take width (drop (width * i) old) in
+      let size : length own ≡ width = length-take-le width (drop (width * i) old) (simp length-drop (omega arith)) in
       let front = widened_length width i old (omega arith) in
       let both : w2 ≡ splice to (own ++ (0 ∷ 0 ∷ [])) w =
-      e2 ∙ ap (splice (to + width) (0 ∷ 0 ∷ [])) e1 ∙ join_after to (to + width) own (0 ∷ 0 ∷ []) w (omega arith) (omega (arith, x.length_kept, x.written)) in
-      let piece : own ++ (0 ∷ 0 ∷ []) ≡ take width (drop (width * i) old) ++ (0 ∷ 0 ∷ []) = ap (λ m. take width (drop m old) ++ (0 ∷ 0 ∷ [])) x.read in
+      e2 ∙ ap (splice (to + width) (0 ∷ 0 ∷ [])) e1 ∙ join_after to (to + width) own (0 ∷ 0 ∷ []) w (omega arith) (omega (arith, x.length_kept)) in
       let whole : w2 ≡ splice 0 (widened width i old ++ (own ++ (0 ∷ 0 ∷ []))) w₀ =
       both ∙ ap (splice to (own ++ (0 ∷ 0 ∷ []))) x.bytes
-      ∙ join_after 0 to (widened width i old) (own ++ (0 ∷ 0 ∷ [])) w₀ (omega (arith, front, x.written)) (omega (arith, front)) in
+      ∙ join_after 0 to (widened width i old) (own ++ (0 ∷ 0 ∷ [])) w₀ (omega (arith, front)) (omega (arith, front)) in
       let p : suc i ≡ i + 1 = omega arith in
       let all : widened width i old ++ (own ++ (0 ∷ 0 ∷ [])) ≡ widened width (i + 1) old =
-      ap (λ b. widened width i old ++ b) piece ∙ sym (widened_last width i old) ∙ ap (λ m. widened width m old) p in
+      sym (widened_last width i old) ∙ ap (λ m. widened width m old) p in
       record {
         length_kept = ap length whole ∙ length_splice 0 (widened width i old ++ (own ++ (0 ∷ 0 ∷ []))) w₀ (omega (arith, ap length all, widened_length width (i + 1) old (omega (arith, next width i, ap (λ m. width * m) p)), next (width + 2) i, ap (λ m. (width + 2) * m) p));
-        read = omega (arith, x.read, next width i, ap (λ m. width * m) p);
-        written = omega (arith, x.written, next (width + 2) i, ap (λ m. (width + 2) * m) p);
         bytes = whole ∙ ap (λ b. splice 0 b w₀) all;
       }
 
-  pub all_widened : {i n from to : ℕ} {w : Bytes} → i ≤ n → n ≤ i → Widens width old w₀ i from to w → w ≡ splice 0 (widened width n old) w₀
+  pub all_widened : {i n : ℕ} {w : Bytes} → i ≤ n → n ≤ i → Widens width old w₀ i w → w ≡ splice 0 (widened width n old) w₀
   all_widened {i} {n} l m x = let e : i ≡ n = omega arith in x.bytes ∙ ap (λ k. splice 0 (widened width k old) w₀) e

@@ -1,3 +1,2 @@
 pub mod Caller
 pub mod Widened
-pub mod Said

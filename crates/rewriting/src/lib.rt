@@ -14,11 +14,10 @@ ghost use Rattle.answer.specs.Said.{said};
 ghost use Rattle.memory.specs.Splice.{splice};
 ghost use Rattle.rewriting.specs.Caller.{WrittenAt};
 ghost use Rattle.rewriting.specs.Widened.{widened, fitting};
-ghost use Rattle.rewriting.specs.Said.{said_rewrote, refused_rewrote};
 
-use answer::Checked;
+use answer::{Checked, Question, Refusal};
 use lattice::Reader;
-use records::{RECURSION, SCRIPT_WIDTH};
+use records::{Kind, SCRIPT_WIDTH};
 use script::SCRIPT_LIMIT;
 use types::TYPE_WIDTH;
 use types_table::TABLE_LIMIT;
@@ -38,13 +37,6 @@ const SCRIPT_LENGTH: usize = SCRIPT_LIMIT * SCRIPT_WIDTH;
 // Byte 1 of a recursion: the group that its call is made as.
 const CALLER: usize = 1;
 
-// How many records a rewriting wrote, or the number of the first question answered no and the place.
-#[derive(Clone, Copy)]
-pub enum Rewrote {
-    Records(usize),
-    Refused(u8, usize),
-}
-
 // The fields of record i of an old script, and r of record i of an old types table.
 fn kind(script: &[u8], i: usize) -> u8
     requires { i < old_records script.now }
@@ -57,8 +49,8 @@ fn number(script: &[u8], i: usize) -> usize
     requires { i < old_records script.now }
     ensures { result ≡ old_number script.now i }
 {
-    records::wide(script[OLD_SCRIPT_WIDTH * i + 4])
-        + 256 * records::wide(script[OLD_SCRIPT_WIDTH * i + 5])
+    usize::from(script[OLD_SCRIPT_WIDTH * i + 4])
+        + 256 * usize::from(script[OLD_SCRIPT_WIDTH * i + 5])
 }
 
 fn reader(types: &[u8], i: usize) -> Reader
@@ -72,21 +64,21 @@ fn reader(types: &[u8], i: usize) -> Reader
 fn recursion_of_type(types: &[u8], kind: u8, number: usize) -> bool
     ensures { result ≡ recursion_of_type types.now kind number }
 {
-    (kind == RECURSION) & (number < types.len() / OLD_TYPE_WIDTH)
+    (kind == Kind::Recursion.number()) & (number < types.len() / OLD_TYPE_WIDTH)
 }
 
-// Puts r of its type into byte 1 of record i, if that is a recursion of a type of the table. How many records it wrote: 1 or 0.
-fn write_caller(types: &[u8], script: &mut [u8], i: usize) -> u64
+// Puts r of its type into byte 1 of record i, if that is a recursion of a type of the table. Did it write?
+fn write_caller(types: &[u8], script: &mut [u8], i: usize) -> bool
     requires { i < old_records script.old }
     ensures { WrittenAt types.now script.old i result script.new }
 {
     let named = number(script, i);
     if !recursion_of_type(types, kind(script, i), named) {
-        return 0;
+        return false;
     }
     let caller = reader(types, named);
     script[OLD_SCRIPT_WIDTH * i + CALLER] = caller.0;
-    1
+    true
 }
 
 // Puts r of its type into byte 1 of each recursion of a type of the table. Nothing is asked, and every other byte stays. How many records
@@ -95,12 +87,9 @@ pub fn write_callers(types: &[u8], script: &mut [u8]) -> u64
     ensures { (result ≡ callers_written types.now script.old)
         × (script.new ≡ write_callers types.now script.old) }
 {
-    let count = script.len() / OLD_SCRIPT_WIDTH;
     let mut written: u64 = 0;
-    let mut i: usize = 0;
-    while i < count {
-        written += write_caller(types, script, i);
-        i += 1;
+    for i in 0..script.len() / OLD_SCRIPT_WIDTH {
+        written += u64::from(write_caller(types, script, i));
     }
     written
 }
@@ -111,37 +100,32 @@ fn widen(old: &[u8], width: usize, count: usize, wide: &mut [u8])
     ensures { wide.new ≡ splice 0 (widened width count old.now) wide.old }
 {
     let creators = [0u8; CREATORS];
-    let mut i: usize = 0;
-    let mut from: usize = 0;
-    let mut to: usize = 0;
-    while i < count {
-        memory::copy_part(old, from, width, wide, to);
-        to += width;
-        memory::copy_part(&creators, 0, CREATORS, wide, to);
-        to += CREATORS;
-        from += width;
-        i += 1;
+    for i in 0..count {
+        let to = (width + CREATORS) * i;
+        memory::copy_part(old, width * i, width, wide, to);
+        memory::copy_part(&creators, 0, CREATORS, wide, to + width);
     }
 }
 
 // Questions 2 to 12 of an old types table, which goes to the front of `wide` in the new form: 8 of its own length, the others of the new
 // form, to which c and ic as group 0 make no difference.
+#[tactic(auto, using(answer::proofs::Passed::then_asked, answer::proofs::Passed::stopped), unfolding(rules::specs::Rewriting::old_types_check))]
 fn old_types_check(groups: &[u8], types: &[u8], wide: &mut [u8]) -> Checked
     requires { type_width * table_limit ≤ length wide.old }
-    ensures { (said result ≡ old_types_check groups.now types.now)
-        × (said result ≡ accepted tt
-        → wide.new ≡ splice 0 (widen_types types.now) wide.old) }
+    ensures asked { said result ≡ old_types_check groups.now types.now }
+    ensures written { said result ≡ accepted tt
+        → wide.new ≡ splice 0 (widen_types types.now) wide.old }
 {
     let a7 = groups_table::groups_check(groups);
-    let Checked::Passed = a7 else {
+    let Ok(()) = a7 else {
         return a7;
     };
     let a8 = answer::ask(
-        8,
+        Question::TypesLength,
         0,
         answer::whole(types.len(), OLD_TYPE_WIDTH, TABLE_LIMIT),
     );
-    let Checked::Passed = a8 else {
+    let Ok(()) = a8 else {
         return a8;
     };
     let count = types.len() / OLD_TYPE_WIDTH;
@@ -152,6 +136,7 @@ fn old_types_check(groups: &[u8], types: &[u8], wide: &mut [u8]) -> Checked
 
 // Questions 2 to 19 of an old script over an old types table, each of which goes to the front of a buffer in the new form: 8 and 13 of
 // their own lengths, the others of the new form.
+#[tactic(auto, using(answer::proofs::Passed::then_asked, answer::proofs::Passed::stopped), unfolding(rules::specs::Rewriting::old_script_check))]
 fn old_script_check(
     groups: &[u8],
     types: &[u8],
@@ -160,76 +145,76 @@ fn old_script_check(
     wide: &mut [u8],
 ) -> Checked
     requires { (type_width * table_limit ≤ length table.old) × (script_width * script_limit ≤ length wide.old) }
-    ensures { (said result ≡ old_script_check groups.now types.now script.now)
-        × (said result ≡ accepted tt
-        → wide.new ≡ splice 0 (widen_script script.now) wide.old) }
+    ensures asked { said result ≡ old_script_check groups.now types.now script.now }
+    ensures written { said result ≡ accepted tt
+        → wide.new ≡ splice 0 (widen_script script.now) wide.old }
 {
     let a12 = old_types_check(groups, types, table);
-    let Checked::Passed = a12 else {
+    let Ok(()) = a12 else {
         return a12;
     };
     let a13 = answer::ask(
-        13,
+        Question::ScriptLength,
         0,
         answer::whole(script.len(), OLD_SCRIPT_WIDTH, SCRIPT_LIMIT),
     );
-    let Checked::Passed = a13 else {
+    let Ok(()) = a13 else {
         return a13;
     };
     let count = script.len() / OLD_SCRIPT_WIDTH;
     widen(script, OLD_SCRIPT_WIDTH, count, wide);
     let types_end = TYPE_WIDTH * (types.len() / OLD_TYPE_WIDTH);
     let end = SCRIPT_WIDTH * count;
-    syntax::script_check(groups, &table[..types_end], &wide[..end])
-}
-
-// A refusal, as the answer of a rewriting.
-fn refused(a: Checked) -> Rewrote
-    ensures { result ≡ refused_rewrote a }
-{
-    match a {
-        Checked::Passed => Rewrote::Records(0),
-        Checked::Refused(question, place) => Rewrote::Refused(question, place),
-    }
+    syntax::script_check(groups, &table[..types_end], &wide[..end], &[])
 }
 
 // Question 27 of so many records of this width, and the records to the front of `rewritten`.
-fn hand_over(wide: &[u8], width: usize, count: usize, rewritten: &mut [u8]) -> Rewrote
+fn hand_over(
+    wide: &[u8],
+    width: usize,
+    count: usize,
+    rewritten: &mut [u8],
+) -> Result<usize, Refusal>
     requires { (0 < width) × (width ≤ 8) × (count ≤ script_limit) × (width * count ≤ length wide.now) }
-    ensures { (said_rewrote result
+    ensures { (said result
         ≡ rewritten_records width (fitting (take (width * count) wide.now) (length rewritten.old)))
         × (rewritten.new
         ≡ rewritten_after (fitting (take (width * count) wide.now) (length rewritten.old)) rewritten.old) }
 {
     let n = width * count;
     if rewritten.len() < n {
-        return Rewrote::Refused(27, 0);
+        return Err(Refusal {
+            question: Question::Room,
+            place: 0,
+        });
     }
     memory::copy(wide, n, rewritten, 0);
-    Rewrote::Records(count)
+    Ok(count)
 }
 
 // A types table of 4-byte records in the new form, to the front of `rewritten`: questions 2 to 12 and 27. They are asked of a copy, so
 // that a refusal writes nothing.
-pub fn rewrite_types(groups: &[u8], types: &[u8], rewritten: &mut [u8]) -> Rewrote
-    ensures { (said_rewrote result
+pub fn rewrite_types(groups: &[u8], types: &[u8], rewritten: &mut [u8]) -> Result<usize, Refusal>
+    ensures { (said result
         ≡ rewritten_records type_width (rewriting_types groups.now types.now (length rewritten.old)))
         × (rewritten.new
         ≡ rewritten_after (rewriting_types groups.now types.now (length rewritten.old))
         rewritten.old) }
 {
     let mut wide = [0u8; TYPES_LENGTH];
-    let asked = old_types_check(groups, types, &mut wide);
-    let Checked::Passed = asked else {
-        return refused(asked);
-    };
+    old_types_check(groups, types, &mut wide)?;
     hand_over(&wide, TYPE_WIDTH, types.len() / OLD_TYPE_WIDTH, rewritten)
 }
 
 // A script of 6-byte records over a types table of 4-byte records in the new form, to the front of `rewritten`: questions 2 to 19 and
 // 27, asked of copies too.
-pub fn rewrite_script(groups: &[u8], types: &[u8], script: &[u8], rewritten: &mut [u8]) -> Rewrote
-    ensures { (said_rewrote result
+pub fn rewrite_script(
+    groups: &[u8],
+    types: &[u8],
+    script: &[u8],
+    rewritten: &mut [u8],
+) -> Result<usize, Refusal>
+    ensures { (said result
         ≡ rewritten_records script_width
         (rewriting_script groups.now types.now script.now (length rewritten.old)))
         × (rewritten.new
@@ -239,10 +224,7 @@ pub fn rewrite_script(groups: &[u8], types: &[u8], script: &[u8], rewritten: &mu
 {
     let mut table = [0u8; TYPES_LENGTH];
     let mut wide = [0u8; SCRIPT_LENGTH];
-    let asked = old_script_check(groups, types, script, &mut table, &mut wide);
-    let Checked::Passed = asked else {
-        return refused(asked);
-    };
+    old_script_check(groups, types, script, &mut table, &mut wide)?;
     hand_over(
         &wide,
         SCRIPT_WIDTH,

@@ -1,21 +1,14 @@
 -- A scan of numbers: what a walk over a term needs, whichever the question.
-use mathlib.Core.Path.{◌≡◌, refl, ap, sym, ◌∙◌}
-use mathlib.Core.Bool.{Bool, true, false, not}
-use mathlib.Core.List.{List, [], ◌∷◌, ◌++◌}
-use Prim.Native.Nat.{ℕ, suc, ◌+◌}
-use native.Mathlib.Omega.{arith}
-use native.Mathlib.Nat.{add-zero, zero-add}
-use lib.ListN.{length, get_or}
+use Rattle.std.proofs.Common.{◌≡◌, refl, ap, sym, ◌∙◌, Bool, true, false, not, List, [], ◌∷◌, ◌++◌, ℕ, suc, ◌+◌, length, get_or, arith}
+use Rattle.std.proofs.Math.Nat.{add-zero, zero-add}
 use Rattle.rules.specs.Answer.{Answer, accepted, refused, ◌>>=◌, first_from, refused_at, each}
-use Rattle.scope.specs.declared.Walked.{Walked}
-use Rattle.scope.specs.declared.Walked.TheVariants.{Past, Stopped}
-use Rattle.scope.specs.Said.{said_walk, said_asked}
 use Rattle.scope.specs.Walk.{scan}
 
 abbrev pub then : Answer ℕ → (ℕ → Answer ℕ) → Answer ℕ
 then a k = ◌>>=◌ a k
 
-abbrev finish : Answer ℕ → Answer (Unit {0})
+-- a walk's answer, as the answer to its question
+abbrev pub finish : Answer ℕ → Answer (Unit {0})
 finish (accepted i) = accepted tt
 finish (refused q p) = refused q p
 
@@ -81,11 +74,7 @@ module _ (q : ℕ) (ok : ℕ → ℕ → Bool) where
       go true p ih = ap finish (scan_yes i n ns p) ∙ ih ∙ rw (first ∙ p, first_from)
       go false p ih = ap finish (scan_no i n ns p) ∙ rw (first ∙ p, first_from)
 
-  said_finish : (w : Walked) → said_asked w ≡ finish (said_walk w)
-  said_finish (Past i) = refl
-  said_finish (Stopped question place) = refl
-
-  pub scan_each : (w : Walked) (ns : List ℕ) (n : ℕ) → said_walk w ≡ scan q ok 0 ns → n ≡ length ns → said_asked w ≡ each q n (λ k. ok k (get_or ns k 0))
-  scan_each w ns n h l =
-      said_finish w ∙ ap finish h ∙ scan_each_from (λ k. ok k (get_or ns k 0)) ns 0 (λ k. ap (λ x. ok (0 + k) (get_or ns x 0)) (zero-add k))
+  pub scan_each : (o : Answer ℕ) (ns : List ℕ) (n : ℕ) → o ≡ scan q ok 0 ns → n ≡ length ns → finish o ≡ each q n (λ k. ok k (get_or ns k 0))
+  scan_each o ns n h l =
+      ap finish h ∙ scan_each_from (λ k. ok k (get_or ns k 0)) ns 0 (λ k. ap (λ x. ok (0 + k) (get_or ns x 0)) (zero-add k))
       ∙ ap (λ x. each q x (λ k. ok k (get_or ns k 0))) (sym l)

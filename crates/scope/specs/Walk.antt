@@ -1,8 +1,8 @@
 -- A walk over a term in script order that carries a number for each record and stops at the first whose number fails a test.
-use Rattle.std.specs.Prelude.{Bool, true, false, cond, List, [], ◌∷◌, ℕ, suc, eqb, leb, ltb}
+use Rattle.std.specs.Prelude.{Bool, true, false, List, [], ◌∷◌, ℕ, suc, eqb, leb, ltb}
 use Rattle.rules.specs.Answer.{Bytes, Answer, accepted, refused, ◌⇒◌}
 use Rattle.rules.specs.Limits.{depth_limit}
-use Rattle.rules.specs.Script.{kind, number, widened}
+use Rattle.rules.specs.Script.{kind, number, widened, unwidened}
 use Rattle.records.specs.Kinds as kinds
 use Rattle.records.specs.Binders.{binds}
 
@@ -11,26 +11,35 @@ unfoldable pub scan : ℕ → (ℕ → ℕ → Bool) → ℕ → List ℕ → An
 scan q ok i [] = accepted i
 scan q ok i (n ∷ ns) = elim (ok i n) [ true ↦ scan q ok (suc i) ns | false ↦ refused q i ]
 
--- Is it question 18? Else it is 19.
-abbrev pub asks_depth : ℕ → Bool
-asks_depth q = eqb q 18
+-- what a walk counts: how deep a record stands, or the binders over it
+pub data Counted : Type 0 where
+  depth : Counted
+  binders : Counted
+
+abbrev pub question : Counted → ℕ
+question depth = 18
+question binders = 19
 
 -- question 18 of a record at depth n, and question 19 of record i under n binders
-abbrev pub passes : ℕ → Bytes → ℕ → ℕ → Bool
-passes q s i n = cond (asks_depth q) (leb n depth_limit) (eqb (kind s i) kinds.variable ⇒ ltb (number s i) n)
+abbrev pub passes : Counted → Bytes → ℕ → ℕ → Bool
+passes depth s i n = leb n depth_limit
+passes binders s i n = eqb (kind s i) kinds.variable ⇒ ltb (number s i) n
 
--- the number of an operand, where its record's is n: one deeper at question 18, in the same scope at question 19
-abbrev pub deeper : ℕ → ℕ → ℕ
-deeper q n = cond (asks_depth q) (suc n) n
+-- the number of an operand, where its record's is n: one deeper, in the same scope
+abbrev pub deeper : Counted → ℕ → ℕ
+deeper depth n = suc n
+deeper binders n = n
 
--- the number of an operand that a binder stands over, where its record's is n: one more at both questions
+-- the number of an operand that a binder stands over, where its record's is n: one more at both
 abbrev pub bound : ℕ → ℕ
 bound n = suc n
 
--- a case's number, where its operands are one deeper still for a found type: at question 18 alone
-abbrev pub wide : ℕ → ℕ → ℕ → ℕ
-wide q i n = cond (asks_depth q) (widened i n) n
+-- a case's number, where its operands are one deeper still for a found type, and in the same scope
+abbrev pub wide : Counted → ℕ → ℕ → ℕ
+wide depth i n = widened i n
+wide binders i n = unwidened i n
 
 -- by how much the number of operand j, counted from 0, exceeds that of its record, which has this weight and this kind
-abbrev pub increment : ℕ → ℕ → ℕ → ℕ → ℕ
-increment q weight kind j = cond (asks_depth q) weight (binds kind j)
+abbrev pub increment : Counted → ℕ → ℕ → ℕ → ℕ
+increment depth weight kind j = weight
+increment binders weight kind j = binds kind j

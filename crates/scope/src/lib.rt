@@ -5,87 +5,97 @@
 ghost use Rattle.std.specs.Prelude.{◌≡◌, ◌+◌, ◌*◌, ◌≤◌, ◌<◌};
 ghost use Rattle.calculus.specs.Terms.{Term};
 ghost use Rattle.rules.specs.Script.{records, encode, term, counts, q18, q19};
+ghost use Rattle.answer.specs.Numbers.{number};
 ghost use Rattle.answer.specs.Said.{said};
+ghost use Rattle.records.specs.Numbers.{kind_number};
 ghost use Rattle.records.specs.Place.{At, Here};
-ghost use Rattle.scope.specs.Said.{said_walk, said_asked};
-ghost use Rattle.scope.specs.Walk.{scan, passes, deeper, bound, wide, increment};
+ghost use Rattle.scope.specs.Walk.{Counted, depth, binders, scan, question, passes, deeper, bound, wide, increment};
 
-use answer::Checked;
+use answer::{Checked, Question, Refusal};
+use records::Kind;
 
 pub const DEPTH_LIMIT: usize = 256;
 
-// What a walk over a term reports: the record after it, or the question and the record that stopped it.
-#[derive(Clone, Copy)]
-enum Walked {
-    Past(usize),
-    Stopped(u8, usize),
+// What a walk over a term counts: a number for each record, of which a question is asked.
+trait Count {
+    ghost counted: { Counted };
+
+    fn question() -> Question
+        ensures { number result ≡ question counted };
+
+    // The answer for record i, whose number is n.
+    fn passes(script: &[u8], i: usize, n: usize) -> bool
+        requires { i < records script.now }
+        ensures { result ≡ passes counted script.now i n };
+
+    // By how much the number of operand j, counted from 0, exceeds that of its record, which has this weight and this kind.
+    fn increment(weight: usize, kind: Kind, j: usize) -> usize
+        requires { weight ≤ 2 }
+        ensures { (result ≡ increment counted weight (kind_number kind) j) × (result ≤ 2) };
 }
 
-// A walk's answer to its question.
-fn answered(w: Walked) -> Checked
-    ensures { said result ≡ said_asked w }
-{
-    match w {
-        Walked::Past(_) => Checked::Passed,
-        Walked::Stopped(question, place) => Checked::Refused(question, place),
+// How deep a record stands.
+struct Depth;
+
+impl Count for Depth {
+    ghost counted = { depth };
+
+    fn question() -> Question {
+        Question::Depth
+    }
+
+    fn passes(_script: &[u8], _i: usize, n: usize) -> bool {
+        n <= DEPTH_LIMIT
+    }
+
+    fn increment(weight: usize, _kind: Kind, _j: usize) -> usize {
+        weight
     }
 }
 
-// Question 18 of a record at depth n, or question 19 of record i under n binders.
-fn passes(script: &[u8], question: u8, i: usize, n: usize) -> bool
-    requires { i < records script.now }
-    ensures { result ≡ passes question script.now i n }
-{
-    if question == 18 {
-        return n <= DEPTH_LIMIT;
+// How many binders stand over it.
+struct Binders;
+
+impl Count for Binders {
+    ghost counted = { binders };
+
+    fn question() -> Question {
+        Question::Scope
     }
-    answer::below_if(
-        records::kind(script, i) == records::VARIABLE,
-        records::index(records::number(script, i)),
-        n,
-    )
+
+    fn passes(script: &[u8], i: usize, n: usize) -> bool {
+        match records::kind_at(script, i) {
+            Some(Kind::Variable) => usize::from(records::number(script, i)) < n,
+            _ => true,
+        }
+    }
+
+    fn increment(_weight: usize, kind: Kind, j: usize) -> usize {
+        kind.binders(j)
+    }
 }
 
-// By how much the number of operand j, counted from 0, exceeds that of its record, which has this weight and this kind.
-fn increment(question: u8, weight: usize, kind: u8, j: usize) -> usize
-    requires { weight ≤ 2 }
-    ensures { (result ≡ increment question weight kind j) × (result ≤ 2) }
-{
-    if question == 18 {
-        return weight;
-    }
-    records::binders(kind, j)
-}
-
-// Question 18 or 19 of the term at record i, in script order: n is the record's depth or its count of binders. No call is deeper
-// than the first record that is refused, and question 18 bounds the calls of question 19.
-fn walk(script: &[u8], question: u8, i: usize, n: usize) -> Walked
+// The question of a count asked of each record of the term at record i, in script order: n is the number of that record, and the
+// answer the record after the term. No call is deeper than the first record that is refused, and question 18 bounds the calls of
+// question 19.
+fn walk<C: Count>(script: &[u8], i: usize, n: usize) -> Result<usize, Refusal>
     requires { Here script.now i × (n ≤ 2 * i + 1) }
     ensures { (e : Term) → At script.now i e
-        → said_walk result ≡ scan question (passes question script.now) i (counts (wide question) (deeper question) bound n e) }
+        → said result ≡ scan (question C.counted) (passes C.counted script.now) i (counts (wide C.counted) (deeper C.counted) bound n e) }
 {
-    if !passes(script, question, i, n) {
-        return Walked::Stopped(question, i);
+    if !C::passes(script, i, n) {
+        return Err(Refusal {
+            question: C::question(),
+            place: i,
+        });
     }
     let weight = records::weight(script, i);
-    let k = records::kind(script, i);
-    let arity = records::arity(k);
+    let kind = records::kind_of(script, i);
     let mut next = i + 1;
-    let mut j: usize = 0;
-    while j < arity {
-        let a = walk(
-            script,
-            question,
-            next,
-            n + increment(question, weight, k, j),
-        );
-        let Walked::Past(end) = a else {
-            return a;
-        };
-        next = end;
-        j += 1;
+    for j in 0..kind.arity() {
+        next = walk::<C>(script, next, n + C::increment(weight, kind, j))?;
     }
-    Walked::Past(next)
+    Ok(next)
 }
 
 // 18. Depth at most 256?
@@ -93,7 +103,8 @@ pub fn question_18(script: &[u8]) -> Checked
     requires { encode (term script.now) ≡ script.now }
     ensures { said result ≡ q18 script.now }
 {
-    answered(walk(script, 18, 0, 1))
+    walk::<Depth>(script, 0, 1)?;
+    Ok(())
 }
 
 // 19. Variable's number below its count of binders?
@@ -101,5 +112,6 @@ pub fn question_19(script: &[u8]) -> Checked
     requires { encode (term script.now) ≡ script.now }
     ensures { said result ≡ q19 script.now }
 {
-    answered(walk(script, 19, 0, 0))
+    walk::<Binders>(script, 0, 0)?;
+    Ok(())
 }

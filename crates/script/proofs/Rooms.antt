@@ -1,55 +1,45 @@
--- Question 13, alone and with the rooms of a run's buffers.
-use mathlib.Core.Path.{◌≡◌, refl, ap, sym, ◌∙◌}
-use mathlib.Core.Bool.{Bool, true, false, not, ◌&&◌}
-use mathlib.Core.List.{[], ◌∷◌}
-use mathlib.Core.Option.{none, some}
-use Prim.Native.Nat.{ℕ, ◌%◌}
-use lib.Dec.{eqb, leb}
-use lib.ListN.{length}
-use Rattle.rules.specs.Answer.{Bytes, ask, accepted, first_from, is_none}
+-- Question 13: the lengths of a run's buffers, and a script that fits them.
+use Rattle.std.proofs.Common.{◌≡◌, refl, ap, sym, ◌∙◌, ℕ, suc, ◌+◌, ◌%◌, Bool, true, false, not, ◌&&◌, List, [], ◌∷◌, length, get_or, eqb, leb, arith}
+use Rattle.std.specs.List.{list_all}
+use Rattle.std.proofs.Math.Bool.{and_assoc}
+use Rattle.rules.specs.Answer.{Bytes, ask, accepted, first_from, is_none, all_below}
+use Rattle.rules.specs.Limits.{script_width, script_limit}
 use Rattle.rules.specs.Script.{records, q13}
 use Rattle.rules.proofs.Asked.{ask_true}
-use Rattle.rules.specs.Limits.{script_width, script_limit}
+
+-- a test of all elements is one of all indexes
+from : (test : ℕ → Bool) (xs : List ℕ) (at : ℕ → ℕ) (i : ℕ) → ((k : ℕ) → at (i + k) ≡ get_or xs k 0)
+    → list_all test xs ≡ is_none (first_from (λ j. not (test (at j))) (length xs) i)
+unfolding first_from
+from test [] at i h = refl
+from test (x ∷ xs) at i h = go (test x) refl (from test xs at (suc i) (λ k. let p : suc i + k ≡ i + suc k = omega arith in ap at p ∙ h (suc k)))
+  where
+    here : test (at i) ≡ test x
+    here = let p : i ≡ i + 0 = omega arith in ap (λ j. test (at j)) p ∙ ap test (h 0)
+
+    go : (b : Bool) → test x ≡ b → list_all test xs ≡ is_none (first_from (λ j. not (test (at j))) (length xs) (suc i))
+        → list_all test (x ∷ xs) ≡ is_none (first_from (λ j. not (test (at j))) (length (x ∷ xs)) i)
+    go true e ih = rw (here, e, first_from) ih
+    go false e ih = rw (here, e, first_from)
+
+pub all_rooms : (rooms : List ℕ) (n : ℕ) → list_all (leb n) rooms ≡ all_below (λ i. leb n (get_or rooms i 0)) (length rooms)
+all_rooms rooms n = from (leb n) rooms (λ i. get_or rooms i 0) 0 (λ k. let p : 0 + k ≡ k = omega arith in ap (λ j. get_or rooms j 0) p)
 
 -- whole records, 1 to 8,192
 abbrev pub whole_records : Bytes → Bool
 whole_records s = eqb (length s % script_width) 0 && (leb 1 (records s) && leb (records s) script_limit)
 
-and_true : (a b c : Bool) → (a && (b && c)) ≡ (a && (b && (c && true)))
-and_true true true true = refl
-and_true true true false = refl
-and_true true false c = refl
-and_true false b c = refl
-
-pub asked_alone : (s : Bytes) → ask 13 0 (whole_records s) ≡ q13 [] s
+pub asked : (rooms : List ℕ) (s : Bytes) {w f : Bool} → w ≡ whole_records s → f ≡ list_all (leb (length s)) rooms → ask 13 0 (w && f) ≡ q13 rooms s
 unfolding first_from
-asked_alone s = ap (ask 13 0) (and_true (eqb (length s % script_width) 0) (leb 1 (records s)) (leb (records s) script_limit))
+asked rooms s ew ef = rw (ew, ef, all_rooms rooms (length s)) (ap (ask 13 0) (simp and_assoc))
 
-both : (d e : Bool) → (d && e) ≡ is_none {A = ℕ} (elim (not d) [ true ↦ some 0 | false ↦ elim (not e) [ true ↦ some 1 | false ↦ none ] ])
-both true true = refl
-both true false = refl
-both false e = refl
-
-and_more : (a b c x : Bool) → ((a && (b && c)) && x) ≡ (a && (b && (c && x)))
-and_more true true true x = refl
-and_more true true false x = refl
-and_more true false c x = refl
-and_more false b c x = refl
-
-pub asked_in_run : (s : Bytes) (first scratch : ℕ) → ask 13 0 (whole_records s && (leb (length s) first && leb (length s) scratch)) ≡ q13
-    (first ∷ scratch ∷ []) s
-unfolding first_from
-asked_in_run s first scratch =
-    ap (ask 13 0)
-    (and_more (eqb (length s % script_width) 0) (leb 1 (records s)) (leb (records s) script_limit) (leb (length s) first && leb (length s) scratch)
-    ∙ ap (λ x. eqb (length s % script_width) 0 && (leb 1 (records s) && (leb (records s) script_limit && x))) (both (leb (length s) first) (leb (length s) scratch)))
-
-and_left : (a b : Bool) → (a && b) ≡ true → a ≡ true
-and_left true b e = refl
-and_left false b e = e
+and_first : (a b : Bool) → (a && b) ≡ true → a ≡ true
+and_first true b e = refl
+and_first false b e = e
 
 -- a script that fits its run's buffers is whole
-pub run_alone : (s : Bytes) (first scratch : ℕ) → q13 (first ∷ scratch ∷ []) s ≡ accepted tt → q13 [] s ≡ accepted tt
-run_alone s first scratch e =
-    sym (asked_alone s)
-    ∙ ap (ask 13 0) (and_left (whole_records s) (leb (length s) first && leb (length s) scratch) (ask_true 13 0 _ (asked_in_run s first scratch ∙ e)))
+pub alone : (rooms : List ℕ) (s : Bytes) → q13 rooms s ≡ accepted tt → q13 [] s ≡ accepted tt
+alone rooms s e =
+    let f = list_all (leb (length s)) rooms in
+    let w : whole_records s ≡ true = and_first (whole_records s) f (ask_true 13 0 _ (asked rooms s refl refl ∙ e)) in
+    sym (asked [] s refl refl) ∙ ap (λ b. ask 13 0 (b && true)) w

@@ -1,12 +1,6 @@
 -- The questions in order, and the answer from what was asked.
-use mathlib.Core.Path.{◌≡◌, sym, ap, ◌∙◌}
-use mathlib.Core.Bool.{true, false}
-use mathlib.Core.List.{[]}
-use Prim.Native.Nat.{ℕ, ◌*◌, ◌/◌, ◌≤◌, ◌<◌}
-use native.Mathlib.Omega.{arith}
-use borrow.Author.Tests.{le-leb, lt-leb, lt-ltb, le-ltb, ltb-true}
-use lib.Dec.{ltb}
-use lib.ListN.{length}
+use Rattle.std.proofs.Common.{◌≡◌, sym, ap, ◌∙◌, true, false, [], ℕ, ◌*◌, ◌/◌, ◌≤◌, ◌<◌, arith, le-leb, ltb-true, ltb, length}
+use Rattle.std.proofs.lemmas.Bool.{lt-leb}
 use Rattle.calculus.specs.Terms.{is_value}
 use Rattle.rules.specs.Answer.{Bytes, Octets, Answer, accepted, refused, ◌>>◌}
 use Rattle.rules.specs.Limits.{sheet_width, group_limit}
@@ -19,16 +13,8 @@ use Rattle.demands.proofs.Checked.{script_passed}
 use Rattle.memory.specs.Splice.{splice}
 use Rattle.memory.proofs.Laws.{splice_front}
 use Rattle.sheet.specs.Value.{lines}
-use Rattle.sheet.specs.Said.{said_sheet, before_26}
-use Rattle.sheet.specs.declared.Sheet.{Sheet}
-use Rattle.sheet.specs.declared.Sheet.TheVariants as the
+use Rattle.sheet.specs.Before.{before_26}
 use Rattle.sheet.proofs.Sheets.{sheet_length}
-
-pub outside : (n group : ℕ) → n ≤ group → refused 25 0 ≡ q25 0 group n
-outside n group l = rw (le-ltb group n l)
-
-pub inside : (n group : ℕ) → group < n → accepted tt ≡ q25 0 group n
-inside n group l = rw (lt-ltb group n l)
 
 -- what a yes to all of them says
 few_of : (g t : Bytes) → types_check g t ≡ accepted tt → rows g ≤ group_limit
@@ -53,15 +39,15 @@ unfolding sheeting before_26 script_check is_value sheet term
 sheeting_is g t s group room = sym (regroup (script_check [] g t s) (q25 0 group (rows g)) (from_26 g s group room))
 
 -- the answer and the buffer, from the call's
-pub record Paged (o : Answer Bytes) (old : Bytes) (a : Sheet) (new : Bytes) : Type 0 where
-  pub answer : said_sheet a ≡ sheet_records o
+pub record Paged (o : Answer Bytes) (old : Bytes) (a : Answer ℕ) (new : Bytes) : Type 0 where
+  pub answer : a ≡ sheet_records o
   pub after : new ≡ sheet_after o old
 
-no_sheet : (o : Answer Bytes) (old : Bytes) (q p : ℕ) → o ≡ refused q p → Paged o old (the.Refused q p) old
+no_sheet : (o : Answer Bytes) (old : Bytes) (q p : ℕ) → o ≡ refused q p → Paged o old (refused q p) old
 unfolding sheet_records
 no_sheet o old q p e = record { answer = sym (ap sheet_records e); after = sym (ap (λ x. sheet_after x old) e) }
 
-the_sheet : (o : Answer Bytes) (b old new : Bytes) (n : ℕ) → o ≡ accepted b → length b ≡ sheet_width * n → new ≡ splice 0 b old → Paged o old (the.Written n) new
+the_sheet : (o : Answer Bytes) (b old new : Bytes) (n : ℕ) → o ≡ accepted b → length b ≡ sheet_width * n → new ≡ splice 0 b old → Paged o old (accepted n) new
 unfolding sheet_records
 the_sheet o b old new n e l h =
     let k : n ≡ length b / sheet_width = omega arith in
@@ -71,7 +57,7 @@ module _ (g t s : Bytes) (group : ℕ) (old : Bytes) where
   abbrev call : Answer Bytes
   call = sheeting g t s group (length old)
 
-  pub stopped : {q p : ℕ} → refused q p ≡ before_26 g t s group → Paged call old (the.Refused q p) old
+  pub stopped : {q p : ℕ} → refused q p ≡ before_26 g t s group → Paged call old (refused q p) old
   stopped {q} {p} e =
       no_sheet call old q p (sheeting_is g t s group (length old) ∙ ap (λ a. ◌>>◌ a (from_26 g s group (length old))) (sym e))
 
@@ -79,15 +65,15 @@ module _ (g t s : Bytes) (group : ℕ) (old : Bytes) where
     after_25 : call ≡ from_26 g s group (length old)
     after_25 = sheeting_is g t s group (length old) ∙ ap (λ a. ◌>>◌ a (from_26 g s group (length old))) yes
 
-    pub no_value : is_value (term s) ≡ false → Paged call old (the.Refused 26 0) old
+    pub no_value : is_value (term s) ≡ false → Paged call old (refused 26 0) old
     no_value v = no_sheet call old 26 0 (after_25 ∙ rw v)
 
-    pub no_room : is_value (term s) ≡ true → length old < sheet_width * lines g group (term s) → Paged call old (the.Refused 27 0) old
+    pub no_room : is_value (term s) ≡ true → length old < sheet_width * lines g group (term s) → Paged call old (refused 27 0) old
     no_room v l =
         no_sheet call old 27 0 (after_25 ∙ rw (v, lt-leb (length (sheet g group (term s))) (length old) (omega (arith, sheet_length g group (term s)))))
 
     pub written : is_value (term s) ≡ true → sheet_width * lines g group (term s) ≤ length old → (n : ℕ) → n ≡ lines g group (term s) → (new : Bytes)
-        → new ≡ splice 0 (sheet g group (term s)) old → Paged call old (the.Written n) new
+        → new ≡ splice 0 (sheet g group (term s)) old → Paged call old (accepted n) new
     written v l n h new e =
         the_sheet call (sheet g group (term s)) old new n
         (after_25 ∙ rw (v, le-leb (length (sheet g group (term s))) (length old) (omega (arith, sheet_length g group (term s)))))

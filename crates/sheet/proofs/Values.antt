@@ -1,8 +1,5 @@
 -- What a look finds at a term's record and at its operands.
-use mathlib.Core.Path.{◌≡◌, refl, sym, ap, ◌∙◌}
-use mathlib.Core.Bool.{Bool, true, false, cond, ◌&&◌}
-use Prim.Native.Nat.{ℕ, ◌+◌, ◌≤◌, ◌<◌}
-use native.Mathlib.Omega.{arith}
+use Rattle.std.proofs.Common.{◌≡◌, ℕ, ◌+◌, ◌≤◌, ◌<◌, Bool, true, false, cond, ◌&&◌, Option, Some, None, ◌⊎◌, inl, inr, refl, sym, ap, ◌∙◌, arith}
 use Rattle.calculus.specs.Security.{Property}
 use Rattle.calculus.specs.Terms.{Side, first, second, choose, Term, var, unit, lam, pair, inj, app, proj, case, protect, mu, is_value}
 use Rattle.rules.specs.Answer.{Bytes}
@@ -12,11 +9,14 @@ use Rattle.rules.proofs.PrefixLaws.{record_is}
 use Rattle.rules.proofs.RecordFields.{r_is}
 use Rattle.rules.proofs.TermCode.{term_code, term_head}
 use Rattle.records.specs.Kinds as kinds
+use Rattle.records.specs.Numbers.{kind_number}
+use Rattle.records.specs.declared.Kind.{Kind}
+use Rattle.records.specs.declared.Kind.TheVariants as the
 use Rattle.records.specs.Place.{At}
 use Rattle.records.specs.Operands.{first_operand, second_operand}
 use Rattle.records.proofs.Stands.{kind_of, operands}
 use Rattle.sheet.specs.Value.{lines, lines_if, looked}
-use Rattle.sheet.specs.declared.Looked.TheVariants.{Value, Other}
+use Rattle.sheet.specs.declared.Reached.{Reached}
 
 -- a term as a walk over values sees it
 pub data View : Term → Type 0 where
@@ -76,36 +76,37 @@ module _ (g : Bytes) (group : ℕ) where
   lines_size false e = omega arith
 
   module _ (shown : Bool) where
-    pub looked_no : (e : Term) (i n : ℕ) → is_value e ≡ false → looked g group shown e i n ≡ Other
+    pub looked_no : (e : Term) (i n : ℕ) → is_value e ≡ false → None ≡ looked g group shown e i n
     unfolding looked
     looked_no e i n h = rw h
 
-    pub looked_yes : (e : Term) (i n j m : ℕ) → is_value e ≡ true → j ≡ i + size e → m ≡ n + lines_if g group shown e → Value j m ≡ looked g group shown e i n
+    pub looked_yes : (e : Term) (i n : ℕ) (x : Reached) → is_value e ≡ true → x.next ≡ i + size e → x.line ≡ n + lines_if g group shown e
+        → Some x ≡ looked g group shown e i n
     unfolding looked
-    looked_yes e i n j m h p q = rw (h, p, q)
+    looked_yes e i n x h p q = rw (h, ← p, ← q)
 
     -- a value was found
-    pub record Found (e : Term) (i n j m : ℕ) : Type 0 where
+    pub record Found (e : Term) (i n : ℕ) (x : Reached) : Type 0 where
       pub value : is_value e ≡ true
-      pub end : j ≡ i + size e
-      pub count : m ≡ n + lines_if g group shown e
+      pub end : x.next ≡ i + size e
+      pub count : x.line ≡ n + lines_if g group shown e
 
-    pub found : (e : Term) (i n j m : ℕ) → looked g group shown e i n ≡ Value j m → Found e i n j m
+    pub found : (e : Term) (i n : ℕ) (x : Reached) → Some x ≡ looked g group shown e i n → Found e i n x
     unfolding looked
-    found e i n j m h = go (is_value e) refl h
+    found e i n x h = go (is_value e) refl h
       where
-        go : (b : Bool) → is_value e ≡ b → cond b (Value (i + size e) (n + lines_if g group shown e)) Other ≡ Value j m → Found e i n j m
+        go : (b : Bool) → is_value e ≡ b → Some x ≡ cond b (Some (record { next = i + size e; line = n + lines_if g group shown e })) None → Found e i n x
         go true v p = record { value = v; end = cc; count = cc }
-        go false v p = let z : ◌≡◌ {A = ℕ} 0 1 = cc in absurd (omega arith)
+        go false v p = absurd (cc)
 
     -- no value was found
-    pub lost : (e : Term) (i n : ℕ) → Other ≡ looked g group shown e i n → is_value e ≡ false
+    pub lost : (e : Term) (i n : ℕ) → None ≡ looked g group shown e i n → is_value e ≡ false
     unfolding looked
     lost e i n h = go (is_value e) refl h
       where
-        go : (b : Bool) → is_value e ≡ b → Other ≡ cond b (Value (i + size e) (n + lines_if g group shown e)) Other → is_value e ≡ false
+        go : (b : Bool) → is_value e ≡ b → ◌≡◌ {A = Option Reached} None (cond b (Some (record { next = i + size e; line = n + lines_if g group shown e })) None) → is_value e ≡ false
         go false v h = v
-        go true v h = let z : ◌≡◌ {A = ℕ} 0 1 = cc in absurd (omega arith)
+        go true v h = absurd (cc)
 
 -- objects are of the kinds from the unit to the second injection
 pub no_object : {e : Term} → View e → (kinds.unit ≤ kind_of e → kinds.second_injection < kind_of e) → is_value e ≡ false
@@ -192,10 +193,52 @@ module _ (g : Bytes) (group : ℕ) (shown inside : Bool) (e : Term) (i n own_lin
       let b : own_line + lines_if g group inside (first_operand e) ≡ n + lines_if g group shown e = omega (arith, c, counts) in
       rw (p.value, a, b)
 
-  pub look_pair : (j m : ℕ) → Pairs e → Found g group inside (first_operand e) (i + 1) own_line j m → looked g group inside (second_operand e) j m ≡ looked g group shown e i n
+  pub look_pair : (x : Reached) → Pairs e → Found g group inside (first_operand e) (i + 1) own_line x → looked g group inside (second_operand e) x.next x.line ≡ looked g group shown e i n
   unfolding looked
-  look_pair j m p f =
-      let a : j + size (second_operand e) ≡ i + size e = omega (arith, p.sized, f.end) in
+  look_pair x p f =
+      let a : x.next + size (second_operand e) ≡ i + size e = omega (arith, p.sized, f.end) in
       let c = p.counted g group shown ∙ ap (λ (b : Bool). cond shown 1 0 + (lines_if g group b (first_operand e) + lines_if g group b (second_operand e))) (sym shows) in
-      let b : m + lines_if g group inside (second_operand e) ≡ n + lines_if g group shown e = omega (arith, c, f.count, counts) in
+      let b : x.line + lines_if g group inside (second_operand e) ≡ n + lines_if g group shown e = omega (arith, c, f.count, counts) in
       rw (p.value, f.value, a, b)
+
+-- what the walks ask of an object's kind
+pub plain : {k : Kind} → (k ≡ the.Unit) ⊎ (k ≡ the.Function) → (kinds.unit ≤ kind_number k) × (kind_number k ≤ kinds.function)
+plain (inl e) = rw e (omega arith, omega arith)
+plain (inr e) = rw e (omega arith, omega arith)
+
+pub of_injection : {k : Kind} → (k ≡ the.FirstInjection) ⊎ (k ≡ the.SecondInjection)
+    → (kinds.function < kind_number k) × (kind_number k ≤ kinds.second_injection) × (kind_number k ≡ kinds.pair → ⊥)
+of_injection (inl e) = rw e (omega arith, omega arith, λ h. omega arith)
+of_injection (inr e) = rw e (omega arith, omega arith, λ h. omega arith)
+
+-- a kind that is none of a pair's and the injections'
+pub no_parts_kind : (k : Kind) → (k ≡ the.Pair → ⊥) → (k ≡ the.FirstInjection → ⊥) → (k ≡ the.SecondInjection → ⊥) → kind_number k ≤ kinds.second_injection
+    → kind_number k ≤ kinds.function
+no_parts_kind the.Variable a b c l = omega arith
+no_parts_kind the.Unit a b c l = omega arith
+no_parts_kind the.Function a b c l = omega arith
+no_parts_kind the.Pair a b c l = absurd (a refl)
+no_parts_kind the.FirstInjection a b c l = absurd (b refl)
+no_parts_kind the.SecondInjection a b c l = absurd (c refl)
+no_parts_kind the.Application a b c l = absurd (omega arith)
+no_parts_kind the.FirstProjection a b c l = absurd (omega arith)
+no_parts_kind the.SecondProjection a b c l = absurd (omega arith)
+no_parts_kind the.Case a b c l = absurd (omega arith)
+no_parts_kind the.Protect a b c l = absurd (omega arith)
+no_parts_kind the.Recursion a b c l = absurd (omega arith)
+
+-- and none of the unit's and the function's either
+pub no_object_kind : (k : Kind) → (k ≡ the.Unit → ⊥) → (k ≡ the.Function → ⊥) → (k ≡ the.Pair → ⊥) → (k ≡ the.FirstInjection → ⊥) → (k ≡ the.SecondInjection → ⊥)
+    → kinds.unit ≤ kind_number k → kinds.second_injection < kind_number k
+no_object_kind the.Variable u f a b c l = absurd (omega arith)
+no_object_kind the.Unit u f a b c l = absurd (u refl)
+no_object_kind the.Function u f a b c l = absurd (f refl)
+no_object_kind the.Pair u f a b c l = absurd (a refl)
+no_object_kind the.FirstInjection u f a b c l = absurd (b refl)
+no_object_kind the.SecondInjection u f a b c l = absurd (c refl)
+no_object_kind the.Application u f a b c l = omega arith
+no_object_kind the.FirstProjection u f a b c l = omega arith
+no_object_kind the.SecondProjection u f a b c l = omega arith
+no_object_kind the.Case u f a b c l = omega arith
+no_object_kind the.Protect u f a b c l = omega arith
+no_object_kind the.Recursion u f a b c l = omega arith

@@ -1,3 +1,3 @@
 pub mod Shown
 pub mod Value
-pub mod Said
+pub mod Before

@@ -4,6 +4,17 @@ use Rattle.rules.specs.Answer.{Bytes}
 use Rattle.rules.specs.Script.{kind, r, ir}
 use Rattle.records.specs.Kinds as kinds
 use Rattle.sheet.specs.declared.Line.{Line}
+use Rattle.sheet.specs.declared.Shown.{Shown}
+use Rattle.sheet.specs.declared.Shown.TheVariants.{Unit, First, Second, Pair, Function, Closed}
+
+-- the numbers of the sheet's kinds
+abbrev pub shown_number : Shown → ℕ
+shown_number Unit = 0
+shown_number First = 1
+shown_number Second = 2
+shown_number Pair = 3
+shown_number Function = 4
+shown_number Closed = 5
 
 -- the sheet's kinds: 4 a function, 3 a pair, 1 and 2 a first and a second injection, 0 a unit
 unfoldable pub shown_kind : ℕ → ℕ
@@ -17,4 +28,4 @@ unfolding shown_kind
 line told s i = cond told (shown_kind (kind s i) ∷ r s i ∷ ir s i ∷ 0 ∷ []) (5 ∷ 0 ∷ 0 ∷ 0 ∷ [])
 
 abbrev pub bytes_of : Line → Bytes
-bytes_of line = line.kind ∷ line.r.0 ∷ line.ir.0 ∷ 0 ∷ []
+bytes_of line = shown_number line.kind ∷ line.r.0 ∷ line.ir.0 ∷ 0 ∷ []

@@ -1,5 +1,5 @@
 -- A value that stands in a script: what looking it over and writing its sheet are given, and what they tell.
-use Rattle.std.specs.Prelude.{◌≡◌, Bool, true, cond, ℕ, ◌+◌, ◌*◌, ◌≤◌, length}
+use Rattle.std.specs.Prelude.{◌≡◌, Bool, true, cond, ℕ, ◌+◌, ◌*◌, ◌≤◌, length, Option, Some, None}
 use Rattle.calculus.specs.Terms.{Term, var, unit, lam, pair, inj, app, proj, case, protect, mu, is_value}
 use Rattle.rules.specs.Answer.{Bytes}
 use Rattle.rules.specs.Limits.{sheet_width}
@@ -8,8 +8,6 @@ use Rattle.rules.specs.Script.{size}
 use Rattle.rules.specs.Sheet.{sheet}
 use Rattle.records.specs.Place.{At}
 use Rattle.memory.specs.Splice.{splice}
-use Rattle.sheet.specs.declared.Looked.{Looked}
-use Rattle.sheet.specs.declared.Looked.TheVariants.{Value, Other}
 use Rattle.sheet.specs.declared.Reached.{Reached}
 
 -- the number of a value's sheet records: one for each object outside function bodies and closed objects
@@ -30,9 +28,9 @@ abbrev pub lines_if : Bytes → ℕ → Bool → Term → ℕ
 lines_if g group shown e = cond shown (lines g group e) 0
 
 -- what is found of e at record i, with n sheet records before its own
-unfoldable pub looked : Bytes → ℕ → Bool → Term → ℕ → ℕ → Looked
+unfoldable pub looked : Bytes → ℕ → Bool → Term → ℕ → ℕ → Option Reached
 unfolding is_value size lines
-looked g group shown e i n = cond (is_value e) (Value (i + size e) (n + lines_if g group shown e)) Other
+looked g group shown e i n = cond (is_value e) (Some (record { next = i + size e; line = n + lines_if g group shown e })) None
 
 -- a value at record i, and room in w for its sheet from sheet record n on
 pub record Room (g : Bytes) (group : ℕ) (s : Bytes) (i : ℕ) (w : Bytes) (n : ℕ) : Type 0 where

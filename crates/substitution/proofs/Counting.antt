@@ -1,11 +1,5 @@
 -- A node from its operands, as a walk passes them one after the other, counted.
-use mathlib.Core.Path.{◌≡◌, refl, sym, ap, ◌∙◌}
-use mathlib.Core.Bool.{Bool, true, false, cond}
-use mathlib.Core.List.{List, [], ◌∷◌, ◌++◌}
-use Prim.Native.Nat.{ℕ, suc, ◌+◌, ◌*◌, ◌≤◌, ◌<◌, max}
-use native.Mathlib.Omega.{arith}
-use lib.Dec.{eqb}
-use lib.ListN.{length}
+use Rattle.std.proofs.Common.{◌≡◌, refl, sym, ap, ◌∙◌, Bool, true, false, cond, List, [], ◌∷◌, ◌++◌, ℕ, suc, ◌+◌, ◌*◌, ◌≤◌, ◌<◌, max, arith, eqb, length}
 use Rattle.calculus.specs.Terms.{Term, var, subst}
 use Rattle.rules.specs.Answer.{Bytes}
 use Rattle.rules.specs.Script.{size, depth, kind, number}
@@ -20,6 +14,7 @@ use Rattle.records.proofs.Stands.{kind_of, stands_kind}
 use Rattle.records.specs.Binders.{binds}
 use Rattle.substitution.specs.Substituted.{value_limit, Sizes, Measured}
 use Rattle.substitution.specs.declared.Extent.{Extent}
+use Rattle.substitution.specs.declared.Size.{Size}
 use Rattle.substitution.proofs.Nodes.{greatest, greatest_append, View, variable, node, view, under, under_append, subst_var, subst_size, subst_depth, operand_size, operand_depth, greatest_records, under_bound}
 use Rattle.substitution.proofs.Reading.{variable_at}
 
@@ -41,7 +36,7 @@ counted_none i n e v = record { passed = started i e; sum_is = refl; below_is = 
 
 module _ {i n : ℕ} {e v : Term} {j next sum below : ℕ} (p : Counted i n e v j next sum below) where
   pub counted_more : (a : Ahead p.passed) (level : ℕ) → level ≡ n + binds (kind_of e) j → (x : Extent) → Measured next level a.operand v x
-      → Counted i n e v (j + 1) x.next (sum + x.records) (max below x.depth)
+      → Counted i n e v (j + 1) x.next (sum + x.size.records) (max below x.size.depth)
   counted_more a level h x m =
       let q = p.passed in
       let u = under_more (kind_of e) n v q.before j a.operand level q.count h in
@@ -61,7 +56,7 @@ module _ {i n : ℕ} {e v : Term} {j next sum below : ℕ} (p : Counted i n e v 
       )
 
   pub counted_all : (kind_of e ≡ kinds.variable → ⊥) → j ≡ length (term_operands e) → (weight : ℕ) → weight ≡ weight_of e
-      → Measured i n e v (record { next = next; records = sum; depth = below + weight })
+      → Measured i n e v (record { next = next; size = record { records = sum; depth = below + weight } })
   counted_all h l weight weighs =
       let q = p.passed in
       let w = whole q l in
@@ -73,8 +68,8 @@ module _ {i n : ℕ} {e v : Term} {j next sum below : ℕ} (p : Counted i n e v 
       }
 
 -- what counting an operand is given
-abbrev pub operand_sizes : {s : Bytes} {i n records deep : ℕ} (q : Sizes s i n records deep) {j next : ℕ} (p : Passed i q.tree j next) (a : Ahead p) (level : ℕ)
-    → level ≤ n + 1 → Sizes s next level records deep
+abbrev pub operand_sizes : {s : Bytes} {i n : ℕ} {m : Size} (q : Sizes s i n m) {j next : ℕ} (p : Passed i q.tree j next) (a : Ahead p) (level : ℕ)
+    → level ≤ n + 1 → Sizes s next level m
 operand_sizes q p a level l = record {
   tree = a.operand;
   at = operand_here p a q.at;
@@ -88,7 +83,7 @@ operand_sizes q p a level l = record {
 
 -- a variable
 pub measured_variable : (s : Bytes) (i n : ℕ) (e v : Term) → At s i e → kind s i ≡ kinds.variable → (records deep : ℕ) → records ≡ size v → deep ≡ depth v → (x : Extent)
-    → x.next ≡ i + 1 → x.records ≡ cond (eqb (number s i) n) records 1 → x.depth ≡ cond (eqb (number s i) n) deep 1 → Measured i n e v x
+    → x.next ≡ i + 1 → x.size.records ≡ cond (eqb (number s i) n) records 1 → x.size.depth ≡ cond (eqb (number s i) n) deep 1 → Measured i n e v x
 unfolding size depth
 measured_variable s i n e v a k records deep hr hd x e1 e2 e3 = go e (view e) a
   where

@@ -1,10 +1,6 @@
 -- Three pieces written one after the other.
-use mathlib.Core.Path.{◌≡◌, refl, ap, ◌∙◌}
-use mathlib.Core.List.{◌++◌, append_assoc}
-use Prim.Native.Nat.{ℕ, ◌+◌, ◌≤◌}
-use native.Mathlib.Omega.{arith}
-use lib.ListN.{length, take, drop, length-append}
-use lib.Seq.{take-length}
+use Rattle.std.proofs.Common.{◌≡◌, refl, ap, ◌∙◌, ◌++◌, append_assoc, ℕ, ◌+◌, ◌≤◌, arith, length, take, drop, length-append}
+use Rattle.std.proofs.Math.Seq.{take-length}
 use Rattle.rules.specs.Answer.{Bytes}
 use Rattle.memory.specs.Splice.{splice}
 use Rattle.memory.proofs.Laws.{join_after}

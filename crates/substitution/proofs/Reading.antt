@@ -1,7 +1,11 @@
 -- What a term at a record tells of the bytes there.
-use mathlib.Core.Path.{◌≡◌, ap, ◌∙◌}
-use Prim.Native.Nat.{ℕ, ◌+◌, ◌*◌, ◌≤◌}
-use lib.ListN.{length}
+use denote.Enum.Bare.{sameb}
+use Rattle.std.proofs.Common.{◌≡◌, ℕ, ◌+◌, ◌*◌, ◌≤◌, eqb, true, false, length, refl, sym, ap, ◌∙◌}
+use Rattle.std.proofs.lemmas.Bool.{eqb-true, eqb-false}
+use Rattle.records.specs.Numbers.{kind_number}
+use Rattle.records.specs.declared.Kind.{Kind}
+use Rattle.records.specs.declared.Kind.TheVariants.{Variable, Unit, Function, Pair, FirstInjection, SecondInjection, Application, FirstProjection, SecondProjection, Case, Protect, Recursion}
+use Rattle.records.specs.contracts.Kind.{the_type}
 use Rattle.calculus.specs.Terms.{Term, var}
 use Rattle.rules.specs.Answer.{Bytes}
 use Rattle.rules.specs.Limits.{script_width}
@@ -23,12 +27,30 @@ size_from e = size_positive term_code e
 pub variable_at : {s : Bytes} {i m : ℕ} → At s i (var m) → number s i ≡ m
 variable_at {m = m} a = number_at a ∙ two_bytes m
 
--- What a loop over the operands of the node at record i knows of it, once its kind k is read: that it is no variable, how many operands
+-- A kind is compared with a variable's by its number.
+same_number : (k : Kind) → sameb the_type k Variable ≡ eqb (kind_number k) kinds.variable
+same_number Variable = refl
+same_number Unit = refl
+same_number Function = refl
+same_number Pair = refl
+same_number FirstInjection = refl
+same_number SecondInjection = refl
+same_number Application = refl
+same_number FirstProjection = refl
+same_number SecondProjection = refl
+same_number Case = refl
+same_number Protect = refl
+same_number Recursion = refl
+
+pub variable_kind : (k : Kind) {n : ℕ} → true ≡ sameb the_type k Variable → kind_number k ≡ n → n ≡ kinds.variable
+variable_kind k same is = sym is ∙ eqb-true _ _ (sym (same_number k) ∙ sym same)
+
+pub other_kind : (k : Kind) {s : Bytes} {i : ℕ} {u : Term} → false ≡ sameb the_type k Variable → kind_number k ≡ kind s i → At s i u → kind_of u ≡ kinds.variable → ⊥
+other_kind k same is a h = eqb-false _ _ (sym (same_number k) ∙ sym same) (is ∙ stands_kind _ _ _ a ∙ h)
+
+-- What a loop over the operands of the node at record i knows of it, once its kind k is read: how many operands
 -- it has, and the level of a variable under the binders over operand j.
 module _ {s : Bytes} {i k : ℕ} {u : Term} (k_is : k ≡ kind s i) (a : At s i u) where
-  pub other_kind : (k ≡ kinds.variable → ⊥) → kind_of u ≡ kinds.variable → ⊥
-  other_kind other h = other (k_is ∙ stands_kind _ _ _ a ∙ h)
-
   pub count_is : {n : ℕ} → n ≡ arity k → n ≡ length (term_operands u)
   count_is e = e ∙ ap arity k_is ∙ stands_arity _ _ _ a
 

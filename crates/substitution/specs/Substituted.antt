@@ -8,6 +8,7 @@ use Rattle.records.specs.Place.{At}
 use Rattle.memory.specs.Splice.{splice}
 use Rattle.substitution.specs.declared.Wrote.{Wrote}
 use Rattle.substitution.specs.declared.Extent.{Extent}
+use Rattle.substitution.specs.declared.Size.{Size}
 
 -- The most records of a value: an unrolled function has a few more than the recursion in it.
 abbrev pub value_limit : ℕ
@@ -15,21 +16,21 @@ value_limit = 2 * script_limit
 
 -- The term at record i, within the limits. n binders have been passed on the way to it, so that n + depth is at most the depth of
 -- the whole: calls are never deeper than that.
-pub record Sizes (s : Bytes) (i n records deep : ℕ) : Type 0 where
+pub record Sizes (s : Bytes) (i n : ℕ) (m : Size) : Type 0 where
   pub tree : Term
   pub at : At s i tree
   pub value : Term
-  pub records_of : records ≡ size value
-  pub depth_of : deep ≡ depth value
+  pub records_of : m.records ≡ size value
+  pub depth_of : m.depth ≡ depth value
   pub shallow : n + depth tree ≤ depth_limit
   pub small : size tree ≤ script_limit
-  pub small_value : records ≤ value_limit
+  pub small_value : m.records ≤ value_limit
 
 -- the record after e, and the records and the depth of e with v for its variable n
 pub record Measured (i n : ℕ) (e v : Term) (x : Extent) : Type 0 where
   pub next : x.next ≡ i + size e
-  pub records : x.records ≡ size (subst n v e)
-  pub deep : x.depth ≡ depth (subst n v e)
+  pub records : x.size.records ≡ size (subst n v e)
+  pub deep : x.size.depth ≡ depth (subst n v e)
 
 -- a term stands at record i, within the limits
 pub record Within (s : Bytes) (i : ℕ) : Type 0 where
@@ -41,8 +42,8 @@ pub record Within (s : Bytes) (i : ℕ) : Type 0 where
 -- x tells the record after e, which stands at record i, and the records and the depth of e
 pub record Extends (i : ℕ) (e : Term) (x : Extent) : Type 0 where
   pub next : x.next ≡ i + size e
-  pub records : x.records ≡ size e
-  pub deep : x.depth ≡ depth e
+  pub records : x.size.records ≡ size e
+  pub deep : x.size.depth ≡ depth e
 
 -- the term at record i and a value in three pieces, and room in w from byte `start` on for the one in the other
 pub record Room (s : Bytes) (i : ℕ) (front mid back : Bytes) (n : ℕ) (w : Bytes) (start : ℕ) : Type 0 where

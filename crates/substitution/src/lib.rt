@@ -2,7 +2,7 @@
 
 #![tactic(auto)]
 
-ghost use Rattle.std.specs.Prelude.{◌≡◌, cond, ◌++◌, ◌+◌, ◌*◌, ◌≤◌, ◌<◌, max, eqb, length};
+ghost use Rattle.std.specs.Prelude.{◌≡◌, cond, ◌++◌, ◌+◌, ◌*◌, ◌≤◌, ◌<◌, eqb, length};
 ghost use Rattle.calculus.specs.Terms.{Term};
 ghost use Rattle.rules.specs.Script.{records as record_count, kind, number, encode, size, depth};
 ghost use Rattle.records.specs.Kinds as kinds;
@@ -10,30 +10,27 @@ ghost use Rattle.records.specs.Place.{At};
 ghost use Rattle.memory.specs.Splice.{splice};
 ghost use Rattle.substitution.specs.Substituted.{Sizes, Measured, Within, Extends, Room, Written};
 
-use records::{SCRIPT_WIDTH, VARIABLE};
+use records::{Kind, SCRIPT_WIDTH};
 
-// The record after a term, and the records and the depth of what it becomes.
-#[derive(Clone, Copy)]
-pub struct Extent {
-    pub next: usize,
+// The records and the depth of a term.
+#[derive(Clone, Copy, Debug, PartialEq, Eq)]
+pub struct Size {
     pub records: usize,
     pub depth: usize,
 }
 
+// The record after a term, and the size of what it becomes.
+#[derive(Clone, Copy, Debug, PartialEq, Eq)]
+pub struct Extent {
+    pub next: usize,
+    pub size: Size,
+}
+
 // The record after a term, and the byte after what was written for it.
-#[derive(Clone, Copy)]
+#[derive(Clone, Copy, Debug, PartialEq, Eq)]
 pub struct Wrote {
     pub next: usize,
     pub end: usize,
-}
-
-fn larger(a: usize, b: usize) -> usize
-    ensures { result ≡ max a b }
-{
-    if a < b {
-        return b;
-    }
-    a
 }
 
 // Is the variable at record i variable n?
@@ -44,64 +41,61 @@ fn is_variable(script: &[u8], i: usize, n: u16) -> bool
     records::number(script, i) == n
 }
 
-// A variable with the value for variable n, counted.
-fn measure_variable(script: &[u8], i: usize, n: u16, records: usize, deep: usize) -> Extent
+// A variable with a value of this size for variable n, counted.
+fn measure_variable(script: &[u8], i: usize, n: u16, value: Size) -> Extent
     requires { i < record_count script.now }
-    ensures { (result.next ≡ i + 1) × (result.records ≡ cond (eqb (number script.now i) n) records 1)
-        × (result.depth ≡ cond (eqb (number script.now i) n) deep 1) }
+    ensures { (result.next ≡ i + 1) × (result.size.records ≡ cond (eqb (number script.now i) n) value.records 1)
+        × (result.size.depth ≡ cond (eqb (number script.now i) n) value.depth 1) }
 {
     let next = i + 1;
-    if is_variable(script, i, n) {
-        return Extent {
-            next,
-            records,
-            depth: deep,
-        };
-    }
-    Extent {
-        next,
-        records: 1,
-        depth: 1,
-    }
+    let size = if is_variable(script, i, n) {
+        value
+    } else {
+        Size {
+            records: 1,
+            depth: 1,
+        }
+    };
+    Extent { next, size }
 }
 
-// The records and the depth of the term at record i with a value of this many records and this depth for its variable n. Nothing
-// is written: the sum may be millions of records, and only a term that is not too big is written.
-pub fn measure(script: &[u8], i: usize, n: u16, records: usize, deep: usize) -> Extent
-    requires { Sizes script.now i n records deep }
-    ensures { (e v : Term) → At script.now i e → records ≡ size v → deep ≡ depth v → Measured i n e v result }
+// The size of the term at record i with a value of this size for its variable n. Nothing is written: the sum may be millions of
+// records, and only a term that is not too big is written.
+pub fn measure(script: &[u8], i: usize, n: u16, value: Size) -> Extent
+    requires { Sizes script.now i n value }
+    ensures { (e v : Term) → At script.now i e → value.records ≡ size v → value.depth ≡ depth v → Measured i n e v result }
 {
-    let k = records::kind(script, i);
-    if k == VARIABLE {
-        return measure_variable(script, i, n, records, deep);
+    let kind = records::kind_of(script, i);
+    if kind == Kind::Variable {
+        return measure_variable(script, i, n, value);
     }
-    let count = records::arity(k);
     let mut next = i + 1;
     let mut sum: usize = 1;
     let mut below: usize = 0;
-    let mut j: usize = 0;
-    while j < count {
-        let level = n + (records::binders(k, j) as u16);
-        let x = measure(script, next, level, records, deep);
+    for j in 0..kind.arity() {
+        let level = n + kind.binders(j) as u16;
+        let x = measure(script, next, level, value);
         next = x.next;
-        sum += x.records;
-        below = larger(below, x.depth);
-        j += 1;
+        sum += x.size.records;
+        below = below.max(x.size.depth);
     }
-    let depth = below + records::weight(script, i);
-    Extent {
-        next,
+    let size = Size {
         records: sum,
-        depth,
-    }
+        depth: below + records::weight(script, i),
+    };
+    Extent { next, size }
 }
 
-// The records and the depth of the term at record i: a value of one record changes neither.
+// The size of the term at record i: a value of one record changes neither count.
 pub fn extent_at(script: &[u8], i: usize) -> Extent
     requires { Within script.now i }
     ensures { (e : Term) → At script.now i e → Extends i e result }
 {
-    measure(script, i, 0, 1, 1)
+    let one = Size {
+        records: 1,
+        depth: 1,
+    };
+    measure(script, i, 0, one)
 }
 
 // Three pieces one after the other, over `to` from `at` on.
@@ -161,21 +155,18 @@ pub fn write(
         → front.now ++ (mid.now ++ back.now) ≡ encode v
         → Written i n e v at to.old result to.new }
 {
-    let k = records::kind(script, i);
-    if k == VARIABLE {
+    let kind = records::kind_of(script, i);
+    if kind == Kind::Variable {
         return write_variable(script, i, front, mid, back, n, to, at);
     }
     memory::copy_part(script, SCRIPT_WIDTH * i, SCRIPT_WIDTH, to, at);
-    let count = records::arity(k);
     let mut next = i + 1;
     let mut end = at + SCRIPT_WIDTH;
-    let mut j: usize = 0;
-    while j < count {
-        let level = n + (records::binders(k, j) as u16);
+    for j in 0..kind.arity() {
+        let level = n + kind.binders(j) as u16;
         let x = write(script, next, front, mid, back, level, to, end);
         next = x.next;
         end = x.end;
-        j += 1;
     }
     Wrote { next, end }
 }

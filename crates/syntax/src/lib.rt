@@ -10,87 +10,68 @@ ghost use Rattle.answer.specs.Said.{said};
 ghost use Rattle.syntax.specs.Check.{shape_check, later_check};
 
 use answer::Checked;
-use records::{Ended, SCRIPT_WIDTH};
+use records::SCRIPT_WIDTH;
 
 // Questions 13, 14 and 17: is the script a whole term?
+#[tactic(auto, using(answer::proofs::Passed::then_asked, answer::proofs::Passed::stopped), unfolding(crate::specs::Check::shape_check))]
 pub fn shape_check(script: &[u8]) -> Checked
     ensures { said result ≡ shape_check script.now }
 {
-    let whole = script::question_13(script);
-    let Checked::Passed = whole else {
+    let whole = script::question_13(script, &[]);
+    let Ok(()) = whole else {
         return whole;
     };
     let right = script::question_14(script);
-    let Checked::Passed = right else {
+    let Ok(()) = right else {
         return right;
     };
     script::question_17(script)
 }
 
 // Questions 14 to 19, in order, with 36 after 15.
+#[tactic(auto, using(answer::proofs::Passed::then_asked, answer::proofs::Passed::stopped), unfolding(crate::specs::Check::later_check))]
 fn later_check(groups: &[u8], types: &[u8], script: &[u8]) -> Checked
     requires { q13 [] script.now ≡ accepted tt }
     ensures { said result ≡ later_check groups.now types.now script.now }
 {
     let a14 = script::question_14(script);
-    let Checked::Passed = a14 else {
+    let Ok(()) = a14 else {
         return a14;
     };
     let a15 = script::question_15(groups, script);
-    let Checked::Passed = a15 else {
+    let Ok(()) = a15 else {
         return a15;
     };
     let a36 = script::question_36(groups, script);
-    let Checked::Passed = a36 else {
+    let Ok(()) = a36 else {
         return a36;
     };
     let a16 = script::question_16(types, script);
-    let Checked::Passed = a16 else {
+    let Ok(()) = a16 else {
         return a16;
     };
     let a17 = script::question_17(script);
-    let Checked::Passed = a17 else {
+    let Ok(()) = a17 else {
         return a17;
     };
     let a18 = scope::question_18(script);
-    let Checked::Passed = a18 else {
+    let Ok(()) = a18 else {
         return a18;
     };
     scope::question_19(script)
 }
 
-// Questions 2 to 19, in order.
-pub fn script_check(groups: &[u8], types: &[u8], script: &[u8]) -> Checked
-    ensures { said result ≡ script_check [] groups.now types.now script.now }
+// Questions 2 to 19, in order. In a run these are the lengths of its two buffers; elsewhere there are none.
+#[tactic(auto, using(answer::proofs::Passed::then_asked, answer::proofs::Passed::stopped, script::proofs::Rooms::alone), unfolding(rules::specs::Calls::script_check, crate::specs::Check::later_check))]
+pub fn script_check(groups: &[u8], types: &[u8], script: &[u8], buffers: &[usize]) -> Checked
+    ensures { said result ≡ script_check buffers.now groups.now types.now script.now }
 {
     let tables = types_table::types_check(groups, types);
-    let Checked::Passed = tables else {
+    let Ok(()) = tables else {
         return tables;
     };
-    let whole = script::question_13(script);
-    let Checked::Passed = whole else {
-        return whole;
-    };
-    later_check(groups, types, script)
-}
-
-// Questions 2 to 19, in order, of a run, whose two buffers have these lengths.
-pub fn script_check_in_run(
-    groups: &[u8],
-    types: &[u8],
-    script: &[u8],
-    first: usize,
-    scratch: usize,
-) -> Checked
-    ensures { said result ≡ script_check (first ∷ scratch ∷ []) groups.now types.now
-        script.now }
-{
-    let tables = types_table::types_check(groups, types);
-    let Checked::Passed = tables else {
-        return tables;
-    };
-    let fits = script::question_13_in_run(script, first, scratch);
-    let Checked::Passed = fits else {
+    let fits = script::question_13(script, buffers);
+    let Ok(()) = fits else {
         return fits;
     };
     later_check(groups, types, script)
@@ -98,15 +79,14 @@ pub fn script_check_in_run(
 
 // The part of the script from its record `index` to the end of that record's last operand; the empty part where question 13,
 // 14 or 17 is answered no or the index is past the end. It has no recursion: 8,192 levels are possible.
+#[tactic(auto, using(records::proofs::Ends::end_inside, crate::proofs::Parts::slice_is, crate::proofs::Parts::shaped), unfolding(rules::specs::Script::subterm, crate::specs::Check::shape_check))]
 pub fn subterm(script: &[u8], index: usize) -> &[u8]
     ensures { result.now ≡ subterm script.now index }
 {
-    let asked = shape_check(script);
-    let Checked::Passed = asked else {
+    let Ok(()) = shape_check(script) else {
         return &script[0..0];
     };
-    let e = records::term_end(script, index);
-    let Ended::Before(end) = e else {
+    let Some(end) = records::term_end(script, index) else {
         return &script[0..0];
     };
     let from = SCRIPT_WIDTH * index;

@@ -1,15 +1,11 @@
 -- The digits of a number, the last one apart.
-use mathlib.Core.Path.{◌≡◌, refl, sym, ap, ◌∙◌}
-use mathlib.Core.Bool.{Bool, true, false}
-use mathlib.Core.List.{[], ◌∷◌, ◌++◌, append_assoc}
-use Prim.Native.Nat.{ℕ, zero, suc, ◌+◌, ◌*◌, ◌/◌, ◌%◌, ◌^◌, ◌≤◌, ◌<◌}
-use native.Mathlib.Nat.{pow-succ'}
-use native.Mathlib.Omega.{arith}
-use lib.Dec.{ltb}
-use lib.ListN.{length, length-append}
-use borrow.Author.Tests.{lt-ltb, le-ltb, ltb-true, ltb-false}
+use Rattle.std.proofs.Common.{◌≡◌, ℕ, zero, suc, ◌+◌, ◌*◌, ◌/◌, ◌%◌, ◌^◌, ◌≤◌, ◌<◌, Bool, true, false, [], ◌∷◌, ◌++◌, length, refl, sym, ap, ◌∙◌, arith, append_assoc, lt-ltb, le-ltb, ltb-true, ltb-false, ltb}
+use Rattle.std.proofs.Math.Nat.{pow-succ'}
 use Rattle.rules.specs.Answer.{Bytes}
 use Rattle.rules.specs.Report.{digits, decimal}
+use Rattle.text.specs.Written.{Room, Written}
+use Rattle.text.specs.declared.Text.{Text}
+use Rattle.text.proofs.Placed.{nothing, then, room_next}
 
 digits_one : (k n : ℕ) (rest : Bytes) → n < 10 → digits (suc k) n rest ≡ (48 + n) ∷ rest
 unfolding digits
@@ -51,7 +47,7 @@ more_room (suc k) n rest l = go (ltb n 10) refl (λ r m. more_room k (n / 10) r 
         let p : 10 ^ suc (suc k) ≡ 10 * 10 ^ suc k = power (suc k) in
         digits_more (suc k) n rest s ∙ ih ((48 + n % 10) ∷ rest) (omega (arith, p)) ∙ sym (digits_more (suc (suc k)) n rest s)
 
-pub decimal_one : (n : ℕ) → n < 10 → decimal n ≡ (48 + n) ∷ []
+decimal_one : (n : ℕ) → n < 10 → decimal n ≡ (48 + n) ∷ []
 unfolding decimal
 decimal_one n l = digits_one 19 n [] l
 
@@ -62,9 +58,31 @@ decimal_more n l f =
     ∙ more_room 18 (n / 10) ((48 + n % 10) ∷ []) (omega arith)
     ∙ digits_append 20 (n / 10) ((48 + n % 10) ∷ [])
 
--- the last digit is one more byte
-pub one_more : (n : ℕ) → 10 ≤ n → n < 2 ^ 64 → length (decimal n) ≡ length (decimal (n / 10)) + 1
-one_more n l f = ap length (decimal_more n l f) ∙ length-append (decimal (n / 10)) ((48 + n % 10) ∷ [])
+-- the digits before the last are written: none, or those of the tenth
+pub record Front (n : ℕ) (x y : Text) : Type 0 where
+  pub front : Bytes
+  pub splits : decimal n ≡ front ++ ((48 + n % 10) ∷ [])
+  pub wrote : Written front x y
+
+module _ (n : ℕ) where
+  pub no_front : {x z : Text} → n < 10 → Room (decimal n) x → z ≡ x → Front n x z
+  no_front {x} l f e =
+      rw e
+      (record {
+        front = [];
+        splits = decimal_one n l ∙ ap (λ (d : ℕ). (48 + d) ∷ []) (omega arith);
+        wrote = nothing x (omega arith);
+      })
+
+  pub tenth_front : {x y z : Text} → 10 ≤ n → n < 2 ^ 64 → Written (decimal (n / 10)) x y → z ≡ y → Front n x z
+  tenth_front l f w e = rw e (record { front = decimal (n / 10); splits = decimal_more n l f; wrote = w })
+
+  -- the last one has room after them, and is the last of the number's
+  pub room_last : {x y : Text} → Front n x y → Room (decimal n) x → Room ((48 + n % 10) ∷ []) y
+  room_last f l = room_next ((48 + n % 10) ∷ []) f.wrote (rw f.splits at l)
+
+  pub with_last : {x y z : Text} → Front n x y → Written ((48 + n % 10) ∷ []) y z → Written (decimal n) x z
+  with_last f w = rw f.splits (then f.wrote w)
 
 digits_length : (k n : ℕ) (rest : Bytes) → length (digits k n rest) ≤ k + length rest
 unfolding digits

@@ -1,52 +1,33 @@
--- Pieces written over a buffer one after the other.
-use mathlib.Core.Path.{◌≡◌, refl, sym, ap, ◌∙◌}
-use mathlib.Core.List.{[], ◌∷◌, ◌++◌}
-use Prim.Native.Nat.{ℕ, zero, suc, ◌+◌, ◌≤◌}
-use native.Mathlib.Omega.{arith}
-use lib.ListN.{length, take, drop, set, length-append}
+-- Pieces written into a buffer one after the other.
+use Rattle.std.proofs.Common.{◌≡◌, [], ◌++◌, length, refl, sym, ap, ◌∙◌, arith, length-append}
 use Rattle.rules.specs.Answer.{Bytes}
-use Rattle.memory.specs.Splice.{splice}
 use Rattle.memory.proofs.Laws.{length_splice, splice_none, join_after}
-use Rattle.text.specs.Written.{Written}
+use Rattle.memory.specs.Splice.{splice}
+use Rattle.text.specs.Written.{Room, Written}
+use Rattle.text.specs.declared.Text.{Text}
 
--- one byte
-store : (at x : ℕ) (w : Bytes) → at + 1 ≤ length w → set w at x ≡ take at w ++ (x ∷ drop (suc at) w)
-store zero x [] l = absurd (omega arith)
-store zero x (a ∷ w) l = refl
-store (suc at) x [] l = absurd (omega arith)
-store (suc at) x (a ∷ w) l = ap (λ (b : Bytes). a ∷ b) (store at x w (omega arith))
+-- nothing
+pub nothing : (x : Text) → Room [] x → Written [] x x
+nothing x l = record { fits = l; ends = omega arith; holds = sym (splice_none x.end x.out.now); same_buffer = refl }
 
-pub put_one : (at x : ℕ) (w : Bytes) → at + 1 ≤ length w → set w at x ≡ splice at (x ∷ []) w
-put_one at x w l = let a : at + 1 ≡ suc at = omega arith in rw a (store at x w l)
-
--- nothing written
-pub nothing : {at : ℕ} {w : Bytes} → Written at [] w at w
-nothing {at} {w} = record { ends = omega arith; holds = sym (splice_none at w) }
+-- what was written keeps the buffer's length
+pub keeps : {b : Bytes} {x y : Text} → Written b x y → length y.out.now ≡ length x.out.now
+keeps {b} {x} w = ap length w.holds ∙ length_splice x.end b x.out.now w.fits
 
 -- a piece after another
-pub then : {at end after : ℕ} {b c w w1 w2 : Bytes} → Written at b w end w1 → Written end c w1 after w2 → at + length b ≤ length w
-    → Written at (b ++ c) w after w2
-then {at} {end} {after} {b} {c} {w} {w1} {w2} x y l =
+pub then : {b c : Bytes} {x y z : Text} → Written b x y → Written c y z → Written (b ++ c) x z
+then {b} {c} {x} {y} {z} v w =
     record {
-      ends = omega (arith, x.ends, y.ends, length-append b c);
-      holds = y.holds ∙ ap (splice end c) x.holds ∙ join_after at end b c w x.ends l;
+      fits = omega (arith, v.ends, w.fits, keeps v, length-append b c);
+      ends = omega (arith, v.ends, w.ends, length-append b c);
+      holds = w.holds ∙ ap (splice y.end c) v.holds ∙ join_after x.end y.end b c x.out.now v.ends v.fits;
+      same_buffer = w.same_buffer ∙ v.same_buffer;
     }
 
--- what was written with room keeps the buffer's length
-pub keeps : {at end : ℕ} {b w w1 : Bytes} → Written at b w end w1 → at + length b ≤ length w → length w1 ≡ length w
-keeps {at} {end} {b} {w} {w1} x l = ap length x.holds ∙ length_splice at b w l
-
 -- room for a piece and what follows it is room for the piece,
-pub room_first : (at : ℕ) (b rest w : Bytes) → at + length (b ++ rest) ≤ length w → at + length b ≤ length w
-room_first at b rest w l = omega (arith, length-append b rest)
+pub room_first : (b rest : Bytes) (x : Text) → Room (b ++ rest) x → Room b x
+room_first b rest x l = omega (arith, length-append b rest)
 
 -- and, once it is written, for the rest
-pub room_next : {at end : ℕ} {b w w1 : Bytes} (rest : Bytes) → Written at b w end w1 → at + length (b ++ rest) ≤ length w → end + length rest ≤ length w1
-room_next {at} {end} {b} {w} {w1} rest x l =
-    let f : at + length b ≤ length w = room_first at b rest w l in
-    omega (arith, length-append b rest, x.ends, keeps x f)
-
--- a piece and what follows it
-pub both : {at end after : ℕ} {b c w w1 w2 : Bytes} → at + length (b ++ c) ≤ length w → Written at b w end w1 → Written end c w1 after w2
-    → Written at (b ++ c) w after w2
-both {at} {end} {after} {b} {c} {w} {w1} {w2} l x y = then x y (room_first at b c w l)
+pub room_next : {b : Bytes} {x y : Text} (rest : Bytes) → Written b x y → Room (b ++ rest) x → Room rest y
+room_next {b} rest w l = omega (arith, length-append b rest, w.ends, keeps w)

@@ -1,57 +1,62 @@
-// Words and numbers, written over a lent buffer from an offset on. Each function answers the offset after its piece, so that
-// one goes on where another ended.
+// A text that is written into a lent buffer, piece after piece.
 
 #![tactic(auto)]
 
-ghost use Rattle.std.specs.Prelude.{◌≡◌, [], ◌∷◌, ◌+◌, ◌≤◌, length};
+ghost use Rattle.std.specs.Prelude.{◌≡◌, ◌≤◌, length, take};
 ghost use Rattle.rules.specs.Limits.{words_length};
 ghost use Rattle.rules.specs.Words.{word};
 ghost use Rattle.rules.specs.Report.{decimal};
-ghost use Rattle.text.specs.Written.{Written};
+ghost use Rattle.text.specs.Written.{Room, Written};
 
 use words::{WORD_LIMIT, WORD_WIDTH};
 
-// Bytes as they are: a fixed byte string of the text.
-pub fn put(bytes: &[u8], out: &mut [u8], at: usize) -> usize
-    requires { at + length bytes.now ≤ length out.old }
-    ensures { Written at bytes.now out.old result out.new }
-{
-    memory::copy(bytes, bytes.len(), out, at);
-    at + bytes.len()
+// The buffer, and the byte of it after the text so far: each piece goes there.
+#[derive(Drop)]
+pub struct Text<'a> {
+    pub out: &'a mut [u8],
+    pub end: usize,
 }
 
-// One digit.
-fn digit(n: u64, out: &mut [u8], at: usize) -> usize
-    requires { (n ≤ 9) × (at + 1 ≤ length out.old) }
-    ensures { Written at ((48 + n) ∷ []) out.old result out.new }
-{
-    out[at] = 48 + (n as u8);
-    at + 1
-}
-
-// A number in decimal: the digits before the last, and the last. A number of 64 bits has 20 at most.
-pub fn decimal(n: u64, out: &mut [u8], at: usize) -> usize
-    requires { at + length (decimal n) ≤ length out.old }
-    ensures { Written at (decimal n) out.old result out.new }
-{
-    if n < 10 {
-        return digit(n, out, at);
+impl<'a> Text<'a> {
+    // Bytes as they are: a fixed byte string of the text.
+    pub fn put(&mut self, bytes: &[u8])
+        requires { Room bytes.now self.old }
+        ensures { Written bytes.now self.old self.new }
+    {
+        memory::copy(bytes, bytes.len(), self.out, self.end);
+        self.end += bytes.len();
     }
-    let last = decimal(n / 10, out, at);
-    digit(n % 10, out, last)
-}
 
-// The letters of a sheet record's word, by the table's record of its kind. They are put into the buffer that the report program
-// writes, and not written one by one: what a program writes is in no contract, and what a buffer holds is.
-pub fn word(words: &[u8], kind: u8, out: &mut [u8], at: usize) -> usize
-    requires { (length words.now ≡ words_length) × (at + length (word words.now kind) ≤ length out.old) }
-    ensures { Written at (word words.now kind) out.old result out.new }
-{
-    let i = kind as usize;
-    if WORD_LIMIT <= i {
-        return at;
+    // A number in decimal: the digits before the last, and the last. A number of 64 bits has 20 at most.
+    pub fn decimal(&mut self, n: u64)
+        requires { Room (decimal n) self.old }
+        ensures { Written (decimal n) self.old self.new }
+    {
+        if 10 <= n {
+            self.decimal(n / 10);
+        }
+        self.put(&[b'0' + (n % 10) as u8]);
     }
-    let n = words::letters(words, i);
-    memory::copy_part(words, WORD_WIDTH * i, n, out, at);
-    at + n
+
+    // The letters of a sheet record's word, by the table's record of its kind. They are put into the buffer that the report program
+    // writes, and not written one by one: what a program writes is in no contract, and what a buffer holds is.
+    pub fn word(&mut self, words: &[u8], kind: u8)
+        requires { (length words.now ≡ words_length) × Room (word words.now kind) self.old }
+        ensures { Written (word words.now kind) self.old self.new }
+    {
+        let i = usize::from(kind);
+        if i < WORD_LIMIT {
+            let start = WORD_WIDTH * i;
+            let n = words::letters(words, i);
+            self.put(&words[start..start + n]);
+        }
+    }
+
+    // The text so far, from the buffer's front.
+    pub fn written(&self) -> &[u8]
+        requires { self.now.end ≤ length self.now.out.now }
+        ensures { result.now ≡ take self.now.end self.now.out.now }
+    {
+        &self.out[..self.end]
+    }
 }

@@ -1,11 +1,7 @@
 -- The record count of one type, by a pass with a pending count.
-use mathlib.Core.Path.{◌≡◌, ap, sym, ◌∙◌}
-use mathlib.Core.Bool.{Bool, true, false, cond}
-use mathlib.Core.Option.{Option, some}
-use Prim.Native.Nat.{ℕ, ◌-◌, ◌≤◌, ◌<◌}
-use native.Mathlib.Omega.{arith}
-use native.Mathlib.Decide.{dec_lt}
-use lib.Dec.{eqb}
+use Rattle.std.proofs.Common.{◌≡◌, ap, sym, ◌∙◌, Bool, true, false, cond, ℕ, ◌-◌, ◌≤◌, ◌<◌, arith, eqb}
+use Rattle.std.proofs.Math.Decide.{dec_lt}
+use Rattle.std.proofs.Math.Option.{Option, some}
 use Rattle.calculus.specs.Types.{Ty, size_t}
 use Rattle.rules.specs.Answer.{Bytes}
 use Rattle.rules.specs.Types.{type_count, type_kind, sides, end_after, type_end}

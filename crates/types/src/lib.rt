@@ -7,6 +7,7 @@ ghost use Rattle.calculus.specs.Types.{Ty, top, raise_t, size_t};
 ghost use Rattle.rules.specs.Groups.{properties_of};
 ghost use Rattle.rules.specs.Types.{type_count, type_kind, type_r, sides, encode_type};
 ghost use Rattle.lattice.specs.Said.{said_property, said_influence};
+ghost use Rattle.types.specs.Kinds.{kind_number, Names, KindIs};
 ghost use Rattle.types.specs.Held.{Held, Starts, Sided, Counted, kind_of, left_of, right_of, type_property, with_property};
 
 use lattice::{Creator, Indirect, IndirectCreator, Influence, Property, Reader};
@@ -26,13 +27,42 @@ pub const IC: usize = 5;
 
 pub const TYPE_LIMIT: usize = 63;
 
-pub const UNIT: u8 = 0;
+// The kinds of types, in the order of their numbers.
+#[derive(Clone, Copy, Debug, PartialEq, Eq)]
+pub enum Kind {
+    Unit,
+    Sum,
+    Pair,
+    Function,
+}
 
-pub const SUM: u8 = 1;
+// A number that no kind has.
+#[derive(Clone, Copy, Debug, PartialEq, Eq)]
+pub struct UnknownKind(pub u8);
 
-pub const PAIR: u8 = 2;
+impl TryFrom<u8> for Kind {
+    type Error = UnknownKind;
 
-pub const FUNCTION: u8 = 3;
+    ghost try_from_gives = { Names };
+
+    fn try_from(n: u8) -> Result<Self, UnknownKind> {
+        match n {
+            0 => Ok(Kind::Unit),
+            1 => Ok(Kind::Sum),
+            2 => Ok(Kind::Pair),
+            3 => Ok(Kind::Function),
+            _ => Err(UnknownKind(n)),
+        }
+    }
+}
+
+impl Kind {
+    pub fn number(self) -> u8
+        ensures { result ≡ kind_number self }
+    {
+        self as u8
+    }
+}
 
 // How many whole records a types table has.
 pub fn type_count(types: &[u8]) -> usize
@@ -41,14 +71,23 @@ pub fn type_count(types: &[u8]) -> usize
     types.len() / TYPE_WIDTH
 }
 
-// The fields of record i.
-pub fn kind_at(types: &[u8], i: usize) -> u8
+// The number that record i has for its kind, be it that of a kind or not.
+pub fn kind_number_at(types: &[u8], i: usize) -> u8
     requires { i < type_count types.now }
     ensures { result ≡ type_kind types.now i }
 {
     types[TYPE_WIDTH * i]
 }
 
+// The kind of record i, if there is a kind of its number.
+pub fn kind_at(types: &[u8], i: usize) -> Option<Kind>
+    requires { i < type_count types.now }
+    ensures { KindIs (type_kind types.now i) result }
+{
+    Kind::try_from(kind_number_at(types, i)).ok()
+}
+
+// The fields of record i.
 pub fn reader_at(types: &[u8], i: usize) -> Reader
     requires { i < type_count types.now }
     ensures { result.0 ≡ type_r types.now i }
@@ -78,11 +117,15 @@ pub fn put_property(types: &mut [u8], i: usize, property: Property)
     types[TYPE_WIDTH * i + IC] = property.ic.0;
 }
 
-// How many sides a kind is followed by.
-fn sides(kind: u8) -> usize
-    ensures { result ≡ sides kind }
+// How many sides record i is followed by: none if it is a unit.
+fn sides_at(types: &[u8], i: usize) -> usize
+    requires { i < type_count types.now }
+    ensures { result ≡ sides (type_kind types.now i) }
 {
-    if kind == UNIT { 0 } else { 2 }
+    match kind_at(types, i) {
+        Some(Kind::Unit) => 0,
+        _ => 2,
+    }
 }
 
 // How many sides are still to come after record i, where `pending` are before it. An outermost type is awaited by none.
@@ -90,7 +133,7 @@ pub fn pending_after(types: &[u8], i: usize, pending: usize) -> usize
     requires { (i < type_count types.now) × (pending ≤ i + 1) }
     ensures { result ≡ (pending - 1) + sides (type_kind types.now i) }
 {
-    let more = sides(kind_at(types, i));
+    let more = sides_at(types, i);
     if pending == 0 {
         return more;
     }
@@ -98,11 +141,11 @@ pub fn pending_after(types: &[u8], i: usize, pending: usize) -> usize
 }
 
 // The first record of the type that s starts with.
-pub fn kind(s: &[u8]) -> u8
+pub fn kind_of(s: &[u8]) -> Kind
     requires { Starts s.now }
-    ensures { (t : Ty) → Held s.now t → result ≡ kind_of t }
+    ensures { (t : Ty) → Held s.now t → kind_number result ≡ kind_of t }
 {
-    kind_at(s, 0)
+    kind_at(s, 0).unwrap()
 }
 
 pub fn reader(s: &[u8]) -> Reader

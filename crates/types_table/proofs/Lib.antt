@@ -1,3 +1,4 @@
 pub mod Pass
 pub mod Questions
 pub mod Table
+pub mod Fields

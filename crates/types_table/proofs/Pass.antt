@@ -1,17 +1,14 @@
 -- One pass over a types table with a pending count: questions 11 and 12.
-use mathlib.Core.Path.{◌≡◌, refl, ap, sym, ◌∙◌}
-use mathlib.Core.Bool.{Bool, true, false, cond, ◌&&◌, and-eq-true_iff}
-use mathlib.Core.Option.{none, some}
-use Prim.Native.Nat.{ℕ, ◌+◌, ◌-◌, ◌≤◌, ◌<◌}
-use native.Mathlib.Numerals.{add-one}
-use native.Mathlib.Omega.{arith}
-use native.Mathlib.Decide.{ℕ_discrete, dec_lt}
-use borrow.Author.Tests.{eqb-true, ltb-true, ltb-false, eq-eqb, ne_eqb, le-leb, lt-leb}
-use lib.Dec.{eqb, ltb}
+use Rattle.std.proofs.Common.{◌≡◌, ℕ, ◌+◌, ◌-◌, ◌≤◌, ◌<◌, Bool, true, false, cond, ◌&&◌, eqb, ltb}
+use Rattle.std.proofs.Common.{refl, ap, sym, ◌∙◌, arith, add-one, eqb-true, ltb-true, ltb-false, eq-eqb, ne_eqb, le-leb}
+use borrow.Author.Tests.{lt-leb}
+use Rattle.std.proofs.Math.Bool.{and-eq-true_iff}
+use Rattle.std.proofs.Math.Decide.{ℕ_discrete, dec_lt}
+use Rattle.std.proofs.Math.Option.{none, some}
 use Rattle.calculus.specs.Types.{type_limit}
-use Rattle.rules.specs.Answer.{Bytes, each, refused}
+use Rattle.rules.specs.Answer.{Bytes, ask, each, refused}
 use Rattle.rules.specs.Types.{type_count, type_kind, type_end, pending, ok11, ok12}
-use Rattle.rules.proofs.Search.{each_refused}
+use Rattle.rules.proofs.Search.{each_accepted, each_refused}
 use Rattle.rules.proofs.PrefixLaws.{next_record, runs_out, comes_to_end}
 use Rattle.types.proofs.Counting.{ops, walk, at_most_two}
 
@@ -133,13 +130,21 @@ module _ (t : Bytes) where
   unfolding ok11
   ends_11 start p i w e = rw (eq-eqb (pending t start) 0 w.outer, ended (ok11 t) t start p i w e)
 
-  pub refused_11 : (start p i : ℕ) → Passing (ok11 t) t start p i → 0 < p → type_count t ≤ i → i ≤ type_count t
-      → each 11 (type_count t) (ok11 t) ≡ refused 11 start
+  -- what is answered after the last record
+  pub asked_11 : (start p i : ℕ) → Passing (ok11 t) t start p i → type_count t ≤ i → i ≤ type_count t
+      → ask 11 start (eqb p 0) ≡ each 11 (type_count t) (ok11 t)
   unfolding ok11
-  refused_11 start p i h q l m =
-      let w = h.within q in
-      each_refused 11 (type_count t) (ok11 t) start (omega (arith, w.started)) w.before
-      (rw (eq-eqb (pending t start) 0 w.outer, unended (ok11 t) t start p i w q l))
+  asked_11 start p i h l m = by (ℕ_discrete p 0)
+    where
+      by : Dec (p ≡ 0) → ask 11 start (eqb p 0) ≡ each 11 (type_count t) (ok11 t)
+      by (yes e) = rw (eq-eqb p 0 e) (sym (each_accepted 11 (type_count t) (ok11 t) (λ k b. h.passed e k (omega arith))))
+      by (no n) =
+          let q : 0 < p = omega arith in
+          let w = h.within q in
+          rw (ne_eqb p 0 n)
+          (sym
+          (each_refused 11 (type_count t) (ok11 t) start (omega (arith, w.started)) w.before
+          (rw (eq-eqb (pending t start) 0 w.outer, unended (ok11 t) t start p i w q l))))
 
   -- Question 12.
   pub skips_12 : Skips (ok12 t) t

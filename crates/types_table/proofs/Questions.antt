@@ -1,26 +1,20 @@
 -- Questions 8 to 12, with 36 after 10, and 25 one after another.
-use mathlib.Core.Path.{◌≡◌, refl, ap, ◌∙◌}
-use mathlib.Core.Bool.{Bool, true, false, cond}
-use Prim.Native.Nat.{ℕ, ◌≤◌, ◌<◌}
-use native.Mathlib.Omega.{arith}
-use borrow.Author.Tests.{lt-ltb, le-ltb}
+use Rattle.std.proofs.Common.{◌≡◌, refl, ap, sym, ◌∙◌, ltb-true, ℕ, ◌<◌, ltb, Bool, true, false, cond, Some, None, Result, Err, IsErrAnd}
+use Rattle.std.proofs.lemmas.Result.{err_from_is_err_and}
 use Rattle.calculus.specs.Security.{Security}
 use Rattle.calculus.specs.Types.{Ty, size_t}
 use Rattle.calculus.specs.Subtyping.{subtype}
 use Rattle.calculus.specs.Subtyping as directions
-use Rattle.rules.specs.Answer.{Bytes, Answer, accepted, refused, ◌>>◌, first_from}
-use Rattle.rules.specs.Groups.{join, properties_of}
-use Rattle.rules.specs.Types.{type_count, type_at, ok9, ok10, ok36_type, ok11, ok12, q8, q9, q10, q36_types, q11, q12}
+use Rattle.rules.specs.Answer.{Bytes, Answer, ask, accepted, ◌>>◌, first_from}
+use Rattle.rules.specs.Types.{ok9, ok10, ok36_type, ok11, ok12, q8, q9, q10, q36_types, q11, q12}
 use Rattle.rules.specs.Comparison.{equal_types, Comparison, same, below, neither, comparison}
-use Rattle.rules.specs.Calls.{groups_check, types_check, q25, comparing}
-use Rattle.answer.specs.declared.Checked.{Checked}
-use Rattle.answer.specs.declared.Checked.TheVariants.{Passed, Refused}
-use Rattle.answer.specs.Said.{said}
-use Rattle.subtyping.specs.declared.Compared.TheVariants.{Related, Neither}
+use Rattle.rules.specs.Calls.{groups_check, types_check}
 use Rattle.subtyping.specs.Compared.{compared}
-use Rattle.answer.proofs.Passed.{No}
-use Rattle.types_table.specs.Answered.{answered, told, refusal}
-use Rattle.rules.proofs.Asked.{and_then}
+use Rattle.answer.specs.declared.Refusal.{Refusal}
+use Rattle.answer.specs.Said.{said}
+use Rattle.types_table.specs.declared.Comparison as declared
+use Rattle.types_table.specs.Answered.{said_comparison, answered, told}
+use Rattle.rules.proofs.Asked.{ask_true, and_then}
 
 -- what is left to ask from a question on
 abbrev pub from_11 : Bytes → Answer (Unit {0})
@@ -48,10 +42,6 @@ from_8 g t = do
   q8 t
   from_9 g t
 
--- after a yes, the answer to what is left
-pub past : {A : Type 0} (a : Answer (Unit {0})) (b : Answer A) {o : Answer A} → a ≡ accepted tt → o ≡ b → o ≡ ◌>>◌ a b
-past a b p e = rw p e
-
 pub types_check_is : (g t : Bytes) → ◌>>◌ (groups_check g) (from_8 g t) ≡ types_check g t
 unfolding types_check groups_check first_from ok9 ok10 ok36_type ok11 ok12
 types_check_is g t = refl
@@ -75,43 +65,26 @@ all_yes g t e =
     let h = and_then (q11 t) (q12 t) f.1 in
     record { to_7 = a.0; to_8 = b.0; to_9 = c.0; to_10 = d.0; to_36 = f.0; to_11 = h.0; to_12 = h.1 }
 
--- The comparison after question 12.
-abbrev pub found : Bytes → Bytes → ℕ → ℕ → Answer Comparison
-found g t i j = accepted (comparison (properties_of g) (type_at t i) (type_at t j))
+-- a refusal is the comparison's
+pub refused_by : (a : Answer (Unit {0})) (b : Answer Comparison) (e : Refusal) → said {A = Unit {0}} (Err e) ≡ a → answered (Err e) ≡ ◌>>◌ a b
+refused_by a b e h = ap (λ (o : Answer (Unit {0})). ◌>>◌ o b) h
 
-abbrev pub second_index : Bytes → Bytes → ℕ → ℕ → Answer Comparison
-second_index g t i j = do
-  q25 1 j (type_count t)
-  found g t i j
+pub passed_on : (r : Result declared.Comparison Refusal) (e : Refusal) → IsErrAnd r (λ x. x ≡ e) → answered r ≡ answered (Err e)
+passed_on r e h = let p = err_from_is_err_and r h in ap answered (p.1 ∙ ap Err p.2)
 
-abbrev pub from_25 : Bytes → Bytes → ℕ → ℕ → Answer Comparison
-from_25 g t i j = do
-  q25 0 i (type_count t)
-  second_index g t i j
+-- question 25 of a count that the code has read
+pub counted : {o : Answer (Unit {0})} {n m : ℕ} (place i : ℕ) → n ≡ m → o ≡ ask 25 place (ltb i n) → o ≡ ask 25 place (ltb i m)
+counted place i e h = h ∙ ap (λ n. ask 25 place (ltb i n)) e
 
-pub comparing_is : (g t : Bytes) (i j : ℕ) → ◌>>◌ (types_check g t) (from_25 g t i j) ≡ comparing g t i j
-unfolding comparing types_check subtype equal_types type_at join
-comparing_is g t i j = refl
+-- the index of a yes
+pub inside : (place i n : ℕ) → accepted tt ≡ ask 25 place (ltb i n) → i < n
+inside place i n e = ltb-true i n (ask_true 25 place (ltb i n) (sym e))
 
 -- what the walk found is the comparison
-told_cases : (b c : Bool) (n : ℕ) → answered (told (cond b (Related c n) Neither)) ≡ accepted (cond b (cond c same below) neither)
+told_cases : (b c : Bool) (n : ℕ) → said_comparison (told (cond b (Some (record { same = c; records = n })) None)) ≡ cond b (cond c same below) neither
 told_cases true true n = refl
 told_cases true false n = refl
 told_cases false c n = refl
 
-pub told_is : (S : Security) (s t : Ty) → answered (told (compared S directions.below s t)) ≡ accepted (comparison S s t)
+pub told_is : (S : Security) (s t : Ty) → said_comparison (told (compared S directions.below s t)) ≡ comparison S s t
 told_is S s t = told_cases (subtype S directions.below s t) (equal_types s t) (size_t s)
-
--- a refusal of the tables is the call's
-pub refused_on : (x : Checked) (a : Answer (Unit {0})) (b : Answer Comparison) → No x → said x ≡ a → answered (refusal x) ≡ ◌>>◌ a b
-refused_on Passed a b k e = absurd (omega arith)
-refused_on (Refused q p) a b k e = ap (λ (o : Answer (Unit {0})). ◌>>◌ o b) e
-
-pub first_outside : (n i : ℕ) (b : Answer Comparison) → n ≤ i → refused 25 0 ≡ ◌>>◌ (q25 0 i n) b
-first_outside n i b l = rw (le-ltb i n l)
-
-pub second_outside : (n i j : ℕ) (b : Answer Comparison) → i < n → n ≤ j → refused 25 1 ≡ ◌>>◌ (q25 0 i n) (◌>>◌ (q25 1 j n) b)
-second_outside n i j b k l = rw (lt-ltb i n k, le-ltb j n l)
-
-pub both_inside : (n i j : ℕ) (b : Answer Comparison) → i < n → j < n → b ≡ ◌>>◌ (q25 0 i n) (◌>>◌ (q25 1 j n) b)
-both_inside n i j b k l = rw (lt-ltb i n k, lt-ltb j n l)

@@ -1,7 +1,5 @@
 -- A types table that passes holds a type at each of its records, and none has more than 63 records.
-use mathlib.Core.Path.{◌≡◌}
-use Prim.Native.Nat.{ℕ, ◌*◌, ◌≤◌, ◌<◌}
-use lib.ListN.{drop}
+use Rattle.std.proofs.Common.{◌≡◌, ℕ, ◌*◌, ◌≤◌, ◌<◌, drop}
 use Rattle.calculus.specs.Types.{size_t, type_limit}
 use Rattle.rules.specs.Answer.{Bytes, accepted}
 use Rattle.rules.specs.Limits.{type_width}

@@ -1,12 +1,6 @@
 -- A script that has passed questions 2 to 19 is ready for typing.
-use mathlib.Core.Path.{◌≡◌, refl, sym, subst}
-use mathlib.Core.Bool.{false, ◌||◌, So}
-use mathlib.Core.List.{[]}
-use Prim.Native.Nat.{ℕ, suc, ◌≤◌, ◌<◌}
-use native.Mathlib.Omega.{arith}
-use borrow.Author.Tests.{ltb-true}
-use lib.Dec.{ltb}
-use lib.ListN.{length, length-drop}
+use Rattle.std.proofs.Common.{◌≡◌, refl, sym, subst, false, ◌||◌, [], ℕ, suc, ◌≤◌, ◌<◌, arith, ltb-true, ltb, length, length-drop}
+use Rattle.std.proofs.Math.Bool.{So}
 use Rattle.calculus.specs.Typing.{finds_own}
 use Rattle.calculus.specs.Terms.{Term, var, unit, lam, pair, inj, app, proj, case, protect, mu}
 use Rattle.rules.specs.Limits.{work_length}

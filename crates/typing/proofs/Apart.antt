@@ -1,8 +1,5 @@
 -- The rules of `typing`, taken apart at the operands.
-use mathlib.Core.Path.{◌≡◌, refl, ap}
-use mathlib.Core.List.{List, ◌∷◌}
-use Prim.Native.Nat.{ℕ, ◌+◌, ◌≤◌}
-use native.Mathlib.Omega.{arith}
+use Rattle.std.proofs.Common.{◌≡◌, refl, ap, List, ◌∷◌, ℕ, ◌+◌, ◌≤◌, arith}
 use Rattle.calculus.specs.Security.{Security}
 use Rattle.calculus.specs.Types.{sum, product, function, Ty, top}
 use Rattle.calculus.specs.Terms.{first, second, Term, var, unit, lam, pair, inj, app, proj, case, protect, mu}
@@ -37,14 +34,7 @@ module _ (S : Security) (tab : ℕ → Ty) (Γ : List Ty) (p : ℕ) where
   unfolding operand_count typing leaf_type
   typing_leaf (var n) o = refl
   typing_leaf (unit k) o = refl
-  typing_leaf (lam k i e) o = absurd (omega arith)
-  typing_leaf (pair k a b) o = absurd (omega arith)
-  typing_leaf (inj d k i e) o = absurd (omega arith)
-  typing_leaf (app w f a) o = absurd (omega arith)
-  typing_leaf (proj d w e) o = absurd (omega arith)
-  typing_leaf (case w i e a b) o = absurd (omega arith)
-  typing_leaf (protect m e) o = absurd (omega arith)
-  typing_leaf (mu w i e) o = absurd (omega arith)
+  typing_leaf e o = absurd (omega arith)
 
   -- a recursion's questions come before its body
   recursion_typed : (w i : ℕ) (e : Term)
@@ -56,16 +46,8 @@ module _ (S : Security) (tab : ℕ → Ty) (Γ : List Ty) (p : ℕ) where
   -- one of them answered no
   pub stops_before : (e : Term) (q x : ℕ) → before_first S tab p e ≡ refused q x → typing S tab Γ p e ≡ refused q x
   unfolding before_first typing
-  stops_before (var n) q x h = let z : ◌≡◌ {A = ℕ} 0 1 = cc in absurd (omega arith)
-  stops_before (unit k) q x h = let z : ◌≡◌ {A = ℕ} 0 1 = cc in absurd (omega arith)
-  stops_before (lam k i e) q x h = let z : ◌≡◌ {A = ℕ} 0 1 = cc in absurd (omega arith)
-  stops_before (pair k a b) q x h = let z : ◌≡◌ {A = ℕ} 0 1 = cc in absurd (omega arith)
-  stops_before (inj d k i e) q x h = let z : ◌≡◌ {A = ℕ} 0 1 = cc in absurd (omega arith)
-  stops_before (app w f a) q x h = let z : ◌≡◌ {A = ℕ} 0 1 = cc in absurd (omega arith)
-  stops_before (proj d w e) q x h = let z : ◌≡◌ {A = ℕ} 0 1 = cc in absurd (omega arith)
-  stops_before (case w i e a b) q x h = let z : ◌≡◌ {A = ℕ} 0 1 = cc in absurd (omega arith)
-  stops_before (protect m e) q x h = let z : ◌≡◌ {A = ℕ} 0 1 = cc in absurd (omega arith)
   stops_before (mu w i e) q x h = rw (recursion_typed w i e, h)
+  stops_before e q x h = let z : ◌≡◌ {A = ℕ} 0 1 = cc in absurd (omega arith)
 
   -- the first operand refused
   pub stops_first : (e : Term) (q x : ℕ) → 1 ≤ operand_count e → before_first S tab p e ≡ accepted tt
@@ -73,61 +55,38 @@ module _ (S : Security) (tab : ℕ → Ty) (Γ : List Ty) (p : ℕ) where
   unfolding operand_count before_first first_context typing
   stops_first (var n) q x o a h = absurd (omega arith)
   stops_first (unit k) q x o a h = absurd (omega arith)
-  stops_first (lam k i e) q x o a h = rw h
-  stops_first (pair k a b) q x o y h = rw h
-  stops_first (inj d k i e) q x o a h = rw h
-  stops_first (app w f a) q x o y h = rw h
-  stops_first (proj d w e) q x o a h = rw h
-  stops_first (case w i e a b) q x o y h = rw h
-  stops_first (protect m e) q x o a h = rw h
   stops_first (mu w i e) q x o a h = rw (recursion_typed w i e, a, h)
+  stops_first e q x o a h = rw h
 
   -- the one operand typed
   pub one_typed : (e : Term) (t : Ty) → operand_count e ≡ 1 → before_first S tab p e ≡ accepted tt
       → typing S tab (first_context tab Γ e) (1 + p) (first_operand e) ≡ accepted t → typing S tab Γ p e ≡ after_one S tab p e t
   unfolding operand_count before_first first_context typing after_one
-  one_typed (var n) t o a h = absurd (omega arith)
-  one_typed (unit k) t o a h = absurd (omega arith)
   one_typed (lam k i e) t o a h = rw h
-  one_typed (pair k a b) t o y h = absurd (omega arith)
   one_typed (inj first k i e) t o a h = rw h
   one_typed (inj second k i e) t o a h = rw h
-  one_typed (app w f a) t o y h = absurd (omega arith)
   one_typed (proj first w e) t o a h = rw h (then_assoc (q20 p product t) (q21 S p t w) (accepted (reads S t w (left t))))
   one_typed (proj second w e) t o a h = rw h (then_assoc (q20 p product t) (q21 S p t w) (accepted (reads S t w (right t))))
-  one_typed (case w i e a b) t o y h = absurd (omega arith)
   one_typed (protect m e) t o a h = rw h
   one_typed (mu w i e) t o a h = rw (recursion_typed w i e, a, h)
+  one_typed e t o a h = absurd (omega arith)
 
   -- the first of several typed
   pub first_typed : (e : Term) (s : Ty) → 2 ≤ operand_count e → typing S tab (first_context tab Γ e) (1 + p) (first_operand e) ≡ accepted s
       → typing S tab Γ p e
       ≡ then (between S p e s) (bind (typing S tab (second_context Γ e s) (1 + p + size (first_operand e)) (second_operand e)) (after_second S tab Γ p e s))
   unfolding operand_count first_context typing between second_context after_second after_two
-  first_typed (var n) s o h = absurd (omega arith)
-  first_typed (unit k) s o h = absurd (omega arith)
-  first_typed (lam k i e) s o h = absurd (omega arith)
   first_typed (pair k a b) s o h = rw h
-  first_typed (inj d k i e) s o h = absurd (omega arith)
   first_typed (app w f a) s o h = rw h (then_assoc (q20 p function s) (q21 S p s w) (bind (typing S tab Γ (1 + p + size f) a) (after_second S tab Γ p (app w f a) s)))
-  first_typed (proj d w e) s o h = absurd (omega arith)
   first_typed (case w i e a b) s o h =
       rw h (then_assoc (q20 p sum s) (q21 S p s w) (bind (typing S tab (left s ∷ Γ) (1 + p + size e) a) (after_second S tab Γ p (case w i e a b) s)))
-  first_typed (protect m e) s o h = absurd (omega arith)
-  first_typed (mu w i e) s o h = absurd (omega arith)
+  first_typed e s o h = absurd (omega arith)
 
   pub second_typed : (e : Term) (s t : Ty) → operand_count e ≡ 2 → after_second S tab Γ p e s t ≡ after_two S p e s t
   unfolding operand_count after_second
-  second_typed (var n) s t o = absurd (omega arith)
-  second_typed (unit k) s t o = absurd (omega arith)
-  second_typed (lam k i e) s t o = absurd (omega arith)
   second_typed (pair k a b) s t o = refl
-  second_typed (inj d k i e) s t o = absurd (omega arith)
   second_typed (app w f a) s t o = refl
-  second_typed (proj d w e) s t o = absurd (omega arith)
-  second_typed (case w i e a b) s t o = absurd (omega arith)
-  second_typed (protect m e) s t o = absurd (omega arith)
-  second_typed (mu w i e) s t o = absurd (omega arith)
+  second_typed e s t o = absurd (omega arith)
 
   pub branch_typed : {e : Term} {w i : ℕ} {x y z : Term} (s t : Ty) → e ≡ case w i x y z
       → after_second S tab Γ p e s t

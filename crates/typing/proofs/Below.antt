@@ -1,14 +1,10 @@
 -- A node's operands: where they stand, how large and deep they are, how they are formed, and what room is left for them.
-use mathlib.Core.Path.{◌≡◌, refl, sym, ap, ◌∙◌}
-use mathlib.Core.Bool.{Bool, true, false, cond}
-use mathlib.Core.List.{List, [], ◌∷◌, ◌++◌, append-nil}
-use Prim.Native.Nat.{ℕ, suc, ◌+◌, ◌*◌, ◌≤◌, max}
-use native.Mathlib.Omega.{arith}
-use lib.ListN.{length, drop}
+use Rattle.std.proofs.Common.{◌≡◌, refl, sym, ap, ◌∙◌, Bool, true, false, cond, List, [], ◌∷◌, ◌++◌, append-nil, ℕ, suc, ◌+◌, ◌*◌, ◌≤◌, max, arith, length, drop}
 use Rattle.calculus.specs.Types.{Ty}
 use Rattle.calculus.specs.Typing.{finds_own}
 use Rattle.calculus.specs.Terms.{first, second, Term, var, unit, lam, pair, inj, app, proj, case, protect, mu}
-use Rattle.inference.proofs.Shapes.{kind_case, Several, is_pair, is_app, is_case, several}
+use Rattle.records.specs.Kinds as kinds
+use Rattle.inference.proofs.Shapes.{Several, is_pair, is_app, is_case, several}
 use Rattle.rules.specs.Limits.{answer_length, script_width}
 use Rattle.rules.specs.Answer.{Bytes}
 use Rattle.rules.specs.Script.{kind, encode, size, depth}
@@ -114,14 +110,8 @@ pub first_smaller : (e : Term) → 1 ≤ operand_count e → Smaller e (first_op
 unfolding operand_count size depth
 first_smaller (var n) o = absurd (omega arith)
 first_smaller (unit k) o = absurd (omega arith)
-first_smaller (lam k i e) o = record { deeper = omega arith; larger = omega arith }
-first_smaller (pair k a b) o = record { deeper = omega arith; larger = omega arith }
-first_smaller (inj d k i e) o = record { deeper = omega arith; larger = omega arith }
-first_smaller (app w f a) o = record { deeper = omega arith; larger = omega arith }
-first_smaller (proj d w e) o = record { deeper = omega arith; larger = omega arith }
 first_smaller (case w i e a b) o = record { deeper = omega (arith, (weights (case w i e a b)).0); larger = omega arith }
-first_smaller (protect m e) o = record { deeper = omega arith; larger = omega arith }
-first_smaller (mu w i e) o = record { deeper = omega arith; larger = omega arith }
+first_smaller e o = record { deeper = omega arith; larger = omega arith }
 
 pub second_smaller : {e : Term} → Several e → Smaller e (second_operand e) (size (first_operand e))
 unfolding size depth
@@ -161,16 +151,8 @@ third_formed t b is_three f = f.1.1.1
 -- A level's slot is spent once: on a binder, or in front.
 pub first_room : (tab : ℕ → Ty) (Γ : List Ty) (e : Term) → kept_front e + answer_length * length (first_context tab Γ e) ≤ answer_length * (length Γ + 1)
 unfolding kept_front first_context
-first_room tab Γ (var n) = omega arith
-first_room tab Γ (unit k) = omega arith
 first_room tab Γ (lam k i e) = omega arith
-first_room tab Γ (pair k a b) = omega arith
-first_room tab Γ (inj d k i e) = omega arith
-first_room tab Γ (app w x y) = omega arith
-first_room tab Γ (proj d w e) = omega arith
-first_room tab Γ (case w i e a b) = omega arith
-first_room tab Γ (protect m e) = omega arith
-first_room tab Γ (mu w i e) = omega arith
+first_room tab Γ e = omega arith
 
 pub second_room : (Γ : List Ty) (u : Ty) {e : Term} → Several e → kept_between (operand_count e) + answer_length * length (second_context Γ e u) ≤ answer_length * (length Γ + 1)
 unfolding operand_count second_context
@@ -197,35 +179,20 @@ several_front is_case = refl
 pub at_most_three : (e : Term) → operand_count e ≤ 3
 unfolding operand_count
 at_most_three (var n) = omega arith
-at_most_three (unit k) = omega arith
-at_most_three (lam k i e) = omega arith
-at_most_three (pair k a b) = omega arith
-at_most_three (inj d k i e) = omega arith
-at_most_three (app w x y) = omega arith
-at_most_three (proj d w e) = omega arith
-at_most_three (case w i e a b) = omega arith
-at_most_three (protect m e) = omega arith
-at_most_three (mu w i e) = omega arith
+at_most_three e = omega arith
 
-pub three_kind : {e : Term} → Three e → kind (encode e) 0 ≡ kind_case
+pub three_kind : {e : Term} → Three e → kind (encode e) 0 ≡ kinds.case
 unfolding encode
 three_kind is_three = refl
 
 -- the binders over an operand: the context grows by as many
 first_bound : (tab : ℕ → Ty) (Γ : List Ty) (e : Term) → length (first_context tab Γ e) ≡ length Γ + binds (kind (encode e) 0) 0
 unfolding first_context encode binds
-first_bound tab Γ (var n) = omega arith
-first_bound tab Γ (unit k) = omega arith
-first_bound tab Γ (lam k i e) = omega arith
-first_bound tab Γ (pair k a b) = omega arith
 first_bound tab Γ (inj first k i e) = omega arith
 first_bound tab Γ (inj second k i e) = omega arith
-first_bound tab Γ (app w x y) = omega arith
 first_bound tab Γ (proj first w e) = omega arith
 first_bound tab Γ (proj second w e) = omega arith
-first_bound tab Γ (case w i e a b) = omega arith
-first_bound tab Γ (protect m e) = omega arith
-first_bound tab Γ (mu w i e) = omega arith
+first_bound tab Γ e = omega arith
 
 second_bound : (Γ : List Ty) (u : Ty) {e : Term} → Several e → length (second_context Γ e u) ≡ length Γ + binds (kind (encode e) 0) 1
 unfolding second_context encode binds

@@ -1,12 +1,8 @@
 -- What is known of a node from one operand to the next, in the words of the code's locals: k is its kind, o its count of operands,
 -- i₂ and i₃ where operands start, n and m the sizes of found types, c and c₂ counts of binders, and w₁ to w₆ the work buffer after
 -- each call that writes to it.
-use mathlib.Core.Path.{◌≡◌, refl, ap, ◌∙◌}
-use mathlib.Core.List.{◌∷◌}
-use Prim.Native.Nat.{ℕ, ◌+◌, ◌-◌, ◌≤◌}
-use native.Mathlib.Omega.{arith}
+use Rattle.std.proofs.Common.{Result, Ok, Err, IsErrAnd, ◌≡◌, refl, ap, ◌∙◌, ◌∷◌, ℕ, ◌+◌, ◌-◌, ◌≤◌, arith, length, take, drop}
 use borrow.Rule.Slice.PartMut.{put_mid}
-use lib.ListN.{length, take, drop}
 use Rattle.calculus.specs.Security.{Property}
 use Rattle.calculus.specs.Types.{Ty, top}
 use Rattle.calculus.specs.Terms.{Term}
@@ -15,8 +11,7 @@ use Rattle.rules.specs.Groups.{properties_of}
 use Rattle.rules.specs.Types.{type_at}
 use Rattle.rules.specs.Script.{kind, number, arity, encode, size}
 use Rattle.rules.specs.Typing.{right, q22_of_branch, typing}
-use Rattle.answer.specs.declared.Checked.{Checked}
-use Rattle.answer.specs.declared.Checked.TheVariants.{Passed}
+use Rattle.answer.specs.declared.Refusal.{Refusal}
 use Rattle.records.specs.Place.{At}
 use Rattle.records.specs.Binders.{binds}
 use Rattle.records.specs.Operands.{first_operand, second_operand, third_operand}
@@ -25,8 +20,6 @@ use Rattle.types.proofs.Parts.{to_end}
 use Rattle.inference.specs.Operands.{operand_count}
 use Rattle.inference.specs.Memory.{Slot, Meets, Ready, Enters}
 use Rattle.inference.specs.Stages.{before_first, first_context, kept_front, between, second_context, kept_branch, Leaf, Some, Aside, Branch}
-use Rattle.inference.specs.declared.Found.{Found}
-use Rattle.inference.specs.declared.Found.TheVariants.{Typed}
 use Rattle.inference.proofs.Shapes.{counted_of, several}
 use Rattle.typing.specs.Parts.{kept_between}
 use Rattle.typing.proofs.Below.{first_at, second_at, third_at, at_most_three, branch_binders, three}
@@ -45,7 +38,7 @@ abbrev pub lent : ℕ → Bytes → Bytes
 lent low w = take (length w - low) (drop low w)
 
 -- what a call on an operand answers
-abbrev pub Typing : Bytes → Bytes → Bytes → ℕ → ℕ → Bytes → Found → Bytes → Type 0
+abbrev pub Typing : Bytes → Bytes → Bytes → ℕ → ℕ → Bytes → Result ℕ Refusal → Bytes → Type 0
 Typing g types p place c u x z = (r : Ready types p place c u) → Meets (typing (properties_of g) (type_at types) r.ctx place r.tree) c u x z
 
 -- the first operand's context is there
@@ -123,10 +116,10 @@ module _ (g : Bytes) {types s : Bytes} {place b : ℕ} {w : Bytes} (v : Ready ty
 
   -- ---- the first operand
 
-  pub entered : {k o j : ℕ} {x : Checked} {w₁ : Bytes} → k ≡ kind s 0 → o ≡ arity k → (o ≡ 0 → ⊥)
-      → Enters (before_first (properties_of g) (type_at types) place v.tree) (first_context (type_at types) v.ctx v.tree) b w x w₁ → x ≡ Passed
+  pub entered : {k o j : ℕ} {w₁ : Bytes} → k ≡ kind s 0 → o ≡ arity k → (o ≡ 0 → ⊥)
+      → Enters (before_first (properties_of g) (type_at types) place v.tree) (first_context (type_at types) v.ctx v.tree) b w (Ok tt) w₁
       → j ≡ binds k 0 → length w₁ ≡ length w → Entered g v k o (b + j) w₁
-  entered {k} {o} {j} ek eo ne h y ej l =
+  entered {k} {o} {j} ek eo ne h ej l =
       let q : o ≡ operand_count v.tree = counted ek eo in
       let z : operand_count v.tree ≡ 0 → ⊥ = λ e. ne (q ∙ e) in
       let m : 1 ≤ operand_count v.tree = omega arith in
@@ -134,7 +127,7 @@ module _ (g : Bytes) {types s : Bytes} {place b : ℕ} {w : Bytes} (v : Ready ty
         kind_is = ek;
         count = q;
         some = m;
-        went = steps.went g v h y (ap (λ i. b + i) (ej ∙ ap (λ i. binds i 0) ek)) l;
+        went = steps.went g v h (ap (λ i. b + i) (ej ∙ ap (λ i. binds i 0) ek)) l;
         stands = first_at s v.tree v.is m;
       }
 
@@ -145,18 +138,18 @@ module _ (g : Bytes) {types s : Bytes} {place b : ℕ} {w : Bytes} (v : Ready ty
     abbrev pub first_ready : Ready types p (place + 1) c (lent low w₁)
     first_ready = steps.ready1 g v e.some e.went (lows v.tree v.is) (part (first_operand v.tree) e.stands first_from) (to_end low w₁)
 
-    module _ {x : Found} {z : Bytes} (met : Typing g types p (place + 1) c (lent low w₁) x z) where
-      pub first_refuses : {w₂ : Bytes} → ((n : ℕ) → x ≡ Typed n → ⊥) → Meets (typing (properties_of g) (type_at types) v.ctx place v.tree) b w x w₂
-      first_refuses nt = steps.first_refuses g v e.some e.went (lows v.tree v.is) (met first_ready) nt
+    module _ {z : Bytes} where
+      pub first_refuses : (f : Refusal) {x : Result ℕ Refusal} {w₂ : Bytes} → Typing g types p (place + 1) c (lent low w₁) (Err f) z → IsErrAnd x (λ y. y ≡ f) → Meets (typing (properties_of g) (type_at types) v.ctx place v.tree) b w x w₂
+      first_refuses f met q = steps.first_refuses g v e.some e.went (lows v.tree v.is) f (met first_ready) q
 
-      pub first_done : {n : ℕ} → length z ≡ length (lent low w₁) → x ≡ Typed n → FirstDone g v k o i₂ n (put_mid low (length w₁ - low) w₁ z)
-      first_done l f =
+      pub first_done : {n : ℕ} → Typing g types p (place + 1) c (lent low w₁) (Ok n) z → length z ≡ length (lent low w₁) → FirstDone g v k o i₂ n (put_mid low (length w₁ - low) w₁ z)
+      first_done met l =
           record {
             kind_is = e.kind_is;
             count = e.count;
             some = e.some;
             from = first_from;
-            done = steps.done1 g v e.some e.went (lows v.tree v.is) (met first_ready) (to_end low w₁) l f refl;
+            done = steps.done1 g v e.some e.went (lows v.tree v.is) (met first_ready) (to_end low w₁) l refl;
           }
 
   -- ---- the second operand
@@ -171,10 +164,10 @@ module _ (g : Bytes) {types s : Bytes} {place b : ℕ} {w : Bytes} (v : Ready ty
     abbrev pub some_of : Some s b w₂ n
     some_of = steps.some_of g v d.done has_two
 
-    module _ {x : Checked} {w₃ : Bytes} (h : (u : Some s b w₂ n) → Enters (between (properties_of g) place u.tree u.type) (second_context u.ctx u.tree u.type) b w₂ x w₃
+    module _ {w₃ : Bytes} (h : (u : Some s b w₂ n) → Enters (between (properties_of g) place u.tree u.type) (second_context u.ctx u.tree u.type) b w₂ (Ok tt) w₃
         × (between (properties_of g) place u.tree u.type ≡ accepted tt → Aside u.tree u.type b w₃ n)) where
-      pub second_entered : {p : Property} {j : ℕ} → ((t : Ty) → Held w₂ t → p ≡ top t) → x ≡ Passed → j ≡ binds k 1 → length w₃ ≡ length w₂ → SecondEntered g v o i₂ n (b + j) p w₃
-      second_entered {j = j} tops y ej l =
+      pub second_entered : {p : Property} {j : ℕ} → ((t : Ty) → Held w₂ t → p ≡ top t) → j ≡ binds k 1 → length w₃ ≡ length w₂ → SecondEntered g v o i₂ n (b + j) p w₃
+      second_entered {j = j} tops ej l =
           let q = h some_of in
           record {
             count = d.count;
@@ -183,7 +176,7 @@ module _ (g : Bytes) {types s : Bytes} {place b : ℕ} {w : Bytes} (v : Ready ty
             stands = second_at s (several v.tree has_two) v.is d.from;
             tested = d.done.type;
             property_is = tops d.done.type (steps.front g v d.done has_two).held;
-            done = steps.done2 g v d.done has_two q.0 y (ap (λ i. b + i) (ej ∙ ap (λ i. binds i 1) d.kind_is)) l q.1;
+            done = steps.done2 g v d.done has_two q.0 (ap (λ i. b + i) (ej ∙ ap (λ i. binds i 1) d.kind_is)) l q.1;
           }
 
   module _ {o i₂ n c₂ i₃ mid : ℕ} {q : Property} {w₃ p : Bytes} (e : SecondEntered g v o i₂ n c₂ q w₃) (ends : Ends s i₂ i₃) (mids : mid ≡ kept_between o) (part : Part s i₂ i₃ p) where
@@ -196,12 +189,12 @@ module _ (g : Bytes) {types s : Bytes} {place b : ℕ} {w : Bytes} (v : Ready ty
     abbrev pub second_ready : Ready types p (place + i₂) c₂ (lent mid w₃)
     second_ready = steps.ready2 g v e.two e.done mid_is e.from (part (second_operand v.tree) e.stands second_to) (to_end mid w₃)
 
-    module _ {x : Found} {z : Bytes} (met : Typing g types p (place + i₂) c₂ (lent mid w₃) x z) where
-      pub second_refuses : {w₄ : Bytes} → ((n : ℕ) → x ≡ Typed n → ⊥) → Meets (typing (properties_of g) (type_at types) v.ctx place v.tree) b w x w₄
-      second_refuses nt = steps.second_refuses g v e.two e.done mid_is e.from (met second_ready) nt
+    module _ {z : Bytes} where
+      pub second_refuses : (f : Refusal) {x : Result ℕ Refusal} {w₄ : Bytes} → Typing g types p (place + i₂) c₂ (lent mid w₃) (Err f) z → IsErrAnd x (λ y. y ≡ f) → Meets (typing (properties_of g) (type_at types) v.ctx place v.tree) b w x w₄
+      second_refuses f met q = steps.second_refuses g v e.two e.done mid_is e.from f (met second_ready) q
 
-      pub second_done : {m : ℕ} → length z ≡ length (lent mid w₃) → x ≡ Typed m → SecondDone g v o i₃ n m c₂ q (put_mid mid (length w₃ - mid) w₃ z)
-      second_done l f =
+      pub second_done : {m : ℕ} → Typing g types p (place + i₂) c₂ (lent mid w₃) (Ok m) z → length z ≡ length (lent mid w₃) → SecondDone g v o i₃ n m c₂ q (put_mid mid (length w₃ - mid) w₃ z)
+      second_done met l =
           record {
             count = e.count;
             two = e.two;
@@ -209,7 +202,7 @@ module _ (g : Bytes) {types s : Bytes} {place b : ℕ} {w : Bytes} (v : Ready ty
             tested = e.tested;
             property_is = e.property_is;
             binders = e.done.binders;
-            done = steps.done3 g v e.two e.done mid_is e.from (met second_ready) (to_end mid w₃) l f refl;
+            done = steps.done3 g v e.two e.done mid_is e.from (met second_ready) (to_end mid w₃) l refl;
           }
 
   -- ---- a case's third operand
@@ -224,9 +217,9 @@ module _ (g : Bytes) {types s : Bytes} {place b : ℕ} {w : Bytes} (v : Ready ty
     abbrev pub branch_of : Branch types s b w₄
     branch_of = steps.branch_of g v has_three d.done
 
-    module _ {x : Checked} {w₅ : Bytes} (h : (u : Branch types s b w₄) → Enters (q22_of_branch (properties_of g) place (type_at types) (number s 0) u.type) (right u.tested ∷ u.ctx) b w₄ x w₅ × Slot w₅ u.type) where
-      pub third_entered : x ≡ Passed → length w₅ ≡ length w₄ → ThirdEntered g v o i₃ c₂ p w₅
-      third_entered y l =
+    module _ {w₅ : Bytes} (h : (u : Branch types s b w₄) → Enters (q22_of_branch (properties_of g) place (type_at types) (number s 0) u.type) (right u.tested ∷ u.ctx) b w₄ (Ok tt) w₅ × Slot w₅ u.type) where
+      pub third_entered : length w₅ ≡ length w₄ → ThirdEntered g v o i₃ c₂ p w₅
+      third_entered l =
           let q = h branch_of in
           record {
             count = d.count;
@@ -236,7 +229,7 @@ module _ (g : Bytes) {types s : Bytes} {place b : ℕ} {w : Bytes} (v : Ready ty
             tested = d.tested;
             property_is = d.property_is;
             first = d.done.other;
-            done = steps.done5 g v has_three d.done q.0 y l (omega (arith, branch_binders v.ctx d.tested (three v.tree has_three), d.binders, v.binders)) q.1;
+            done = steps.done5 g v has_three d.done q.0 l (omega (arith, branch_binders v.ctx d.tested (three v.tree has_three), d.binders, v.binders)) q.1;
           }
 
   module _ {o i₃ c₂ end past : ℕ} {q : Property} {w₅ p : Bytes} (e : ThirdEntered g v o i₃ c₂ q w₅) (ends : Ends s i₃ end) (pasts : past ≡ kept_branch s) (part : Part s i₃ end p) where
@@ -244,16 +237,16 @@ module _ (g : Bytes) {types s : Bytes} {place b : ℕ} {w : Bytes} (v : Ready ty
     third_ready =
         steps.ready3 g v e.three e.done pasts e.from (part (third_operand v.tree) e.stands (ends (third_operand v.tree) e.stands)) (to_end past w₅)
 
-    module _ {x : Found} {z : Bytes} (met : Typing g types p (place + i₃) c₂ (lent past w₅) x z) where
-      pub third_refuses : {w₆ : Bytes} → ((n : ℕ) → x ≡ Typed n → ⊥) → Meets (typing (properties_of g) (type_at types) v.ctx place v.tree) b w x w₆
-      third_refuses nt = steps.third_refuses g v e.three e.done pasts e.from (met third_ready) nt
+    module _ {z : Bytes} where
+      pub third_refuses : (f : Refusal) {x : Result ℕ Refusal} {w₆ : Bytes} → Typing g types p (place + i₃) c₂ (lent past w₅) (Err f) z → IsErrAnd x (λ y. y ≡ f) → Meets (typing (properties_of g) (type_at types) v.ctx place v.tree) b w x w₆
+      third_refuses f met q = steps.third_refuses g v e.three e.done pasts e.from f (met third_ready) q
 
-      pub third_done : {m : ℕ} → length z ≡ length (lent past w₅) → x ≡ Typed m → ThirdDone g v q (put_mid past (length w₅ - past) w₅ z)
-      third_done l f =
+      pub third_done : {m : ℕ} → Typing g types p (place + i₃) c₂ (lent past w₅) (Ok m) z → length z ≡ length (lent past w₅) → ThirdDone g v q (put_mid past (length w₅ - past) w₅ z)
+      third_done met l =
           record {
             three = e.three;
             tested = e.tested;
             property_is = e.property_is;
             first = e.first;
-            done = steps.done6 g v e.three e.done pasts e.from (met third_ready) (to_end past w₅) l f refl;
+            done = steps.done6 g v e.three e.done pasts e.from (met third_ready) (to_end past w₅) l refl;
           }

@@ -1,11 +1,6 @@
 -- One call of the checker, stage by stage, over plain lists.
-use mathlib.Core.Path.{◌≡◌, sym, ap, ◌∙◌, subst}
-use mathlib.Core.Bool.{true, cond}
-use mathlib.Core.List.{◌∷◌, ◌++◌}
-use Prim.Native.Nat.{ℕ, suc, ◌+◌, ◌-◌, ◌*◌, ◌≤◌}
-use native.Mathlib.Omega.{arith}
+use Rattle.std.proofs.Common.{Result, Ok, Err, IsErrAnd, ◌≡◌, sym, ap, ◌∙◌, subst, true, cond, ◌∷◌, ◌++◌, ℕ, suc, ◌+◌, ◌-◌, ◌*◌, ◌≤◌, arith, length, take, drop, length-drop}
 use borrow.Rule.Slice.PartMut.{put_mid}
-use lib.ListN.{length, take, drop, length-drop}
 use Rattle.calculus.specs.Security.{Indirect}
 use Rattle.calculus.specs.Types.{Ty, top}
 use Rattle.calculus.specs.Typing.{finds_own}
@@ -17,20 +12,18 @@ use Rattle.rules.specs.Types.{type_at}
 use Rattle.rules.specs.Script.{encode, size, depth, kind, r, number, own_at}
 use Rattle.rules.specs.Typing.{right, q22_of_branch, typing}
 use Rattle.types.specs.Held.{Held}
+use Rattle.records.specs.Kinds as kinds
 use Rattle.inference.specs.Operands.{operand_count, Formed}
 use Rattle.records.specs.Operands.{first_operand, second_operand, third_operand}
-use Rattle.inference.specs.Memory.{high, Slot, Sized, Holds, Meets, Ready, Enters, Beside, refusal}
+use Rattle.inference.specs.Memory.{high, Slot, Sized, Holds, Meets, Ready, Enters, Beside}
 use Rattle.inference.specs.Stages.{before_first, first_context, kept_front, after_one, between, second_context, after_two, kept_branch, case_type, One, Some, Aside, Two, Case, Branch, Branches}
 use Rattle.records.specs.Binders.{binds}
-use Rattle.answer.specs.declared.Checked.{Checked}
-use Rattle.answer.specs.declared.Checked.TheVariants as checked
-use Rattle.answer.specs.Said.{said}
+use Rattle.answer.specs.declared.Refusal.{Refusal}
+use Rattle.answer.specs.Numbers.{number as question_number}
 use Rattle.typing.specs.Parts.{kept_between}
-use Rattle.inference.specs.declared.Found.{Found}
-use Rattle.inference.specs.declared.Found.TheVariants.{Typed}
 use Rattle.inference.proofs.Regions.{high_drop, lent_rest, drop_lent, length_lent, high_lent, high_within, slot_of, slot_lent, sized_lent, rebase}
-use Rattle.inference.proofs.Shapes.{long, of_kind, depth_positive, kind_case, several}
-use Rattle.inference.proofs.Rules.{meets_of, typed_as, refused_as, refused_meets, refused_says}
+use Rattle.inference.proofs.Shapes.{long, of_kind, depth_positive, several}
+use Rattle.inference.proofs.Rules.{meets_of, typed_as, refused_as, refused_meets}
 use Rattle.inference.proofs.Names.{owns, case_index}
 use Rattle.typing.proofs.Apart.{after_second, stops_before, stops_first, one_typed, first_typed, second_typed, branch_typed}
 use Rattle.typing.proofs.Below.{first_smaller, second_smaller, third_larger, first_formed, second_formed, third_formed, first_room, second_room, third_room, first_binders, second_binders, several_front, branch_binders, three, three_kind}
@@ -114,13 +107,14 @@ module _ (g : Bytes) {types s : Bytes} {place b : ℕ} {w : Bytes} (v : Ready ty
   pub level : answer_length * (b + 1) ≤ length w
   level = omega (arith, v.room, depth_positive v.tree)
 
-  module _ {x : Checked} {w₁ : Bytes} (h : Enters (before_first (properties_of g) (type_at types) place v.tree) (first_context (type_at types) v.ctx v.tree) b w x w₁) where
-    pub before_refuses : {y : Found} {w₂ : Bytes} → (x ≡ checked.Passed → ⊥) → y ≡ refusal x → Meets (typing (properties_of g) (type_at types) v.ctx place v.tree) b w y w₂
-    before_refuses t f = let z = refused_says x _ t h.says f in refused_meets (stops_before (properties_of g) (type_at types) v.ctx place v.tree z.0 z.1 z.2) z.3
+  module _ {w₁ : Bytes} where
+    pub before_refuses : (e : Refusal) {y : Result ℕ Refusal} {w₂ : Bytes} → Enters (before_first (properties_of g) (type_at types) place v.tree) (first_context (type_at types) v.ctx v.tree) b w (Err e) w₁
+        → IsErrAnd y (λ z. z ≡ e) → Meets (typing (properties_of g) (type_at types) v.ctx place v.tree) b w y w₂
+    before_refuses e h p = refused_meets e (stops_before (properties_of g) (type_at types) v.ctx place v.tree (question_number e.question) e.place (sym h.says)) p
 
-    pub went : {c : ℕ} → x ≡ checked.Passed → c ≡ b + binds (kind s 0) 0 → length w₁ ≡ length w → Went g v c w₁
-    went {c} t ec l =
-        let a = sym h.says ∙ ap said t in
+    pub went : {c : ℕ} → Enters (before_first (properties_of g) (type_at types) place v.tree) (first_context (type_at types) v.ctx v.tree) b w (Ok tt) w₁ → c ≡ b + binds (kind s 0) 0 → length w₁ ≡ length w → Went g v c w₁
+    went {c} h ec l =
+        let a = sym h.says in
         let e = h.entered a in
         let q : length (first_context (type_at types) v.ctx v.tree) ≡ c = omega (arith, first_binders s (type_at types) v.ctx v.tree v.is, v.binders) in
         record {
@@ -167,21 +161,24 @@ module _ (g : Bytes) {types s : Bytes} {place b : ℕ} {w : Bytes} (v : Ready ty
           placed = first_placed;
         }
 
-    module _ {u z : Bytes} {x : Found} (m : Meets (typing (properties_of g) (type_at types) (first_context (type_at types) v.ctx v.tree) (place + 1) (first_operand v.tree)) c u x z) where
-      placed1 : typing (properties_of g) (type_at types) (first_context (type_at types) v.ctx v.tree) (1 + place) (first_operand v.tree)
-          ≡ typing (properties_of g) (type_at types) (first_context (type_at types) v.ctx v.tree) (place + 1) (first_operand v.tree)
-      placed1 =
-          let q : 1 + place ≡ place + 1 = omega arith in
-          ap (λ p. typing (properties_of g) (type_at types) (first_context (type_at types) v.ctx v.tree) p (first_operand v.tree)) q
+    placed1 : typing (properties_of g) (type_at types) (first_context (type_at types) v.ctx v.tree) (1 + place) (first_operand v.tree)
+        ≡ typing (properties_of g) (type_at types) (first_context (type_at types) v.ctx v.tree) (place + 1) (first_operand v.tree)
+    placed1 =
+        let q : 1 + place ≡ place + 1 = omega arith in
+        ap (λ p. typing (properties_of g) (type_at types) (first_context (type_at types) v.ctx v.tree) p (first_operand v.tree)) q
 
-      pub first_refuses : {w₂ : Bytes} → ((n : ℕ) → x ≡ Typed n → ⊥) → Meets (typing (properties_of g) (type_at types) v.ctx place v.tree) b w x w₂
-      first_refuses t =
-          let y = refused_as t m in
-          refused_meets (stops_first (properties_of g) (type_at types) v.ctx place v.tree y.0 y.1 o h.asked (placed1 ∙ y.2)) y.3
+    module _ {u z : Bytes} where
+      pub first_refuses : (e : Refusal) {x : Result ℕ Refusal} {w₂ : Bytes}
+          → Meets (typing (properties_of g) (type_at types) (first_context (type_at types) v.ctx v.tree) (place + 1) (first_operand v.tree)) c u (Err e) z
+          → IsErrAnd x (λ y. y ≡ e) → Meets (typing (properties_of g) (type_at types) v.ctx place v.tree) b w x w₂
+      first_refuses e m p =
+          refused_meets e (stops_first (properties_of g) (type_at types) v.ctx place v.tree (question_number e.question) e.place o h.asked (placed1 ∙ refused_as m)) p
 
-      pub done1 : {n : ℕ} {w₂ : Bytes} → u ≡ drop low w₁ → length z ≡ length u → x ≡ Typed n → w₂ ≡ put_mid low (length w₁ - low) w₁ z → Done1 g v n w₂
-      done1 {n} {w₂} eu lz f e₂ =
-          let a = typed_as f m in
+      pub done1 : {n : ℕ} {w₂ : Bytes}
+          → Meets (typing (properties_of g) (type_at types) (first_context (type_at types) v.ctx v.tree) (place + 1) (first_operand v.tree)) c u (Ok n) z
+          → u ≡ drop low w₁ → length z ≡ length u → w₂ ≡ put_mid low (length w₁ - low) w₁ z → Done1 g v n w₂
+      done1 {n} {w₂} m eu lz e₂ =
+          let a = typed_as m in
           let k = back b c low w₁ u z w₂ h.least (omega (arith, low_fits, level, h.same)) eu lz a.wrote.kept e₂ in
           record {
             asked = h.asked;
@@ -215,7 +212,7 @@ module _ (g : Bytes) {types s : Bytes} {place b : ℕ} {w : Bytes} (v : Ready ty
           room = slot_room;
         }
 
-    pub last_meets : (o : operand_count v.tree ≡ 1) {x : Found} {w₃ : Bytes} → Meets (after_one (properties_of g) (type_at types) place v.tree d.type) b w₂ x w₃
+    pub last_meets : (o : operand_count v.tree ≡ 1) {x : Result ℕ Refusal} {w₃ : Bytes} → Meets (after_one (properties_of g) (type_at types) place v.tree d.type) b w₂ x w₃
         → Meets (typing (properties_of g) (type_at types) v.ctx place v.tree) b w x w₃
     last_meets o m = rebase d.kept (meets_of (one_typed (properties_of g) (type_at types) v.ctx place v.tree d.type o d.asked d.is) m)
 
@@ -248,14 +245,15 @@ module _ (g : Bytes) {types s : Bytes} {place b : ℕ} {w : Bytes} (v : Ready ty
       under_first : typing (properties_of g) (type_at types) v.ctx place v.tree ≡ then (between (properties_of g) place v.tree d.type) (after_first d.type)
       under_first = first_typed (properties_of g) (type_at types) v.ctx place v.tree d.type o d.is
 
-      module _ {x : Checked} {w₃ : Bytes} (h : Enters (between (properties_of g) place v.tree d.type) (second_context v.ctx v.tree d.type) b w₂ x w₃) where
-        pub between_refuses : {y : Found} {w₄ : Bytes} → (x ≡ checked.Passed → ⊥) → y ≡ refusal x → Meets (typing (properties_of g) (type_at types) v.ctx place v.tree) b w y w₄
-        between_refuses t f = let z = refused_says x _ t h.says f in refused_meets (under_first ∙ ap (λ a. then a (after_first d.type)) z.2) z.3
+      module _ {w₃ : Bytes} where
+        pub between_refuses : (e : Refusal) {y : Result ℕ Refusal} {w₄ : Bytes} → Enters (between (properties_of g) place v.tree d.type) (second_context v.ctx v.tree d.type) b w₂ (Err e) w₃
+            → IsErrAnd y (λ z. z ≡ e) → Meets (typing (properties_of g) (type_at types) v.ctx place v.tree) b w y w₄
+        between_refuses e h p = refused_meets e (under_first ∙ ap (λ a. then a (after_first d.type)) (sym h.says)) p
 
-        pub done2 : {c : ℕ} → x ≡ checked.Passed → c ≡ b + binds (kind s 0) 1 → length w₃ ≡ length w₂ → (between (properties_of g) place v.tree d.type ≡ accepted tt → Aside v.tree d.type b w₃ n)
+        pub done2 : {c : ℕ} → Enters (between (properties_of g) place v.tree d.type) (second_context v.ctx v.tree d.type) b w₂ (Ok tt) w₃ → c ≡ b + binds (kind s 0) 1 → length w₃ ≡ length w₂ → (between (properties_of g) place v.tree d.type ≡ accepted tt → Aside v.tree d.type b w₃ n)
             → Done2 g v d.type n c w₃
-        done2 {c} t ec l k =
-            let a = sym h.says ∙ ap said t in
+        done2 {c} h ec l k =
+            let a = sym h.says in
             let e = h.entered a in
             let q : length (second_context v.ctx v.tree d.type) ≡ c = omega (arith, second_binders s v.ctx d.type v.tree (several v.tree o) v.is, v.binders) in
             record {
@@ -307,21 +305,24 @@ module _ (g : Bytes) {types s : Bytes} {place b : ℕ} {w : Bytes} (v : Ready ty
           placed = second_placed;
         }
 
-    module _ {u z : Bytes} {x : Found} (m : Meets (typing (properties_of g) (type_at types) (second_context v.ctx v.tree t) (place + j) (second_operand v.tree)) c u x z) where
-      placed2 : typing (properties_of g) (type_at types) (second_context v.ctx v.tree t) (1 + place + size (first_operand v.tree)) (second_operand v.tree)
-          ≡ typing (properties_of g) (type_at types) (second_context v.ctx v.tree t) (place + j) (second_operand v.tree)
-      placed2 =
-          let q : 1 + place + size (first_operand v.tree) ≡ place + j = omega arith in
-          ap (λ p. typing (properties_of g) (type_at types) (second_context v.ctx v.tree t) p (second_operand v.tree)) q
+    placed2 : typing (properties_of g) (type_at types) (second_context v.ctx v.tree t) (1 + place + size (first_operand v.tree)) (second_operand v.tree)
+        ≡ typing (properties_of g) (type_at types) (second_context v.ctx v.tree t) (place + j) (second_operand v.tree)
+    placed2 =
+        let q : 1 + place + size (first_operand v.tree) ≡ place + j = omega arith in
+        ap (λ p. typing (properties_of g) (type_at types) (second_context v.ctx v.tree t) p (second_operand v.tree)) q
 
-      pub second_refuses : {w₄ : Bytes} → ((n : ℕ) → x ≡ Typed n → ⊥) → Meets (typing (properties_of g) (type_at types) v.ctx place v.tree) b w x w₄
-      second_refuses f =
-          let y = refused_as f m in
-          refused_meets (d.is ∙ ap (λ a. bind a (after_second (properties_of g) (type_at types) v.ctx place v.tree t)) (placed2 ∙ y.2)) y.3
+    module _ {u z : Bytes} where
+      pub second_refuses : (e : Refusal) {x : Result ℕ Refusal} {w₄ : Bytes}
+          → Meets (typing (properties_of g) (type_at types) (second_context v.ctx v.tree t) (place + j) (second_operand v.tree)) c u (Err e) z
+          → IsErrAnd x (λ y. y ≡ e) → Meets (typing (properties_of g) (type_at types) v.ctx place v.tree) b w x w₄
+      second_refuses e m p =
+          refused_meets e (d.is ∙ ap (λ a. bind a (after_second (properties_of g) (type_at types) v.ctx place v.tree t)) (placed2 ∙ refused_as m)) p
 
-      pub done3 : {k : ℕ} {w₄ : Bytes} → u ≡ drop mid w₃ → length z ≡ length u → x ≡ Typed k → w₄ ≡ put_mid mid (length w₃ - mid) w₃ z → Done3 g v t n k w₄
-      done3 {k} {w₄} eu lz f e₄ =
-          let a = typed_as f m in
+      pub done3 : {k : ℕ} {w₄ : Bytes}
+          → Meets (typing (properties_of g) (type_at types) (second_context v.ctx v.tree t) (place + j) (second_operand v.tree)) c u (Ok k) z
+          → u ≡ drop mid w₃ → length z ≡ length u → w₄ ≡ put_mid mid (length w₃ - mid) w₃ z → Done3 g v t n k w₄
+      done3 {k} {w₄} m eu lz e₄ =
+          let a = typed_as m in
           let q = back b c mid w₃ u z w₄ d.least (omega (arith, mid_fits, level g v, d.same)) eu lz a.wrote.kept e₄ in
           record {
             asked = d.asked;
@@ -360,7 +361,7 @@ module _ (g : Bytes) {types s : Bytes} {place b : ℕ} {w : Bytes} (v : Ready ty
         room = two_room;
       }
 
-  pub ends_meets : {x : Found} {w₅ : Bytes} → Meets (after_two (properties_of g) place v.tree t d.other) b w₄ x w₅
+  pub ends_meets : {x : Result ℕ Refusal} {w₅ : Bytes} → Meets (after_two (properties_of g) place v.tree t d.other) b w₄ x w₅
       → Meets (typing (properties_of g) (type_at types) v.ctx place v.tree) b w x w₅
   ends_meets h = rebase d.kept (meets_of (d.is ∙ second_typed (properties_of g) (type_at types) v.ctx place v.tree t d.other o) h)
 
@@ -385,11 +386,11 @@ pub record Done6 (g : Bytes) {types s : Bytes} {place b : ℕ} {w : Bytes} (v : 
   pub same : length w₆ ≡ length w
 
 module _ (g : Bytes) {types s : Bytes} {place b : ℕ} {w : Bytes} (v : Ready types s place b w) (o : operand_count v.tree ≡ 3) where
-  pub case_kind : kind s 0 ≡ kind_case
+  pub case_kind : kind s 0 ≡ kinds.case
   case_kind = ap (λ x. kind x 0) v.is ∙ three_kind (three v.tree o)
 
   pub case_is : v.tree ≡ case (r s 0) (number s 0) (first_operand v.tree) (second_operand v.tree) (third_operand v.tree)
-  case_is = of_kind s v.tree kind_case v.is case_kind
+  case_is = of_kind s v.tree kinds.case v.is (sym case_kind)
 
   abbrev pub case_node : Case types s
   case_node =
@@ -431,13 +432,14 @@ module _ (g : Bytes) {types s : Bytes} {place b : ℕ} {w : Bytes} (v : Ready ty
         ≡ then (q22_of_branch (properties_of g) place (type_at types) (number s 0) d.other) after_branch
     under_branch = d.is ∙ branch_typed (properties_of g) (type_at types) v.ctx place t d.other case_is
 
-    module _ {x : Checked} {w₅ : Bytes} (h : Enters (q22_of_branch (properties_of g) place (type_at types) (number s 0) d.other) (right t ∷ v.ctx) b w₄ x w₅) where
-      pub branch_refuses : {y : Found} {w₆ : Bytes} → (x ≡ checked.Passed → ⊥) → y ≡ refusal x → Meets (typing (properties_of g) (type_at types) v.ctx place v.tree) b w y w₆
-      branch_refuses n f = let z = refused_says x _ n h.says f in refused_meets (under_branch ∙ ap (λ a. then a after_branch) z.2) z.3
+    module _ {w₅ : Bytes} where
+      pub branch_refuses : (e : Refusal) {y : Result ℕ Refusal} {w₆ : Bytes} → Enters (q22_of_branch (properties_of g) place (type_at types) (number s 0) d.other) (right t ∷ v.ctx) b w₄ (Err e) w₅
+          → IsErrAnd y (λ z. z ≡ e) → Meets (typing (properties_of g) (type_at types) v.ctx place v.tree) b w y w₆
+      branch_refuses e h p = refused_meets e (under_branch ∙ ap (λ a. then a after_branch) (sym h.says)) p
 
-      pub done5 : {c : ℕ} → x ≡ checked.Passed → length w₅ ≡ length w₄ → c ≡ b + 1 → Slot w₅ d.other → Done5 g v t d.other c w₅
-      done5 {c} y l ec f =
-          let a = sym h.says ∙ ap said y in
+      pub done5 : {c : ℕ} → Enters (q22_of_branch (properties_of g) place (type_at types) (number s 0) d.other) (right t ∷ v.ctx) b w₄ (Ok tt) w₅ → length w₅ ≡ length w₄ → c ≡ b + 1 → Slot w₅ d.other → Done5 g v t d.other c w₅
+      done5 {c} h l ec f =
+          let a = sym h.says in
           let e = h.entered a in
           let q : length (right t ∷ v.ctx) ≡ c = omega (arith, v.binders) in
           record {
@@ -487,23 +489,25 @@ module _ (g : Bytes) {types s : Bytes} {place b : ℕ} {w : Bytes} (v : Ready ty
           placed = third_placed;
         }
 
-    module _ {u z : Bytes} {x : Found} (m : Meets (typing (properties_of g) (type_at types) (right t ∷ v.ctx) (place + j) (third_operand v.tree)) c u x z) where
-      placed3 : typing (properties_of g) (type_at types) (right t ∷ v.ctx) (1 + place + size (first_operand v.tree) + size (second_operand v.tree)) (third_operand v.tree)
-          ≡ typing (properties_of g) (type_at types) (right t ∷ v.ctx) (place + j) (third_operand v.tree)
-      placed3 =
-          let q : 1 + place + size (first_operand v.tree) + size (second_operand v.tree) ≡ place + j = omega arith in
-          ap (λ p. typing (properties_of g) (type_at types) (right t ∷ v.ctx) p (third_operand v.tree)) q
+    placed3 : typing (properties_of g) (type_at types) (right t ∷ v.ctx) (1 + place + size (first_operand v.tree) + size (second_operand v.tree)) (third_operand v.tree)
+        ≡ typing (properties_of g) (type_at types) (right t ∷ v.ctx) (place + j) (third_operand v.tree)
+    placed3 =
+        let q : 1 + place + size (first_operand v.tree) + size (second_operand v.tree) ≡ place + j = omega arith in
+        ap (λ p. typing (properties_of g) (type_at types) (right t ∷ v.ctx) p (third_operand v.tree)) q
 
-      after_third : {a : Answer Ty} → typing (properties_of g) (type_at types) (right t ∷ v.ctx) (place + j) (third_operand v.tree) ≡ a
-          → typing (properties_of g) (type_at types) v.ctx place v.tree ≡ bind a (λ u. case_type (properties_of g) (type_at types) place (number s 0) first u (reading g s t))
-      after_third e = d.is ∙ ap (λ a. bind a (λ u. case_type (properties_of g) (type_at types) place (number s 0) first u (reading g s t))) (placed3 ∙ e)
+    after_third : {a : Answer Ty} → typing (properties_of g) (type_at types) (right t ∷ v.ctx) (place + j) (third_operand v.tree) ≡ a
+        → typing (properties_of g) (type_at types) v.ctx place v.tree ≡ bind a (λ u. case_type (properties_of g) (type_at types) place (number s 0) first u (reading g s t))
+    after_third e = d.is ∙ ap (λ a. bind a (λ u. case_type (properties_of g) (type_at types) place (number s 0) first u (reading g s t))) (placed3 ∙ e)
 
-      pub third_refuses : {w₆ : Bytes} → ((n : ℕ) → x ≡ Typed n → ⊥) → Meets (typing (properties_of g) (type_at types) v.ctx place v.tree) b w x w₆
-      third_refuses f = let y = refused_as f m in refused_meets (after_third y.2) y.3
+    module _ {u z : Bytes} where
+      pub third_refuses : (e : Refusal) {x : Result ℕ Refusal} {w₆ : Bytes} → Meets (typing (properties_of g) (type_at types) (right t ∷ v.ctx) (place + j) (third_operand v.tree)) c u (Err e) z
+          → IsErrAnd x (λ y. y ≡ e) → Meets (typing (properties_of g) (type_at types) v.ctx place v.tree) b w x w₆
+      third_refuses e m p = refused_meets e (after_third (refused_as m)) p
 
-      pub done6 : {k : ℕ} {w₆ : Bytes} → u ≡ drop past w₅ → length z ≡ length u → x ≡ Typed k → w₆ ≡ put_mid past (length w₅ - past) w₅ z → Done6 g v t first w₆
-      done6 {w₆ = w₆} eu lz f e₆ =
-          let a = typed_as f m in
+      pub done6 : {k : ℕ} {w₆ : Bytes} → Meets (typing (properties_of g) (type_at types) (right t ∷ v.ctx) (place + j) (third_operand v.tree)) c u (Ok k) z
+          → u ≡ drop past w₅ → length z ≡ length u → w₆ ≡ put_mid past (length w₅ - past) w₅ z → Done6 g v t first w₆
+      done6 {w₆ = w₆} m eu lz e₆ =
+          let a = typed_as m in
           let q = back b c past w₅ u z w₆ (omega (arith, d.binders, v.binders)) (omega (arith, past_fits)) eu lz a.wrote.kept e₆ in
           record {
             type = a.type;
@@ -529,7 +533,7 @@ module _ (g : Bytes) {types s : Bytes} {place b : ℕ} {w : Bytes} (v : Ready ty
           room = omega (arith, done_room);
         }
 
-    pub done_meets : {by : Indirect} {x : Found} {w₇ : Bytes} → by ≡ reading g s t
+    pub done_meets : {by : Indirect} {x : Result ℕ Refusal} {w₇ : Bytes} → by ≡ reading g s t
         → Meets (case_type (properties_of g) (type_at types) place (number s 0) first d.type by) b w₆ x w₇
         → Meets (typing (properties_of g) (type_at types) v.ctx place v.tree) b w x w₇
     done_meets e h =

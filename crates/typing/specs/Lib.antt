@@ -1,3 +1,3 @@
 pub mod Parts
-pub mod Said
+pub mod Answers
 pub mod Judged

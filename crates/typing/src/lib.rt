@@ -11,14 +11,15 @@ ghost use Rattle.rules.specs.Types.{type_at};
 ghost use Rattle.rules.specs.Script.{encode, size, term};
 ghost use Rattle.rules.specs.Typing.{typing};
 ghost use Rattle.rules.specs.Calls.{script_check, checking, type_records, answer_after, work_after};
+ghost use Rattle.answer.specs.Said.{said};
 ghost use Rattle.records.specs.Place.{At};
 ghost use Rattle.inference.specs.Memory.{Meets, Ready};
 ghost use Rattle.typing.specs.Parts.{OperandAt, PartOf, kept_between};
-ghost use Rattle.typing.specs.Said.{said, Answers};
+ghost use Rattle.typing.specs.Answers.{Answers};
 ghost use Rattle.typing.specs.Judged.{Judged};
 
-use answer::Checked;
-use inference::{Found, SECOND_PART, SLOT};
+use answer::{Question, Refusal};
+use inference::{SECOND_PART, SLOT};
 use records::SCRIPT_WIDTH;
 use scope::DEPTH_LIMIT;
 use types::TYPE_WIDTH;
@@ -32,9 +33,10 @@ fn operand_end(s: &[u8], o: usize, j: usize, i: usize) -> usize
     ensures { (e : Term) → At s.now i e → result ≡ i + size e }
 {
     if j == o {
-        return records::record_count(s);
+        records::record_count(s)
+    } else {
+        records::end_of(s, i)
     }
-    records::end_of(s, i)
 }
 
 // The part of an operand, from its record i to its end.
@@ -53,74 +55,65 @@ fn operand(s: &[u8], i: usize, end: usize) -> &[u8]
 fn kept_between(o: usize) -> usize
     ensures { result ≡ kept_between o }
 {
-    if o == 2 {
-        return SECOND_PART;
-    }
-    0
+    if o == 2 { SECOND_PART } else { 0 }
 }
 
 // The type of the node whose part of the script is s, whose record is record `place` of the script, under b binders: operands
 // first, left to right, with `inference`'s questions where the document has them. The work buffer's rest, from its middle, is
 // lent on for the operands' types.
-fn type_node(groups: &[u8], types: &[u8], s: &[u8], place: usize, b: usize, w: &mut [u8]) -> Found
+fn type_node(
+    groups: &[u8],
+    types: &[u8],
+    s: &[u8],
+    place: usize,
+    b: usize,
+    w: &mut [u8],
+) -> Result<usize, Refusal>
     requires { Ready types.now s.now place b w.old }
     ensures { (v : Ready types.now s.now place b w.old)
         → Meets (typing (properties_of groups.now) (type_at types.now) v.ctx place v.tree) b
         w.old result w.new }
 {
-    let k = records::kind(s, 0);
-    let o = records::arity(k);
+    let kind = records::kind_of(s, 0);
+    let o = kind.arity();
     if o == 0 {
         return inference::leaf(s, b, w);
     }
-    let asked = inference::before_operands(groups, types, s, place, b, w);
-    let Checked::Passed = asked else {
-        return inference::refused(asked);
-    };
-    let c = b + records::binders(k, 0);
+    inference::before_operands(groups, types, s, place, b, w)?;
+    let c = b + kind.binders(0);
     let i2 = operand_end(s, o, 1, 1);
     let low = inference::kept_front(s);
     let first = operand(s, 1, i2);
-    let x1 = type_node(groups, types, first, place + 1, c, &mut w[low..]);
-    let Found::Typed(n) = x1 else {
-        return x1;
-    };
+    let n = type_node(groups, types, first, place + 1, c, &mut w[low..])?;
     if o == 1 {
         return inference::after_one(groups, types, s, place, w, n);
     }
     let tested = types::property(w);
-    let read = inference::between(groups, s, place, b, w, n);
-    let Checked::Passed = read else {
-        return inference::refused(read);
-    };
-    let c2 = b + records::binders(k, 1);
+    inference::between(groups, s, place, b, w, n)?;
+    let c2 = b + kind.binders(1);
     let i3 = operand_end(s, o, 2, i2);
     let mid = kept_between(o);
     let second = operand(s, i2, i3);
-    let x2 = type_node(groups, types, second, place + i2, c2, &mut w[mid..]);
-    let Found::Typed(m) = x2 else {
-        return x2;
-    };
+    let m = type_node(groups, types, second, place + i2, c2, &mut w[mid..])?;
     if o == 2 {
         return inference::after_two(groups, s, place, w, n, m);
     }
-    let fits = inference::after_first_branch(groups, types, s, place, b, w);
-    let Checked::Passed = fits else {
-        return inference::refused(fits);
-    };
+    inference::after_first_branch(groups, types, s, place, b, w)?;
     let end = operand_end(s, o, 3, i3);
     let past = inference::kept_branch(s);
     let third = operand(s, i3, end);
-    let x3 = type_node(groups, types, third, place + i3, c2, &mut w[past..]);
-    let Found::Typed(_) = x3 else {
-        return x3;
-    };
+    type_node(groups, types, third, place + i3, c2, &mut w[past..])?;
     let by = tested.influence(groups, records::reader(s, 0));
     inference::after_second_branch(groups, types, s, place, by, w)
 }
 
 // Questions 20 to 24 and 31 of a script that has passed 2 to 19 and 36: the type is left in front of the work buffer.
-pub fn type_script(groups: &[u8], types: &[u8], script: &[u8], work: &mut [u8]) -> Found
+pub fn type_script(
+    groups: &[u8],
+    types: &[u8],
+    script: &[u8],
+    work: &mut [u8],
+) -> Result<usize, Refusal>
     requires { (script_check [] groups.now types.now script.now ≡ accepted tt) × (work_length ≤ length work.old) }
     ensures { Meets
         (typing (properties_of groups.now) (type_at types.now) [] 0 (term script.now)) 0
@@ -130,15 +123,14 @@ pub fn type_script(groups: &[u8], types: &[u8], script: &[u8], work: &mut [u8]) 
 }
 
 // The found type to the front of the answer buffer, if there is one.
-fn hand_over(x: Found, work: &[u8], answer: &mut [u8])
+fn hand_over(x: Result<usize, Refusal>, work: &[u8], answer: &mut [u8])
     requires { Answers x work.now × (answer_length ≤ length answer.old) }
     ensures { (v : Answers x work.now)
         → answer.new ≡ answer_after v.answer answer.old }
 {
-    let Found::Typed(n) = x else {
-        return;
-    };
-    memory::copy(work, TYPE_WIDTH * n, answer, 0);
+    if let Ok(n) = x {
+        memory::copy(work, TYPE_WIDTH * n, answer, 0);
+    }
 }
 
 // Checking: questions 1 to 24, 31 and 36. The type is written to the answer buffer's front, and the work buffer is left all zeros once
@@ -149,7 +141,7 @@ pub fn checking(
     script: &[u8],
     work: &mut [u8],
     answer: &mut [u8],
-) -> Found
+) -> Result<usize, Refusal>
     ensures { (said result ≡ type_records (checking (length work.old) (length answer.old)
         groups.now types.now script.now))
         × (work.new ≡ work_after (checking (length work.old) (length answer.old)
@@ -160,16 +152,9 @@ pub fn checking(
         → Judged groups.now types.now script.now answer.old (said result)
         answer.new) }
 {
-    if work.len() < WORK_LENGTH {
-        return Found::Refused(1, 0);
-    }
-    if answer.len() < SLOT {
-        return Found::Refused(1, 0);
-    }
-    let asked = syntax::script_check(groups, types, script);
-    let Checked::Passed = asked else {
-        return inference::refused(asked);
-    };
+    let fits = (WORK_LENGTH <= work.len()) & (SLOT <= answer.len());
+    answer::ask(Question::BufferLengths, 0, fits)?;
+    syntax::script_check(groups, types, script, &[])?;
     let x = type_script(groups, types, script, work);
     hand_over(x, work, answer);
     memory::clear(work);

@@ -10,27 +10,13 @@ ghost use Rattle.rules.specs.Limits.{work_length, answer_length};
 ghost use Rattle.rules.specs.Calls.{checking, type_records, work_after, answer_after};
 ghost use Rattle.rules.specs.Calls.{running, run_report, first_after, scratch_after, sheeting, sheet_records, sheet_after};
 ghost use Rattle.rules.specs.Reach.{Accepted};
-ghost use Rattle.typing.specs.Said.{said};
 ghost use Rattle.typing.specs.Judged.{Judged};
 ghost use Rattle.evaluation.specs.Runs.{said_run};
-ghost use Rattle.sheet.specs.Said.{said_sheet};
-ghost use Rattle.packing.specs.Packed.{packed, unpacked, run_ended, steps_after, Bounded, RunCounted};
+ghost use Rattle.packing.specs.Packed.{packed, unpacked, run_ended, steps_after, RunCounted};
 ghost use Rattle.wigneld.specs.Exported.{steps_told, Demanded};
 
-use evaluation::RunAnswer;
-use inference::Found;
-use sheet::Sheet;
-
-// A found type's record count, or the refusal.
-fn found(a: Found) -> u64
-    requires { Bounded (said a) }
-    ensures { result ≡ packed (said a) }
-{
-    match a {
-        Found::Typed(count) => count as u64,
-        Found::Refused(question, place) => packing::refusal(question, place),
-    }
-}
+use answer::Refusal;
+use evaluation::Halt;
 
 // Checking: questions 1 to 24, 31 and 36. The last clause is demand 2, of the answer that a caller reads off the number.
 #[unsafe(no_mangle)]
@@ -51,21 +37,21 @@ pub extern "C" fn wigneld_check(
         → Judged groups.now types.now script.now answer.old (unpacked result)
         answer.new) }
 {
-    found(typing::checking(groups, types, script, work, answer))
+    packing::answer(typing::checking(groups, types, script, work, answer))
 }
 
 // A run's end and record count, with its steps written apart, or the refusal, with nothing written.
-fn ran(a: RunAnswer, steps: &mut [u8]) -> u64
+fn ran(a: Result<Halt, Refusal>, steps: &mut [u8]) -> u64
     requires { RunCounted (said_run a) }
     ensures { (result ≡ packed (run_ended (said_run a)))
         × (steps.new ≡ steps_told (said_run a) steps.old) }
 {
     match a {
-        RunAnswer::Ended(end, made, count) => {
-            packing::put_steps(made, steps);
-            packing::end_and_count(end, count)
+        Ok(halt) => {
+            packing::put_steps(halt.steps, steps);
+            packing::end_and_count(reduction::end_number(halt.stop), halt.records)
         }
-        RunAnswer::Refused(question, place) => packing::refusal(question, place),
+        Err(refusal) => packing::refusal(refusal),
     }
 }
 
@@ -100,17 +86,6 @@ pub extern "C" fn wigneld_run(
     )
 }
 
-// A sheet's record count, or the refusal.
-fn shown(a: Sheet) -> u64
-    requires { Bounded (said_sheet a) }
-    ensures { result ≡ packed (said_sheet a) }
-{
-    match a {
-        Sheet::Written(count) => count as u64,
-        Sheet::Refused(question, place) => packing::refusal(question, place),
-    }
-}
-
 // The sheet of a value for a reader group: questions 2 to 19, 36, 25, 26 and 27.
 #[unsafe(no_mangle)]
 pub extern "C" fn wigneld_sheet(
@@ -125,5 +100,5 @@ pub extern "C" fn wigneld_sheet(
         × (sheet.new ≡ sheet_after (sheeting groups.now types.now value.now
         group (length sheet.old)) sheet.old) }
 {
-    shown(sheet::page(groups, types, value, group, sheet))
+    packing::answer(sheet::page(groups, types, value, group, sheet))
 }

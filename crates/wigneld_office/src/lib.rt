@@ -10,26 +10,24 @@ ghost use Rattle.rules.specs.Callers.{write_callers, callers_written};
 ghost use Rattle.rules.specs.Calls.{comparing};
 ghost use Rattle.rules.specs.Rewriting.{rewriting_types, rewriting_script, rewritten_records, rewritten_after};
 ghost use Rattle.types_table.specs.Answered.{answered};
-ghost use Rattle.rewriting.specs.Said.{said_rewrote};
 ghost use Rattle.packing.specs.Packed.{packed, compared, Bounded};
 
-use rewriting::Rewrote;
-use types_table::CompareAnswer;
+use answer::Refusal;
+use types_table::Comparison;
 
 // A comparison's number, or the refusal.
-fn compared(a: CompareAnswer) -> u64
+fn compared(a: Result<Comparison, Refusal>) -> u64
     requires { Bounded (answered a) }
     ensures { result ≡ packed (compared (answered a)) }
 {
     match a {
-        CompareAnswer::Neither => 0,
-        CompareAnswer::Below => 1,
-        CompareAnswer::Same => 2,
-        CompareAnswer::Refused(question, place) => packing::refusal(question, place),
+        Ok(comparison) => u64::from(comparison.number()),
+        Err(refusal) => packing::refusal(refusal),
     }
 }
 
 // Is the first type the same as the second, below it, or neither? Questions 2 to 12, 36 and 25.
+#[tactic(auto, using(packing::proofs::Bounds::compare_bounded))]
 #[unsafe(no_mangle)]
 pub extern "C" fn wigneld_compare(groups: &[u8], types: &[u8], first: u64, second: u64) -> u64
     ensures { result ≡ packed (compared (comparing groups.now types.now first second)) }
@@ -47,19 +45,9 @@ pub extern "C" fn wigneld_write_callers(types: &[u8], script: &mut [u8]) -> u64
     rewriting::write_callers(types, script)
 }
 
-// How many records a rewriting wrote, or the refusal.
-fn rewrote(a: Rewrote) -> u64
-    requires { Bounded (said_rewrote a) }
-    ensures { result ≡ packed (said_rewrote a) }
-{
-    match a {
-        Rewrote::Records(count) => count as u64,
-        Rewrote::Refused(question, place) => packing::refusal(question, place),
-    }
-}
-
 // A types table of 4-byte records with c and ic as group 0, to the front of `rewritten`: questions 2 to 12 and 27.
 // Group 0 passes 36.
+#[tactic(auto, using(packing::proofs::Bounds::rewriting_types_bounded, packing::proofs::Exported::rewritten_bounded))]
 #[unsafe(no_mangle)]
 pub extern "C" fn wigneld_rewrite_types(groups: &[u8], types: &[u8], rewritten: &mut [u8]) -> u64
     ensures { (result ≡ packed (rewritten_records type_width
@@ -67,10 +55,11 @@ pub extern "C" fn wigneld_rewrite_types(groups: &[u8], types: &[u8], rewritten: 
         × (rewritten.new ≡ rewritten_after
         (rewriting_types groups.now types.now (length rewritten.old)) rewritten.old) }
 {
-    rewrote(rewriting::rewrite_types(groups, types, rewritten))
+    packing::answer(rewriting::rewrite_types(groups, types, rewritten))
 }
 
 // A script of 6-byte records over a types table of 4-byte records, likewise: questions 2 to 19 and 27.
+#[tactic(auto, using(packing::proofs::Bounds::rewriting_script_bounded, packing::proofs::Exported::rewritten_bounded))]
 #[unsafe(no_mangle)]
 pub extern "C" fn wigneld_rewrite_script(
     groups: &[u8],
@@ -84,5 +73,5 @@ pub extern "C" fn wigneld_rewrite_script(
         (rewriting_script groups.now types.now script.now (length rewritten.old))
         rewritten.old) }
 {
-    rewrote(rewriting::rewrite_script(groups, types, script, rewritten))
+    packing::answer(rewriting::rewrite_script(groups, types, script, rewritten))
 }

@@ -1,7 +1,5 @@
 -- Six byte strings over a table of zeros are our words.
-use mathlib.Core.Path.{◌≡◌, ap, ◌∙◌}
-use Prim.Native.Nat.{ℕ}
-use lib.ListN.{length, replicate}
+use Rattle.std.proofs.Common.{◌≡◌, ap, ◌∙◌, ℕ, length, replicate}
 use Rattle.memory.specs.Splice.{splice}
 use Rattle.rules.specs.Answer.{Bytes}
 use Rattle.rules.specs.Limits.{words_length}

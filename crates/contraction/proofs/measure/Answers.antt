@@ -1,8 +1,6 @@
-use mathlib.Core.Path.{◌≡◌, sym, ◌∙◌}
-use mathlib.Core.Path.{subst as transport}
-use native.Mathlib.Omega.{arith}
+use Rattle.std.proofs.Common.{◌≡◌, sym, ◌∙◌, arith, ℕ, ◌+◌, ◌≤◌}
+use Rattle.std.proofs.Common.{subst as transport}
 use Rattle.calculus.specs.Terms.{Term}
-use Prim.Native.Nat.{ℕ, ◌+◌, ◌≤◌}
 use Rattle.rules.specs.Answer.{Bytes}
 use Rattle.rules.specs.Limits.{script_limit, depth_limit}
 use Rattle.rules.specs.Script.{size, depth}
@@ -72,11 +70,8 @@ measure_body-requires c = body_ready c.requires c.in-Body.is
 pub overflow_add-at : goal.overflow_add-at
 overflow_add-at c = omega (arith, there _ _ _ (lifted c.requires c.in-Raised.is).stands)
 
-pub measure_raised-requires : goal.measure_raised-requires
-measure_raised-requires c = lift_ready c.requires c.in-Raised.is
-
-pub measure_unrolled-requires : goal.measure_unrolled-requires
-measure_unrolled-requires c = roll_ready c.requires c.in-Unrolled.is
+pub extent_at-requires : goal.extent_at-requires
+extent_at-requires c = lift_ready c.requires c.in-Raised.is
 
 pub returns-in-Part : goal.returns-in-Part
 returns-in-Part c q S tab =
@@ -91,7 +86,7 @@ returns-in-Body c q S tab =
 pub returns-in-Raised : goal.returns-in-Raised
 returns-in-Raised c q S tab =
     let p = lifted q c.in-Raised.is in
-    let m = c.measure_raised.ensures (lift_ready q c.in-Raised.is) in
+    let m = c.extent_at.ensures p.value p.stands in
     let z = raise_size S p.value (influence_of q.tree) in
     counted (p.is S tab) (record { records = m.records ∙ sym z.0; deep = m.deep ∙ sym z.1 })
 

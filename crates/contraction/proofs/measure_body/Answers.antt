@@ -1,5 +1,4 @@
-use native.Mathlib.Omega.{arith}
-use Prim.Native.Nat.{ℕ, ◌≤◌}
+use Rattle.std.proofs.Common.{arith, ℕ, ◌≤◌}
 use Rattle.calculus.specs.Terms.{subst}
 use Rattle.rules.specs.Answer.{Bytes}
 use Rattle.rules.specs.Script.{size}
@@ -14,20 +13,20 @@ few_of q = few q.value q.body (omega (arith, q.small)) (omega (arith, q.small))
 pub overflow_add-result : goal.overflow_add-result
 overflow_add-result c =
     let q = c.requires in
-    let v = c.extent_at-v.ensures q.value q.at_value in
-    let e = c.measure-e.ensures q.body q.value q.at_body v.records v.deep in
+    let v = c.extent_at.ensures q.value q.at_value in
+    let e = c.measure.ensures q.body q.value q.at_body v.records v.deep in
     omega (arith, e.records, few_of q)
 
 pub overflow_add-result-2 : goal.overflow_add-result-2
 overflow_add-result-2 c =
     let q = c.requires in
-    let v = c.extent_at-v.ensures q.value q.at_value in
-    let e = c.measure-e.ensures q.body q.value q.at_body v.records v.deep in
+    let v = c.extent_at.ensures q.value q.at_value in
+    let e = c.measure.ensures q.body q.value q.at_body v.records v.deep in
     omega (arith, e.deep, few_of q, depth_size (subst 0 q.value q.body))
 
 pub returns : goal.returns
 returns c q m =
-    let v = c.extent_at-v.ensures q.value q.at_value in
-    let e = c.measure-e.ensures q.body q.value q.at_body v.records v.deep in
+    let v = c.extent_at.ensures q.value q.at_value in
+    let e = c.measure.ensures q.body q.value q.at_body v.records v.deep in
     let z = protect_size m (subst 0 q.value q.body) in
     record { records = omega (arith, e.records, z.0); deep = omega (arith, e.deep, z.1) }

@@ -1,6 +1,4 @@
-use native.Mathlib.Omega.{arith}
-use Prim.Native.Nat.{ℕ, ◌+◌}
-use mathlib.Core.List.{[]}
+use Rattle.std.proofs.Common.{arith, ℕ, ◌+◌, []}
 use Rattle.calculus.specs.Types.{top}
 use Rattle.calculus.specs.Terms.{mu}
 use Rattle.calculus.specs.Reduction.{unrolled}
@@ -20,10 +18,10 @@ body_at q = at_first _ _ _ q.stands (omega arith)
 pub overflow_add-at : goal.overflow_add-at
 overflow_add-at c = omega (arith, there _ _ _ (body_at c.requires))
 
-pub measure-e-requires : goal.measure-e-requires
-measure-e-requires c =
+pub measure-requires : goal.measure-requires
+measure-requires c =
     let q = c.requires in
-    let x = c.extent_at-v.ensures _ q.stands in
+    let x = c.extent_at.ensures _ q.stands in
     let n = unrolled_size (properties_of []) q.label q.type public q.body in
     let b = body_size q.label q.type q.body in
     record {
@@ -40,8 +38,8 @@ measure-e-requires c =
 pub returns : goal.returns
 unfolding contractum
 returns c q S tab =
-    let x = c.extent_at-v.ensures (mu q.label q.type q.body) q.stands in
+    let x = c.extent_at.ensures (mu q.label q.type q.body) q.stands in
     let n = unrolled_size S q.label q.type (top (tab q.type)) q.body in
-    let m = c.measure-e.ensures q.body (unrolled S q.label q.type (top (tab q.type)) q.body) (body_at q) (omega (arith, x.records, n.0))
+    let m = c.measure.ensures q.body (unrolled S q.label q.type (top (tab q.type)) q.body) (body_at q) (omega (arith, x.records, n.0))
     (omega (arith, x.deep, n.1)) in
     record { records = m.records; deep = m.deep }

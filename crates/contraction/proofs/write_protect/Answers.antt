@@ -1,4 +1,4 @@
-use mathlib.Core.Path.{ap₂, ◌∙◌}
+use Rattle.std.proofs.Common.{ap₂, ◌∙◌}
 use Rattle.rules.specs.Groups.{properties_of}
 use Rattle.contraction.proofs.Plans.{protect_told}
 use Rattle.contraction.proofs.write_protect.Goals as goal

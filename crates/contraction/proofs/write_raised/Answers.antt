@@ -1,6 +1,4 @@
-use mathlib.Core.Path.{ap₂, ◌∙◌}
-use Prim.Native.Nat.{◌+◌, ◌*◌, ◌-◌}
-use native.Mathlib.Omega.{arith}
+use Rattle.std.proofs.Common.{ap₂, ◌∙◌, ◌+◌, ◌*◌, ◌-◌, arith}
 use Rattle.rules.specs.Limits.{script_width}
 use Rattle.rules.specs.Groups.{properties_of}
 use Rattle.lattice.specs.Said.{said_property}
@@ -18,9 +16,6 @@ influence-by-requires c = omega (arith, there _ _ _ c.requires.stands)
 
 pub property-requires : goal.property-requires
 property-requires c = there _ _ _ c.requires.stands
-
-pub kind-requires : goal.kind-requires
-kind-requires c = there _ _ _ c.requires.stands
 
 pub number-requires : goal.number-requires
 number-requires c = there _ _ _ c.requires.stands
@@ -51,7 +46,7 @@ returns c q =
     let S = properties_of c.args.groups.now in
     let from = script_width * (c.args.at + 1) + script_width in
     raise_placed S q.stands (influence_at c.args.script.now c.args.at) _ (said_property c.raised-raised.result) _ c.args.start _ c.args.written.now _ _ q.is_one
-    c.kind.ensures
+    c.kind_of.ensures
     (c.raised-raised.ensures ∙ ap₂ S.raise c.property.ensures c.influence-by.ensures)
     c.number.ensures
     (operand_bytes q.stands from (script_width * c.end_of-end.result - from) (omega arith)

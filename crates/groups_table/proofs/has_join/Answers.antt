@@ -1,6 +1,5 @@
 -- The common bits as one word, and the row of the lowest as another.
-use Rattle.std.proofs.Common.{ap, ◌∙◌, eq-eqb, arith}
-use mathlib.Core.Bool.{not}
+use Rattle.std.proofs.Common.{ap, ◌∙◌, eq-eqb, arith, not}
 use Rattle.groups_table.proofs.Rows.{common_none, common_row}
 use Rattle.groups_table.proofs.has_join.Goals as goal
 

@@ -8,5 +8,5 @@ pub returns : goal.returns
 unfolding ok3 first_from
 returns c =
     let t = c.args.groups.now in
-    rw (c.wide.ensures, c.row_count.ensures, c.row.ensures)
+    rw (c.from.ensures, c.row_count.ensures, c.row.ensures)
     (bits_below (row t c.args.g) (rows t) (omega arith) (omega arith))

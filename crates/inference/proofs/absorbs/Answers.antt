@@ -1,5 +1,5 @@
 -- Both properties are read from the type.
-use mathlib.Core.Path.{ap, ◌∙◌}
+use Rattle.std.proofs.Common.{ap, ◌∙◌}
 use Rattle.calculus.specs.Security.{Property, Security}
 use Rattle.calculus.specs.Types.{top}
 use Rattle.rules.specs.Groups.{properties_of}
@@ -9,7 +9,7 @@ use Rattle.inference.proofs.absorbs.Goals as goal
 
 pub property-result-requires : goal.property-result-requires
 property-result-requires c = let q = c.requires in
-    record { type = right q.type; held = c.side.ensures q.type q.held }
+    record { type = right q.type; held = c.side_of.ensures q.type q.held }
 
 pub returns : goal.returns
 returns c = λ t h.
@@ -17,4 +17,4 @@ returns c = λ t h.
     let S : Security = properties_of a.groups.now in
     let w = a.caller.0 in
     c.absorbed_by.ensures ∙ ap (λ (k : Property). S.absorbs k w (said_property c.property-result.result)) (c.property-own.ensures t h)
-    ∙ ap (λ (k : Property). S.absorbs (top t) w k) (c.property-result.ensures (right t) (c.side.ensures t h))
+    ∙ ap (λ (k : Property). S.absorbs (top t) w k) (c.property-result.ensures (right t) (c.side_of.ensures t h))

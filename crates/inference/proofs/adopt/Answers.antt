@@ -1,17 +1,16 @@
--- Where question 22 is answered yes, the named type is copied to the front.
-use mathlib.Core.Path.{refl, sym, ◌∙◌}
-use Rattle.rules.specs.Groups.{properties_of}
-use Rattle.inference.specs.Memory.{finds, refuses}
+-- Where question 22 is answered yes, the type of t is copied to the front.
+use Rattle.std.proofs.Common.{refl, ap, ◌∙◌}
+use Rattle.rules.specs.Answer.{ask, accepted}
+use Rattle.inference.specs.Memory.{finds}
 use Rattle.inference.proofs.Regions.{wrote_first}
-use Rattle.inference.proofs.Rules.{wanting_yes, wanting_no, meets_of}
+use Rattle.inference.proofs.Rules.{passed, stopped}
 use Rattle.inference.proofs.adopt.Goals as goal
 
-pub returns-then-wanted : goal.returns-then-wanted
-returns-then-wanted c t u b h p l =
-    let m = c.copy_named-n.ensures u p.held in
-    meets_of (wanting_yes (properties_of c.args.groups.now) c.args.place t u u (sym c.if-wanted.true ∙ c.wanted.ensures t u h p.held))
-    (finds (wrote_first m.0 p.small refl l m.1))
+pub returns-in_err-ask : goal.returns-in_err-ask
+returns-in_err-ask c v u b h p l =
+    stopped (accepted u) _ (c.in_err-ask.ensures ∙ ap (ask 22 c.args.place) (c.is_subtype.ensures v u h p.held)) c.from_residual.ensures.1
 
 pub returns : goal.returns
-returns c t u b h p l =
-    meets_of (wanting_no (properties_of c.args.groups.now) c.args.place t u u (sym c.if-wanted.false ∙ c.wanted.ensures t u h p.held)) refuses
+returns c v u b h p l =
+    let m = c.copy_type.ensures u p.held in
+    passed (c.in_ok-ask.ensures ∙ ap (ask 22 c.args.place) (c.is_subtype.ensures v u h p.held)) (finds (wrote_first m.0 p.small refl l m.1))

@@ -1,9 +1,5 @@
 -- The slot's two sides stand one after the other, and the right one is moved to its start.
-use mathlib.Core.Path.{◌≡◌, refl, sym, ap, ◌∙◌, subst}
-use Prim.Native.Nat.{ℕ, ◌+◌, ◌-◌, ◌*◌}
-use native.Mathlib.Omega.{arith}
-use lib.ListN.{length, take, drop}
-use lib.Seq.{drop-drop}
+use Rattle.std.proofs.Common.{◌≡◌, refl, sym, ap, ◌∙◌, subst, ℕ, ◌+◌, ◌-◌, ◌*◌, arith, length, take, drop, drop-drop}
 use Rattle.calculus.specs.Types.{Ty, size_t}
 use Rattle.rules.specs.Answer.{Bytes}
 use Rattle.rules.specs.Limits.{type_width, answer_length}

@@ -1,7 +1,5 @@
 -- The result type is raised in place.
-use mathlib.Core.Path.{◌≡◌, ap, ◌∙◌}
-use Prim.Native.Nat.{ℕ}
-use native.Mathlib.Omega.{arith}
+use Rattle.std.proofs.Common.{◌≡◌, ℕ, ap, ◌∙◌, arith}
 use Rattle.calculus.specs.Security.{Indirect, Security}
 use Rattle.calculus.specs.Types.{Ty, raise_t}
 use Rattle.rules.specs.Answer.{Bytes, Answer, accepted, ◌>>=◌ as bind}
@@ -21,22 +19,21 @@ raised : {types s w : Bytes} (v : Branches types s w) (S : Security) (place : �
 raised {types} {s} v S place by e =
     case_raises S place (type_at types) (number s 0) v.first v.second by ∙ ap (λ a. bind a (λ r. accepted (raise_t S r by))) e
 
-pub returns-in_default : goal.returns-in_default
-returns-in_default c v b l =
-    let z = refused_as c.in_default.not-Typed (c.result_type-x.ensures v b l) in
-    refused_meets (raised v (properties_of c.args.groups.now) c.args.place (said_influence c.args.by) z.2) z.3
+pub returns-in_err-n : goal.returns-in_err-n
+returns-in_err-n c v b l =
+    refused_meets _ (raised v (properties_of c.args.groups.now) c.args.place (said_influence c.args.by) (refused_as (c.in_err-n.ensures v b l))) c.from_residual.ensures.1
 
 pub raise-requires : goal.raise-requires
 raise-requires c =
     let v = c.requires in
-    let z = typed_as c.in-Typed.is (c.result_type-x.ensures v 0 (omega (arith, v.room))) in
+    let z = typed_as (c.in_ok-n.ensures v 0 (omega (arith, v.room))) in
     record { type = z.type; held = z.wrote.sized.held }
 
 pub returns : goal.returns
 returns c v b l =
-    let y = typed_as c.in-Typed.is (c.result_type-x.ensures v b l) in
+    let y = typed_as (c.in_ok-n.ensures v b l) in
     let S = properties_of c.args.groups.now in
     let by = said_influence c.args.by in
     meets_of (raised v S c.args.place by y.is)
     (finds
-    (raise_wrote S by y.wrote (c.raise.ensures.0 y.type y.wrote.sized.held) c.raise.ensures.1 (omega (arith, c.result_type-x.auto.w))))
+    (raise_wrote S by y.wrote (c.raise.ensures.0 y.type y.wrote.sized.held) c.raise.ensures.1 (omega (arith, c.result_type.auto.w))))

@@ -4,7 +4,7 @@ use Rattle.inference.proofs.argument_fits.Goals as goal
 
 pub is_subtype-requires : goal.is_subtype-requires
 is_subtype-requires c = let p = c.requires in
-    (rw to_end p.1.0, record { type = left p.0.type; held = c.side.ensures p.0.type p.0.held })
+    (rw to_end p.1.0, record { type = left p.0.type; held = c.side_of.ensures p.0.type p.0.held })
 
 pub returns : goal.returns
-returns c = λ s t h k. c.is_subtype.ensures t (left s) (rw to_end k) (c.side.ensures s h)
+returns c = λ s t h k. c.is_subtype.ensures t (left s) (rw to_end k) (c.side_of.ensures s h)

@@ -1,23 +1,21 @@
 -- A function and a recursion bind the named type, and the questions are a recursion's.
-use mathlib.Core.Path.{◌≡◌, refl, sym, ap, ◌∙◌}
-use Prim.Native.Nat.{ℕ, ◌+◌, ◌*◌, ◌≤◌, ◌<◌}
-use native.Mathlib.Omega.{arith}
-use lib.ListN.{length}
+use Rattle.std.proofs.Common.{◌≡◌, ℕ, ◌+◌, ◌*◌, ◌≤◌, ◌<◌, length, sym, ap, ◌∙◌, subst, arith}
 use Rattle.calculus.specs.Security.{Security}
-use Rattle.calculus.specs.Types.{function}
 use Rattle.calculus.specs.Terms.{Term}
 use Rattle.rules.specs.Limits.{answer_length}
 use Rattle.rules.specs.Answer.{Bytes}
 use Rattle.rules.specs.Groups.{properties_of}
 use Rattle.rules.specs.Script.{kind, number}
+use Rattle.calculus.specs.Types.{function}
 use Rattle.rules.specs.Types.{former_kind, type_at, type_count, type_kind}
+use Rattle.records.specs.Kinds as kinds
 use Rattle.records.specs.Labels.{property_at}
 use Rattle.inference.specs.Memory.{Ready}
 use Rattle.inference.specs.Stages.{may_recur, before_first, first_context}
 use Rattle.inference.proofs.Regions.{stayed}
-use Rattle.inference.proofs.Shapes.{long, plain, labelled, of_fields, depth_positive, kind_function, kind_recursion}
+use Rattle.inference.proofs.Shapes.{long, Plain, plain, labelled, of_kind, depth_positive}
 use Rattle.inference.proofs.Rules.{enters_as}
-use Rattle.inference.proofs.Names.{named, named_sided, lam_index, mu_index}
+use Rattle.inference.proofs.Names.{within, named_slot, named, named_sided, lam_index, mu_index}
 use Rattle.inference.proofs.before_operands.Goals as goal
 
 module _ {types s : Bytes} {place b : ℕ} {w : Bytes} (v : Ready types s place b w) where
@@ -33,68 +31,66 @@ module _ {types s : Bytes} {place b : ℕ} {w : Bytes} (v : Ready types s place 
     context : first_context (type_at types) v.ctx v.tree ≡ first_context (type_at types) v.ctx e
     context = ap (first_context (type_at types) v.ctx) q
 
-  -- its form, and the type that it names
-  module _ {k i : ℕ} (f : k ≡ kind s 0) (g : i ≡ number s 0) where
-    shape : {j : ℕ} → k ≡ j → v.tree ≡ labelled j (property_at s 0) i v.tree
-    shape {j} q = of_fields s v.tree j v.is (sym f ∙ q) refl g
+  -- its form
+  shape : {k : ℕ} → k ≡ kind s 0 → v.tree ≡ labelled k (property_at s 0) (number s 0) v.tree
+  shape {k} f = of_kind s v.tree k v.is f
 
-    function_index : k ≡ kind_function → i < type_count types
-    function_index q = lam_index types b i v.tree v.formed (shape q)
+  -- the number of a function's or a recursion's record
+  function_index : kinds.function ≡ kind s 0 → number s 0 < type_count types
+  function_index f = lam_index types b _ v.tree v.formed (shape f)
 
-    recursion_index : k ≡ kind_recursion → (i < type_count types) × (type_kind types i ≡ former_kind function)
-    recursion_index q = mu_index types b i v.tree v.formed (shape q)
+  recursion_index : kinds.recursion ≡ kind s 0 → (number s 0 < type_count types) × (type_kind types (number s 0) ≡ former_kind function)
+  recursion_index f = mu_index types b _ v.tree v.formed (shape f)
 
-pub kind-k-requires : goal.kind-k-requires
-kind-k-requires c = omega (arith, long c.requires.tree c.requires.is)
-
-pub index-i-requires : goal.index-i-requires
-index-i-requires c = long c.requires.tree c.requires.is
+pub named-requires : goal.named-requires
+named-requires c =
+    let v = c.requires in
+    (long v.tree v.is, within _ _ (function_index v c.in-Function.ensures))
 
 pub bind-requires : goal.bind-requires
 bind-requires c =
     let v = c.requires in
-    (named v.table (function_index v c.kind-k.ensures c.index-i.ensures c.if-k-eq-FUNCTION.true), level v)
+    (named v.table (function_index v c.in-Function.ensures) c.named.ensures, level v)
 
-pub returns-then-k-eq-FUNCTION : goal.returns-then-k-eq-FUNCTION
+pub returns-in-Function : goal.returns-in-Function
 unfolding before_first first_context
-returns-then-k-eq-FUNCTION c v =
-    let f = c.kind-k.ensures in
-    let g = c.index-i.ensures in
-    let q = c.if-k-eq-FUNCTION.true in
-    let e = shape v f g q in
+returns-in-Function c v =
+    let e = shape v c.in-Function.ensures in
     enters_as (sym (asks v e (properties_of c.args.groups.now))) (context v e)
-    (c.bind.ensures v.ctx _ (v.table.entry _ (function_index v f g q)) v.binders v.holds)
+    (c.bind.ensures v.ctx _ (named_slot v.table (function_index v c.in-Function.ensures) c.named.ensures) v.binders v.holds)
 
-pub reader-requires : goal.reader-requires
-reader-requires c = omega (arith, long c.requires.tree c.requires.is)
+pub named-t-requires : goal.named-t-requires
+named-t-requires c =
+    let v = c.requires in
+    (long v.tree v.is, within _ _ (recursion_index v c.in-Recursion.ensures).0)
 
 pub may_recur-asked-requires : goal.may_recur-asked-requires
 may_recur-asked-requires c =
     let v = c.requires in
-    let m = recursion_index v c.kind-k.ensures c.index-i.ensures c.if-k-eq-RECURSION.true in
-    named_sided v.table m.0 m.1
+    let m = recursion_index v c.in-Recursion.ensures in
+    let p = named_sided v.table m.0 m.1 c.named-t.ensures in
+    record { type = p.type; held = p.slot.held; two = p.two }
 
-pub bind-requires-then-k-eq-RECURSION : goal.bind-requires-then-k-eq-RECURSION
-bind-requires-then-k-eq-RECURSION c =
+pub bind-requires-in-Recursion : goal.bind-requires-in-Recursion
+bind-requires-in-Recursion c =
     let v = c.requires in
-    (named v.table (recursion_index v c.kind-k.ensures c.index-i.ensures c.if-k-eq-RECURSION.true).0, level v)
+    (named v.table (recursion_index v c.in-Recursion.ensures).0 c.named-t.ensures, level v)
 
-pub returns-then-k-eq-RECURSION : goal.returns-then-k-eq-RECURSION
+pub returns-in-Recursion : goal.returns-in-Recursion
 unfolding first_context before_first
-returns-then-k-eq-RECURSION c v =
-    let f = c.kind-k.ensures in
-    let g = c.index-i.ensures in
-    let q = c.if-k-eq-RECURSION.true in
-    let e = shape v f g q in
-    let t = type_at c.args.types.now c.index-i.result in
-    let h = v.table.entry c.index-i.result (recursion_index v f g q).0 in
+returns-in-Recursion c v =
+    let e = shape v c.in-Recursion.ensures in
+    let t = type_at c.args.types.now (number c.args.s.now 0) in
+    let h = named_slot v.table (recursion_index v c.in-Recursion.ensures).0 c.named-t.ensures in
     let S = properties_of c.args.groups.now in
     enters_as
     (c.may_recur-asked.ensures t h.held ∙ ap (may_recur S c.args.place t) c.reader.ensures ∙ sym (asks v e S)) (context v e)
-    (c.bind-then-k-eq-RECURSION.ensures v.ctx t h v.binders v.holds)
+    (c.bind-in-Recursion.ensures v.ctx t h v.binders v.holds)
 
-pub returns : goal.returns
-returns c v =
-    let k = c.kind-k.ensures in
-    let p = plain _ _ v.ctx c.args.place v.tree v.is (λ z. c.if-k-eq-FUNCTION.false (k ∙ z)) (λ z. c.if-k-eq-RECURSION.false (k ∙ z)) in
+pub returns-in_default : goal.returns-in_default
+returns-in_default c v =
+    let S = properties_of c.args.groups.now in
+    let tab = type_at c.args.types.now in
+    let e = shape v c.kind_of.ensures in
+    let p : Plain S tab v.ctx c.args.place v.tree = subst (Plain S tab v.ctx c.args.place) (sym e) (plain S tab v.ctx c.args.place _ _ _ v.tree c.in_default.not-Function c.in_default.not-Recursion) in
     enters_as (sym p.asked) p.context (stayed v.binders v.holds)

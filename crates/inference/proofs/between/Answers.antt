@@ -1,7 +1,5 @@
 -- The node's shape from its fields, then the callee's answer for that shape.
-use mathlib.Core.Path.{◌≡◌, refl, sym, ap, ◌∙◌}
-use Prim.Native.Nat.{ℕ}
-use native.Mathlib.Omega.{arith}
+use Rattle.std.proofs.Common.{◌≡◌, ℕ, refl, sym, ap, ◌∙◌, arith}
 use Rattle.calculus.specs.Security.{Security}
 use Rattle.calculus.specs.Types.{function, Ty}
 use Rattle.calculus.specs.Terms.{Term}
@@ -12,7 +10,7 @@ use Rattle.inference.specs.Operands.{operand_count}
 use Rattle.inference.specs.Memory.{Sized, Beside}
 use Rattle.inference.specs.Stages.{between, second_context, Some, Aside}
 use Rattle.inference.proofs.Regions.{stayed}
-use Rattle.inference.proofs.Shapes.{long, labelled, of_kind, case_kind, of_fields, read_by, kind_pair}
+use Rattle.inference.proofs.Shapes.{labelled, arity_of, case_left, of_fields, read_by}
 use Rattle.inference.proofs.Rules.{enters_as, enters_for}
 use Rattle.inference.proofs.between.Goals as goal
 
@@ -34,34 +32,30 @@ module _ {s : Bytes} {b : ℕ} {w : Bytes} {n : ℕ} (v : Some s b w n) where
     context = ap (λ e. second_context v.ctx e v.type) q
 
   -- its form, with the reader as it was read
-  shape : {j reader : ℕ} → kind s 0 ≡ j → reader ≡ r s 0 → v.tree ≡ labelled j (read_by s reader) (number s 0) v.tree
-  shape {j} q e = of_fields s v.tree j v.is q (ap (read_by s) e) refl
+  shape : {k reader : ℕ} → k ≡ kind s 0 → reader ≡ r s 0 → v.tree ≡ labelled k (read_by s reader) (number s 0) v.tree
+  shape {k} f e = of_fields s v.tree k v.is f (ap (read_by s) e) refl
 
-pub kind-k-requires : goal.kind-k-requires
-kind-k-requires c = omega (arith, long c.requires.tree c.requires.is)
-
-pub returns-then-k-eq-PAIR : goal.returns-then-k-eq-PAIR
+pub returns-in-Pair : goal.returns-in-Pair
 unfolding between second_context operand_count
-returns-then-k-eq-PAIR c v =
-    let e = of_kind c.args.s.now v.tree kind_pair v.is (sym c.kind-k.ensures ∙ c.if-k-eq-PAIR.true) in
+returns-in-Pair c v =
+    let e = shape v c.in-Pair.ensures refl in
     (enters_as (sym (asked v e (properties_of c.args.groups.now) c.args.place)) (context v e) (stayed v.binders v.holds), λ z. front_aside (ap operand_count e) v.sized)
 
-pub reader-r-requires : goal.reader-r-requires
-reader-r-requires c = omega (arith, long c.requires.tree c.requires.is)
-
-pub returns-then-k-eq-APPLICATION : goal.returns-then-k-eq-APPLICATION
+pub returns-in-Application : goal.returns-in-Application
 unfolding between second_context operand_count
-returns-then-k-eq-APPLICATION c v =
-    let e = shape v (sym c.kind-k.ensures ∙ c.if-k-eq-APPLICATION.true) c.reader-r.ensures in (
+returns-in-Application c v =
+    let e = shape v c.in-Application.ensures c.reader.ensures in (
       enters_as (c.may_read.ensures function v.type refl v.sized.held ∙ sym (asked v e (properties_of c.args.groups.now) c.args.place)) (context v e) (stayed v.binders v.holds),
       λ z. front_aside (ap operand_count e) v.sized,
     )
 
-pub returns : goal.returns
+pub returns-in_default : goal.returns-in_default
 unfolding between second_context operand_count
-returns c v =
-    let k = c.kind-k.ensures in
-    let q = case_kind v.tree v.is v.some (λ z. c.if-k-eq-PAIR.false (k ∙ z)) (λ z. c.if-k-eq-APPLICATION.false (k ∙ z)) in
-    let e = shape v q c.reader-r.ensures in
+returns-in_default c v =
+    let f = c.kind_of.ensures in
+    let a = arity_of v.tree v.is f in
+    let z = case_left _ (omega (arith, a, v.some)) c.in_default.not-Pair c.in_default.not-Application in
+    let e = shape v (sym z ∙ f) c.reader-in_default.ensures in
     let h = c.test.ensures v.ctx v.type v.sized v.binders v.holds in
-    (enters_for (asked v e (properties_of c.args.groups.now) c.args.place) (context v e) h.0, λ z. slot_aside (ap operand_count e) (h.1 (sym (asked v e (properties_of c.args.groups.now) c.args.place) ∙ z)))
+    let q = asked v e (properties_of c.args.groups.now) c.args.place in
+    (enters_for q (context v e) h.0, λ y. slot_aside (ap operand_count e) (h.1 (sym q ∙ y)))

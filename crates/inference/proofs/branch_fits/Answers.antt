@@ -1,18 +1,23 @@
 -- A case that names a type has it in the table.
-use mathlib.Core.Path.{◌≡◌, sym, ◌∙◌, subst}
-use mathlib.Core.Bool.{Bool}
-use Prim.Native.Nat.{ℕ, ◌<◌}
-use Rattle.calculus.specs.Typing.{finds_own}
+use Rattle.std.proofs.Common.{◌≡◌, false, sym, ◌∙◌, Bool, ◌<◌}
 use Rattle.rules.specs.Answer.{Bytes}
 use Rattle.rules.specs.Types.{type_count}
-use Rattle.rules.specs.Script.{number}
-use Rattle.inference.proofs.Names.{named, owns}
+use Rattle.rules.specs.Script.{number, own_at}
+use Rattle.inference.specs.Stages.{Case}
+use Rattle.inference.proofs.Names.{within, named_slot, owns}
 use Rattle.inference.proofs.branch_fits.Goals as goal
 
-pub wanted-requires : goal.wanted-requires
-wanted-requires c =
-    let T : Bytes = c.args.types.now in
-    let N : ℕ = number c.args.s.now 0 in
-    let own_is : (b : Bool) → c.finds_own.result ≡ b → finds_own N ≡ b = λ b e. sym (owns c.requires.0) ∙ sym c.finds_own.ensures ∙ e in
-    let names : c.index.result < type_count T = subst (λ i. i < type_count T) (sym c.index.ensures) (c.requires.0.named (own_is _ c.if-finds_own.false)) in
-    let p = c.requires in (named p.0.table names, p.1)
+-- the number names a type, where the case does not find its own
+names : {types s : Bytes} {x : Bool} (v : Case types s) → x ≡ own_at s 0 → x ≡ false → number s 0 < type_count types
+names v f e = v.named (sym (owns v) ∙ sym f ∙ e)
+
+pub named-requires : goal.named-requires
+named-requires c =
+    let v = c.requires.0 in
+    (v.long, within _ _ (names v c.finds_own.ensures c.if-finds_own.false))
+
+pub is_subtype-requires : goal.is_subtype-requires
+is_subtype-requires c =
+    let v = c.requires.0 in
+    let p = named_slot v.table (names v c.finds_own.ensures c.if-finds_own.false) c.named.ensures in
+    (c.requires.1, record { type = _; held = p.held })

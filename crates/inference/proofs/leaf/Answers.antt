@@ -1,20 +1,16 @@
 -- A node without operands is a variable or a unit.
-use mathlib.Core.Path.{◌≡◌, refl, sym, ap, ◌∙◌, subst}
-use Prim.Native.Nat.{ℕ, ◌<◌}
-use native.Mathlib.Omega.{arith}
+use Rattle.std.proofs.Common.{◌≡◌, ℕ, ◌<◌, refl, sym, ap, ◌∙◌, subst, arith}
 use Rattle.calculus.specs.Security.{Property}
 use Rattle.calculus.specs.Types.{one, size_t}
-use Rattle.calculus.specs.Terms.{Term, var, unit}
+use Rattle.calculus.specs.Terms.{Term, var}
 use Rattle.rules.specs.Answer.{Bytes}
 use Rattle.rules.specs.Types.{type_record, encode_type}
-use Rattle.rules.specs.Script.{kind, number}
 use Rattle.lattice.specs.Said.{said_property}
-use Rattle.records.specs.Labels.{property_at}
 use Rattle.inference.specs.Operands.{Formed}
 use Rattle.inference.specs.Memory.{finds}
-use Rattle.inference.specs.Stages.{leaf_type, Leaf}
+use Rattle.inference.specs.Stages.{leaf_type}
 use Rattle.inference.proofs.Regions.{wrote_first}
-use Rattle.inference.proofs.Shapes.{long, unit_kind, of_fields, kind_variable, kind_unit}
+use Rattle.inference.proofs.Shapes.{arity_of, unit_left, of_fields}
 use Rattle.inference.proofs.Rules.{meets_of}
 use Rattle.inference.proofs.leaf.Goals as goal
 
@@ -30,23 +26,10 @@ unit_size : (k : Property) → 1 ≡ size_t (one k)
 unfolding size_t
 unit_size k = refl
 
-module _ {s : Bytes} {b : ℕ} {w : Bytes} (v : Leaf s b w) {k : ℕ} (f : k ≡ kind s 0) where
-  is_var : {i : ℕ} → k ≡ kind_variable → i ≡ number s 0 → v.tree ≡ var i
-  is_var q g = of_fields s v.tree kind_variable {p = property_at s 0} v.is (sym f ∙ q) refl g
-
-  is_unit : {p : Property} → (k ≡ kind_variable → ⊥) → p ≡ property_at s 0 → v.tree ≡ unit p
-  is_unit n e = of_fields s v.tree kind_unit {n = number s 0} v.is (unit_kind v.tree v.is v.leaf (λ z. n (f ∙ z))) e refl
-
-pub kind-requires : goal.kind-requires
-kind-requires c = omega (arith, long c.requires.tree c.requires.is)
-
-pub index-requires : goal.index-requires
-index-requires c = long c.requires.tree c.requires.is
-
 pub variable-requires : goal.variable-requires
 variable-requires c =
     let v = c.requires in
-    let e = is_var v c.kind.ensures c.if-kind-eq-VARIABLE.true c.index.ensures in
+    let e = of_fields c.args.s.now v.tree _ v.is c.in-Variable.ensures refl c.index.ensures in
     record {
       ctx = v.ctx;
       binders = v.binders;
@@ -55,18 +38,18 @@ variable-requires c =
       room = v.room;
     }
 
-pub returns-then-kind-eq-VARIABLE : goal.returns-then-kind-eq-VARIABLE
+pub returns-in-Variable : goal.returns-in-Variable
 unfolding leaf_type
-returns-then-kind-eq-VARIABLE c v =
-    let e = is_var v c.kind.ensures c.if-kind-eq-VARIABLE.true c.index.ensures in
+returns-in-Variable c v =
+    let e = of_fields c.args.s.now v.tree _ v.is c.in-Variable.ensures refl c.index.ensures in
     meets_of (ap (leaf_type v.ctx) e) (c.variable.ensures v.ctx v.binders v.holds)
 
-pub property-requires : goal.property-requires
-property-requires c = omega (arith, long c.requires.tree c.requires.is)
-
-pub returns : goal.returns
+pub returns-in_default : goal.returns-in_default
 unfolding leaf_type
-returns c v =
+returns-in_default c v =
     let k = said_property c.property.result in
-    meets_of (ap (leaf_type v.ctx) (is_unit v c.kind.ensures c.if-kind-eq-VARIABLE.false c.property.ensures))
+    let f = c.kind_of.ensures in
+    let z = unit_left _ (arity_of v.tree v.is f ∙ v.leaf) c.in_default.not-Variable in
+    let e = of_fields c.args.s.now v.tree _ v.is (sym z ∙ f) c.property.ensures refl in
+    meets_of (ap (leaf_type v.ctx) e)
     (finds (wrote_first (unit_size k) (omega (arith, unit_size k)) (sym (unit_bytes k)) v.room c.put.ensures))

@@ -1,8 +1,5 @@
 -- The type's records are counted, and moved.
-use mathlib.Core.Path.{◌≡◌, ap, ◌∙◌}
-use Prim.Native.Nat.{ℕ, ◌+◌, ◌*◌, ◌≤◌}
-use native.Mathlib.Omega.{arith}
-use lib.ListN.{length, drop}
+use Rattle.std.proofs.Common.{◌≡◌, ap, ◌∙◌, ℕ, ◌+◌, ◌*◌, ◌≤◌, arith, length, drop}
 use Rattle.calculus.specs.Types.{size_t}
 use Rattle.rules.specs.Answer.{Bytes}
 use Rattle.rules.specs.Limits.{type_width}
@@ -30,12 +27,13 @@ overflow_mul-n c =
     let p = c.requires.0 in
     omega (arith, fits c.args.from c.args.w.now p (c.type_records-n.ensures p.type (rw to_end p.held)))
 
-pub down-requires : goal.down-requires
-down-requires c =
+pub shift-requires : goal.shift-requires
+shift-requires c =
     let p = c.requires.0 in
-    (c.requires.1, fits c.args.from c.args.w.now p (c.type_records-n.ensures p.type (rw to_end p.held)))
+    let q = fits c.args.from c.args.w.now p (c.type_records-n.ensures p.type (rw to_end p.held)) in
+    (q, omega (arith, q))
 
 pub returns : goal.returns
 returns c t h =
     let e = c.type_records-n.ensures t (rw to_end h) in
-    (e, c.down.ensures ∙ ap (λ y. splice c.args.to y c.args.w.now) (held_bytes h _ e))
+    (e, c.shift.ensures ∙ ap (λ y. splice c.args.to y c.args.w.now) (held_bytes h _ e))

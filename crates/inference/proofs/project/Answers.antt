@@ -1,23 +1,22 @@
 -- A type that passes question 20 has two sides, and the named one is read.
-use mathlib.Core.Path.{◌≡◌, refl, sym}
-use Rattle.calculus.specs.Security.{Security}
-use Rattle.calculus.specs.Types.{product, Ty}
-use Rattle.rules.specs.Answer.{Bytes, accepted}
+use Rattle.std.proofs.Common.{refl, sym}
+use Rattle.calculus.specs.Types.{product}
+use Rattle.rules.specs.Answer.{accepted}
 use Rattle.rules.specs.Groups.{properties_of}
-use Rattle.types.specs.Held.{Held}
-use Rattle.inference.specs.Stages.{may_read}
-use Rattle.inference.proofs.Rules.{read_two, refused_found}
+use Rattle.inference.specs.Sides.{said_side}
+use Rattle.inference.specs.Stages.{reads, side_of}
+use Rattle.inference.proofs.Rules.{read_two, passed, stopped}
 use Rattle.inference.proofs.project.Goals as goal
 
-pub returns-in_default : goal.returns-in_default
-returns-in_default c = λ t b h l.
-    refused_found c.may_read-asked.result _ _ c.in_default.not-Passed (c.may_read-asked.ensures product t refl h.held) c.refused.ensures
+pub returns-in_err-may_read : goal.returns-in_err-may_read
+returns-in_err-may_read c t b h l =
+    stopped (accepted (reads (properties_of c.args.groups.now) t c.args.r.0 (side_of (said_side c.args.side) t))) _ (c.in_err-may_read.ensures product t refl h.held) c.from_residual.ensures.1
 
 pub read_side-requires : goal.read_side-requires
 read_side-requires c =
-    let S : Security = properties_of c.args.groups.now in
-    let W : Bytes = c.args.w.now in
-    let may : (t : Ty) → Held W t → may_read S c.args.place product t c.args.r.0 ≡ accepted tt = λ t h. sym (c.in-Passed.ensures product t refl h) in
     let p = c.requires.0 in
-    let two = read_two S c.args.place product p.type c.args.r.0 (may p.type p.held) in
+    let two = read_two (properties_of c.args.groups.now) c.args.place product p.type c.args.r.0 (sym (c.in_ok-may_read.ensures product p.type refl p.held)) in
     (record { type = p.type; held = p.held; two = two }, c.requires.1)
+
+pub returns : goal.returns
+returns c t b h l = passed (c.in_ok-may_read.ensures product t refl h.held) (c.read_side.ensures t b h l)

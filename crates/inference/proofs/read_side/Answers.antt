@@ -1,13 +1,12 @@
 -- The side is moved to the front and raised there, by what was read before the move.
-use mathlib.Core.Path.{◌≡◌, refl, ap, ◌∙◌, subst}
-use native.Mathlib.Omega.{arith}
-use lib.ListN.{drop}
+use Rattle.std.proofs.Common.{◌≡◌, refl, ap, ◌∙◌, subst, arith, drop}
 use Rattle.calculus.specs.Security.{Property}
 use Rattle.calculus.specs.Types.{Ty, top, raise_t}
 use Rattle.rules.specs.Answer.{Bytes}
 use Rattle.rules.specs.Groups.{properties_of}
 use Rattle.lattice.specs.Said.{said_influence}
 use Rattle.inference.specs.Memory.{Slot, Wrote, finds}
+use Rattle.inference.specs.Sides.{said_side}
 use Rattle.inference.specs.Stages.{side_of}
 use Rattle.inference.proofs.Front.{side_small, two_of}
 use Rattle.inference.proofs.Regions.{front_held, wrote_first}
@@ -16,14 +15,14 @@ use Rattle.inference.proofs.read_side.Goals as goal
 
 pub move_type-n-requires : goal.move_type-n-requires
 move_type-n-requires c =
-    let side : Ty → Ty = λ t. side_of c.args.second t in
+    let side : Ty → Ty = λ t. side_of (said_side c.args.side) t in
     let p = c.requires.0 in
     (record { type = side p.type; held = c.side_at-from.ensures p.type p.held }, omega arith)
 
 pub raise-requires : goal.raise-requires
 raise-requires c =
     let W : Bytes = c.args.w.now in
-    let side : Ty → Ty = λ t. side_of c.args.second t in
+    let side : Ty → Ty = λ t. side_of (said_side c.args.side) t in
     let p = c.requires.0 in
     let u = side p.type in
     record { type = u; held = front_held u W (c.move_type-n.ensures u (c.side_at-from.ensures p.type p.held)).1 }
@@ -31,11 +30,11 @@ raise-requires c =
 pub returns : goal.returns
 returns c =
     let W : Bytes = c.args.w.now in
-    let side : Ty → Ty = λ t. side_of c.args.second t in
+    let side : Ty → Ty = λ t. side_of (said_side c.args.side) t in
     let slot : (t : Ty) → Slot W t → Slot (drop c.side_at-from.result W) (side t) = λ t h. let p = c.requires.0 in
     record {
       held = c.side_at-from.ensures t h.held;
-      small = omega (arith, h.small, side_small c.args.second t (two_of p.held p.two h.held));
+      small = omega (arith, h.small, side_small (said_side c.args.side) t (two_of p.held p.two h.held));
     } in
     λ t b h l.
     let S = properties_of c.args.groups.now in

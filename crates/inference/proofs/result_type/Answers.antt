@@ -1,18 +1,15 @@
 -- Both types are there where the case finds its own, and else the second is in front.
-use mathlib.Core.Path.{◌≡◌, sym, ◌∙◌, subst}
-use mathlib.Core.Bool.{Bool, true, false, cond}
-use Prim.Native.Nat.{◌<◌}
-use lib.ListN.{drop}
+use Rattle.std.proofs.Common.{◌≡◌, sym, ◌∙◌, subst, Bool, true, false, cond, drop}
 use Rattle.calculus.specs.Typing.{finds_own}
 use Rattle.rules.specs.Answer.{Bytes}
 use Rattle.rules.specs.Limits.{answer_length}
 use Rattle.rules.specs.Groups.{properties_of}
-use Rattle.rules.specs.Types.{type_at, type_count}
+use Rattle.rules.specs.Types.{type_at}
 use Rattle.rules.specs.Script.{number, own_at}
 use Rattle.types.specs.Held.{Held}
 use Rattle.inference.specs.Memory.{Both}
 use Rattle.inference.specs.Stages.{Branches}
-use Rattle.inference.proofs.Names.{named, owns}
+use Rattle.inference.proofs.Names.{within, named, owns}
 use Rattle.inference.proofs.Rules.{result_own, meets_of}
 use Rattle.inference.proofs.result_type.Goals as goal
 
@@ -42,11 +39,14 @@ returns-then-finds_own c v b l =
     (result_own (properties_of c.args.groups.now) c.args.place (type_at c.args.types.now) (number c.args.s.now 0) v.first v.second (own_is v f q))
     (c.common_type.ensures (both v (sym f ∙ q)) b l)
 
+pub named-requires : goal.named-requires
+named-requires c =
+    let v = c.requires in
+    (v.node.long, within _ _ (v.node.named (own_is v c.finds_own.ensures c.if-finds_own.false)))
+
 pub adopt-requires : goal.adopt-requires
 adopt-requires c =
     let v = c.requires in
     let f = c.finds_own.ensures in
-    let q = c.if-finds_own.false in (
-      named v.node.table (subst (λ i. i < type_count c.args.types.now) (sym c.index.ensures) (v.node.named (own_is v f q))),
-      (record { type = v.second; held = front v (sym f ∙ q) }, v.room),
-    )
+    let q = c.if-finds_own.false in
+    (named v.node.table (v.node.named (own_is v f q)) c.named.ensures, (record { type = v.second; held = front v (sym f ∙ q) }, v.room))

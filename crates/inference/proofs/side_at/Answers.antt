@@ -1,13 +1,9 @@
 -- The first side is past the record, the second past the first.
-use mathlib.Core.Path.{◌≡◌, sym, subst}
-use Prim.Native.Nat.{ℕ, ◌+◌, ◌*◌, ◌≤◌}
-use native.Mathlib.Omega.{arith}
-use lib.ListN.{length, drop}
+use Rattle.std.proofs.Common.{◌≡◌, ℕ, ◌+◌, ◌*◌, ◌≤◌, length, arith}
 use Rattle.calculus.specs.Types.{size_t}
 use Rattle.rules.specs.Answer.{Bytes}
 use Rattle.rules.specs.Limits.{type_width}
-use Rattle.types.specs.Held.{Held, Sided, left_of}
-use Rattle.inference.specs.Stages.{side_of}
+use Rattle.types.specs.Held.{Sided, left_of}
 use Rattle.inference.proofs.Front.{held_within, held_left, held_right, two_of}
 use Rattle.inference.proofs.side_at.Goals as goal
 
@@ -27,14 +23,9 @@ overflow_add-result c =
     let p = c.requires in
     omega (arith, fits p (c.type_records.ensures _ (c.left_side.ensures.0 p.type p.held)))
 
-pub returns-then-second : goal.returns-then-second
-returns-then-second c t h =
-    let n = c.type_records.result in
-    let e = c.type_records.ensures _ (c.left_side.ensures.0 t h) in
-    subst (λ d. Held (drop (type_width + type_width * n) c.args.s.now) (side_of d t)) (sym c.if-second.true)
-    (held_right t (two_of c.requires.held c.requires.two h) h n e)
+pub returns-in-Second : goal.returns-in-Second
+returns-in-Second c t h =
+    rw c.in-Second.is (held_right t (two_of c.requires.held c.requires.two h) h c.type_records.result (c.type_records.ensures _ (c.left_side.ensures.0 t h)))
 
-pub returns : goal.returns
-returns c t h =
-    subst (λ d. Held (drop type_width c.args.s.now) (side_of d t)) (sym c.if-second.false)
-    (held_left t (two_of c.requires.held c.requires.two h) h)
+pub returns-in-First : goal.returns-in-First
+returns-in-First c t h = rw c.in-First.is (held_left t (two_of c.requires.held c.requires.two h) h)

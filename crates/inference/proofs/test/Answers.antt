@@ -1,8 +1,5 @@
 -- A type that passes question 20 has two sides, and they are moved to the next slot.
-use mathlib.Core.Path.{◌≡◌, refl, sym, ap, ◌∙◌}
-use Prim.Native.Nat.{◌+◌, ◌-◌, ◌*◌, ◌≤◌}
-use native.Mathlib.Omega.{arith}
-use lib.ListN.{length, take, drop}
+use Rattle.std.proofs.Common.{◌≡◌, refl, sym, ap, ◌∙◌, ◌+◌, ◌-◌, ◌*◌, ◌≤◌, arith, length, take, drop}
 use Rattle.calculus.specs.Security.{Security}
 use Rattle.calculus.specs.Types.{sum, Ty}
 use Rattle.rules.specs.Limits.{answer_length, type_width}
@@ -23,14 +20,14 @@ pub returns : goal.returns
 returns c =
     let S : Security = properties_of c.args.groups.now in
     let W : Bytes = c.args.w.now in
-    let may : (t : Ty) → Held W t → may_read S c.args.place sum t c.args.r.0 ≡ accepted tt = λ t h. sym (c.in-Passed.ensures sum t refl h) in
+    let may : (t : Ty) → Held W t → may_read S c.args.place sum t c.args.r.0 ≡ accepted tt = λ t h. sym (c.in-Ok.ensures sum t refl h) in
     λ Γ t h l k.
     let w = W in
-    let w' = c.up.new.w in
+    let w' = c.shift.new.w in
     let b = c.args.b in
     let ok = may t h.held in
     let nz = read_two S c.args.place sum t c.args.r.0 ok in
     let room : answer_length * (b + 1) ≤ length w = omega (arith, c.requires.1) in
     let q = beside_written {t = t} {b = b} w w' nz h.small
-    (ap (λ j. take (type_width * (j - 1)) (drop type_width w)) h.count ∙ sides_bytes w t h.held nz) room c.up.ensures in
+    (ap (λ j. take (type_width * (j - 1)) (drop type_width w)) h.count ∙ sides_bytes w t h.held nz) room c.shift.ensures in
     (record { says = sym ok; entered = λ z. entered q.0.one q.1 q.2 room l k }, λ z. q.0)

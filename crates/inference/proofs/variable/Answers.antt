@@ -1,14 +1,12 @@
 -- The type in the variable's slot is moved to the front.
-use mathlib.Core.Path.{refl}
-use native.Mathlib.Omega.{arith}
-use lib.ListN.{get_or}
+use Rattle.std.proofs.Common.{refl, arith, get_or}
 use Rattle.rules.specs.Types.{no_type}
 use Rattle.inference.specs.Memory.{finds}
 use Rattle.inference.proofs.Regions.{slot_at, wrote_first}
 use Rattle.inference.proofs.variable.Goals as goal
 
-pub move_type-n-requires : goal.move_type-n-requires
-move_type-n-requires c =
+pub move_type-requires : goal.move_type-requires
+move_type-requires c =
     let a = c.args in
     let v = c.requires in
     let q = slot_at a.i a.b a.w.now v.ctx v.binders v.holds v.below (omega (arith, v.room)) in
@@ -18,5 +16,5 @@ pub returns : goal.returns
 returns c Γ l h =
     let a = c.args in
     let q = slot_at a.i a.b a.w.now Γ l h c.requires.below (omega (arith, c.requires.room)) in
-    let m = c.move_type-n.ensures (get_or Γ a.i no_type) q.held in
+    let m = c.move_type.ensures (get_or Γ a.i no_type) q.held in
     finds (wrote_first m.0 q.small refl c.requires.room m.1)

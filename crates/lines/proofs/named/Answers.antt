@@ -1,5 +1,5 @@
-use Rattle.text.proofs.Placed.{both}
+use Rattle.text.proofs.Placed.{then}
 use Rattle.lines.proofs.named.Goals as goal
 
 pub returns : goal.returns
-returns c = both c.requires c.put-a.ensures c.decimal.ensures
+returns c = then c.put.ensures c.decimal.ensures

@@ -1,20 +1,7 @@
-use mathlib.Core.List.{◌++◌}
-use Prim.Native.Nat.{◌+◌, ◌≤◌}
-use lib.ListN.{length}
-use Rattle.rules.specs.Answer.{Bytes}
-use Rattle.rules.specs.Report.{text, named, refusal_line}
-use Rattle.text.specs.Written.{Written}
-use Rattle.text.proofs.Placed.{room_first, both}
+use Rattle.rules.specs.Report.{text, refusal_line}
+use Rattle.text.proofs.Placed.{then}
 use Rattle.lines.proofs.refusal_line.Goals as goal
 
 pub returns : goal.returns
 unfolding text refusal_line
-returns c =
-    let front_1 : Bytes = named "refused " c.args.question in
-    let front_2 : Bytes = front_1 ++ named " at " c.args.place in
-    let front_3 : Bytes = front_2 ++ text "\n" in
-    let room_3 : c.args.at + length front_3 ≤ length c.args.out.now = c.requires in
-    let room_2 : c.args.at + length front_2 ≤ length c.args.out.now = room_first c.args.at front_2 (text "\n") c.args.out.now room_3 in
-    let wrote_1 : Written c.args.at front_1 c.args.out.now c.named-a.result c.named-a.new.out = c.named-a.ensures in
-    let wrote_2 : Written c.args.at front_2 c.args.out.now c.named-b.result c.named-b.new.out = both room_2 wrote_1 c.named-b.ensures in
-    both room_3 wrote_2 c.put.ensures
+returns c = then (then c.named.ensures c.named-2.ensures) c.put.ensures

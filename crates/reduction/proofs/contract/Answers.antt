@@ -1,7 +1,4 @@
-use mathlib.Core.Path.{◌≡◌, refl, sym, ap, ◌∙◌}
-use mathlib.Core.Bool.{false}
-use Prim.Native.Nat.{ℕ, ◌+◌, ◌-◌, ◌≤◌}
-use native.Mathlib.Omega.{arith}
+use Rattle.std.proofs.Common.{◌≡◌, refl, sym, ap, ◌∙◌, false, Result, Ok, ℕ, ◌+◌, ◌-◌, ◌≤◌, arith}
 use Rattle.calculus.specs.Terms.{Term}
 use Rattle.calculus.specs.Reduction.{plug}
 use Rattle.rules.specs.Answer.{Bytes}
@@ -18,16 +15,19 @@ use Rattle.redex.proofs.Turns.{site_moves}
 use Rattle.substitution.proofs.Nodes.{depth_size}
 use Rattle.memory.proofs.Laws.{splice_front}
 use Rattle.contraction.specs.declared.Plan.{Plan}
-use Rattle.contraction.specs.declared.Size.{Size}
+use Rattle.substitution.specs.declared.Size.{Size}
 use Rattle.contraction.specs.Plans.{Fires, Planned, Ready, Measures}
 use Rattle.reduction.specs.Steps.{Sited, Placing, told}
-use Rattle.reduction.specs.declared.Stepped.TheVariants.{Moved}
+use Rattle.reduction.specs.declared.Stop.{Stop}
 use Rattle.contraction.proofs.Redexes.{left_side}
 use Rattle.contraction.proofs.Plans.{contractum_limit}
 use Rattle.contraction.proofs.Rooms.{contractum_few}
 use Rattle.reduction.proofs.Splices.{redex_at, redex_small, redex_shallow, new_size, end_inside, exceeds_is}
 use Rattle.reduction.proofs.Ends.{ends_moved, ends_too_big}
 use Rattle.reduction.proofs.contract.Goals as goal
+
+counts : {n m : ℕ} → n ≡ m → ◌≡◌ {A = Result ℕ Stop} (Ok n) (Ok m)
+counts h = rw h
 
 module _ {g t s w : Bytes} {at around room : ℕ} (q : Sited g t s at around w room) where
   -- the contractum, and the new term
@@ -150,7 +150,7 @@ returns c =
     let n = total q e c.record_count.ensures m in
     let small = sym (c.exceeds.ensures ∙ exceeds_is q.start q.site c.args.room _ _ (part q) n m.deep) ∙ c.if-exceeds.false in
     let h = ends_moved S tab (term c.args.script.now) c.args.room (whole q) (site_moves S tab q.site) small in (
-      ap Moved n ∙ sym (ap told h),
+      counts n ∙ sym (ap told h),
       c.write_new.ensures (placing q plan e m small)
           ∙ splice_front (encode (whole q)) c.args.written.now
           ∙ sym (ap (λ (x : End). front_after x c.args.written.now) h),

@@ -1,9 +1,6 @@
-use Prim.Native.Nat.{ℕ}
-use mathlib.Core.Path.{◌≡◌, sym, ap}
-use mathlib.Core.Path.{subst as transport}
-use native.Mathlib.Omega.{arith}
+use Rattle.std.proofs.Common.{ℕ, ◌≡◌, sym, ap}
+use Rattle.std.proofs.Common.{subst as transport}
 use Rattle.rules.specs.Answer.{Bytes}
-use Rattle.rules.specs.Script.{term}
 use Rattle.rules.specs.Step.{End}
 use Rattle.rules.specs.Calls.{front_after}
 use Rattle.records.proofs.Stands.{at_start}
@@ -24,29 +21,24 @@ found {S = S} {tab = tab} {e = e} is h = transport (λ (x : Found). Finds S tab 
 stops : {x y : End} (w : Bytes) → y ≡ x → (told x ≡ told y) × (front_after x w ≡ front_after y w)
 stops w h = (sym (ap told h), sym (ap (λ (x : End). front_after x w) h))
 
-pub find-found-requires : goal.find-found-requires
-find-found-requires c =
-    let q = c.requires.0 in
-    record { tree = term c.args.script.now; at = at_start _ q.encoded; shallow = omega (arith, q.shallow) }
-
 pub contract-requires : goal.contract-requires
 contract-requires c = record {
   start = c.requires.0;
-  site = found_site (found c.in-Redex.is (c.find-found.ensures _ (at_start _ c.requires.0.encoded)));
+  site = found_site (found c.in-Redex.is (c.find.ensures _ (at_start _ c.requires.0.encoded)));
   fits = c.requires.1;
 }
 
 pub returns-in-Value : goal.returns-in-Value
 returns-in-Value c =
-    stops c.args.written.now (ends_value c.args.room (found c.in-Value.is (c.find-found.ensures _ (at_start _ c.requires.0.encoded))))
+    stops c.args.written.now (ends_value c.args.room (found c.in-Value.is (c.find.ensures _ (at_start _ c.requires.0.encoded))))
 
 pub returns-in-Redex : goal.returns-in-Redex
 returns-in-Redex c = c.contract.ensures
 
 pub returns-in-Denied : goal.returns-in-Denied
 returns-in-Denied c =
-    stops c.args.written.now (ends_denied c.args.room (found c.in-Denied.is (c.find-found.ensures _ (at_start _ c.requires.0.encoded))))
+    stops c.args.written.now (ends_denied c.args.room (found c.in-Denied.is (c.find.ensures _ (at_start _ c.requires.0.encoded))))
 
 pub returns-in-Stuck : goal.returns-in-Stuck
 returns-in-Stuck c =
-    stops c.args.written.now (ends_stuck c.args.room (found c.in-Stuck.is (c.find-found.ensures _ (at_start _ c.requires.0.encoded))))
+    stops c.args.written.now (ends_stuck c.args.room (found c.in-Stuck.is (c.find.ensures _ (at_start _ c.requires.0.encoded))))

@@ -1,4 +1,4 @@
-use native.Mathlib.Omega.{arith}
+use Rattle.std.proofs.Common.{arith}
 use Rattle.rewriting.proofs.Asked.{no_room, handed}
 use Rattle.rewriting.proofs.hand_over.Goals as goal
 

@@ -1,27 +1,27 @@
 -- A refusal is the answer; after a yes the records are handed over.
-use Rattle.std.proofs.Common.{◌*◌, ◌/◌, length, refl, sym, ap, ◌∙◌, arith}
+use Rattle.std.proofs.Common.{length, refl, sym, ap, arith}
+use Rattle.std.proofs.lemmas.Result.{err_from_is_err_and}
 use Rattle.rules.specs.Answer.{Bytes}
-use Rattle.rules.specs.Limits.{script_width, old_script_width}
+use Rattle.rules.specs.Limits.{script_width}
 use Rattle.rules.specs.Rewriting.{widen_script, old_script_check}
-use Rattle.rules.proofs.Widening.{widen_script_length}
 use Rattle.rewriting.specs.Widened.{fitting}
-use Rattle.rewriting.specs.Said.{said_rewrote, refused_rewrote}
-use Rattle.rewriting.proofs.Asked.{refused_delivered, delivered, rewriting_script_is, few_records, front_is}
+use Rattle.rewriting.proofs.Asked.{refused_delivered, delivered, rewriting_script_is, few_records, script_front}
 use Rattle.rewriting.proofs.rewrite_script.Goals as goal
 
-pub returns-in_default : goal.returns-in_default
-returns-in_default c =
+pub returns-in_err-old_script_check : goal.returns-in_err-old_script_check
+returns-in_err-old_script_check c =
     let g = c.args.groups.now in
     let t = c.args.types.now in
     let s = c.args.script.now in
     let w = c.args.rewritten.now in
-    refused_delivered script_width (old_script_check g t s) (fitting (widen_script s) (length w)) w c.in_default.ensures.0
-    (rewriting_script_is g t s (length w)) (ap said_rewrote (c.refused.ensures ∙ ap refused_rewrote c.in_default.is))
+    let e = err_from_is_err_and c.from_residual.result c.from_residual.ensures.1 in
+    rw (e.1, e.2)
+    (refused_delivered script_width (old_script_check g t s) (fitting (widen_script s) (length w)) w c.in_err-old_script_check.ensures.asked (rewriting_script_is g t s (length w)) refl)
 
 pub hand_over-requires : goal.hand_over-requires
 hand_over-requires c =
-    let n = few_records c.args.groups.now c.args.types.now c.args.script.now (sym c.in-Passed.ensures.0) in
-    (omega arith, omega arith, omega (arith, n), omega (arith, n, c.old_script_check-asked.auto.wide))
+    let n = few_records c.args.groups.now c.args.types.now c.args.script.now (sym c.in_ok-old_script_check.ensures.asked) in
+    (omega arith, omega arith, omega (arith, n), omega (arith, n, c.old_script_check.auto.wide))
 
 pub returns : goal.returns
 returns c =
@@ -29,6 +29,5 @@ returns c =
     let t = c.args.types.now in
     let s = c.args.script.now in
     let w = c.args.rewritten.now in
-    let front = front_is (widen_script s) _ _ (script_width * (length s / old_script_width)) (sym (widen_script_length s)) (c.in-Passed.ensures.1 refl) in
-    delivered script_width (old_script_check g t s) (fitting (widen_script s) (length w)) w _ c.in-Passed.ensures.0
-    (rewriting_script_is g t s (length w)) (ap (λ (b : Bytes). fitting b (length w)) front) c.hand_over.ensures
+    delivered script_width (old_script_check g t s) (fitting (widen_script s) (length w)) w _ c.in_ok-old_script_check.ensures.asked
+    (rewriting_script_is g t s (length w)) (ap (λ (b : Bytes). fitting b (length w)) (script_front s _ (c.in_ok-old_script_check.ensures.written refl))) c.hand_over.ensures

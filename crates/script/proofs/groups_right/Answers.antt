@@ -3,6 +3,5 @@ use Rattle.script.proofs.groups_right.Goals as goal
 
 pub returns : goal.returns
 returns c =
-    ok15_is c.args.script.now c.args.i c.kind-k.ensures c.signature_of-f.ensures c.args.groups.now c.property-p.ensures
-    c.row_count-n.ensures c.in_table_if-r.ensures c.in_table_if-ir.ensures c.in_table_if-c.ensures c.in_table_if-ic.ensures
-    c.is_object.ensures c.within.ensures
+    rw (c.below_if.ensures, c.below_if-2.ensures, c.below_if-3.ensures, c.below_if-4.ensures, c.from.ensures, c.from-2.ensures, c.from-3.ensures, c.from-4.ensures, c.is_object.ensures)
+    (ok15_is c.args.script.now c.args.i c.in-Some.ensures c.signature-named.ensures c.property-p.ensures c.args.groups.now c.row_count-n.ensures c.within.ensures)

@@ -1,9 +1,16 @@
+use Rattle.records.proofs.Stands.{there}
 use Rattle.sheet.specs.Shown.{line}
 use Rattle.sheet.proofs.line_of.Goals as goal
 
+pub reader-r-requires : goal.reader-r-requires
+reader-r-requires c = there _ _ _ c.requires.at
+
+pub indirect-ir-requires : goal.indirect-ir-requires
+indirect-ir-requires c = there _ _ _ c.requires.at
+
 pub returns-then-told : goal.returns-then-told
 unfolding line
-returns-then-told c = rw (c.if-told.true, c.shown_kind-kind.ensures, c.kind.ensures, c.reader-r.ensures, c.indirect-ir.ensures)
+returns-then-told c = rw (c.if-told.true, c.shown_kind-kind.ensures, c.kind_of.ensures, c.reader-r.ensures, c.indirect-ir.ensures)
 
 pub returns : goal.returns
 unfolding line

@@ -1,5 +1,5 @@
 -- The loop has counted the first j operands. A call's record falls to the right in the script.
-use Rattle.std.proofs.Common.{◌≡◌, ◌-◌, ◌≤◌, length}
+use Rattle.std.proofs.Common.{◌≡◌, ◌-◌, length}
 use Rattle.calculus.specs.Terms.{Term}
 use Rattle.rules.specs.Script.{size, depth}
 use Rattle.records.specs.Place.{At}
@@ -10,9 +10,4 @@ abbrev pub decreases-measure : goal.decreases-measure
 decreases-measure l = length l.script.now - l.i
 
 abbrev pub invariant-loop-j : goal.invariant-loop-j
-invariant-loop-j l =
-    (l.j ≤ l.count)
-    × ((e v : Term) → At l.script l.i e → l.records ≡ size v → l.deep ≡ depth v → Counted l.i l.n e v l.j l.next l.sum l.below)
-
-abbrev pub decreases-loop-j : goal.decreases-loop-j
-decreases-loop-j l = l.count - l.j
+invariant-loop-j l = (e v : Term) → At l.script l.i e → l.value.records ≡ size v → l.value.depth ≡ depth v → Counted l.i l.n e v l.j l.next l.sum l.below

@@ -1,5 +1,4 @@
-use mathlib.Core.Path.{refl, ◌∙◌}
-use native.Mathlib.Omega.{arith}
+use Rattle.std.proofs.Common.{refl, ◌∙◌, arith}
 use Rattle.calculus.specs.Terms.{var}
 use Rattle.rules.specs.Script.{size, depth}
 use Rattle.substitution.proofs.Nodes.{subst_same}

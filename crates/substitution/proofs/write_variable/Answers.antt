@@ -1,11 +1,6 @@
-use mathlib.Core.Path.{◌≡◌, sym, ap, ◌∙◌}
-use mathlib.Core.Bool.{Bool, false}
+use Rattle.std.proofs.Common.{◌≡◌, sym, ap, ◌∙◌, Bool, false, ℕ, ◌+◌, ◌≤◌, arith, eqb, length}
 use Rattle.rules.specs.Answer.{Bytes}
-use Prim.Native.Nat.{ℕ, ◌+◌, ◌≤◌}
-use native.Mathlib.Omega.{arith}
 use borrow.Author.Tests.{eqb-true, eqb-false}
-use lib.Dec.{eqb}
-use lib.ListN.{length}
 use Rattle.rules.specs.Limits.{script_width}
 use Rattle.rules.specs.Script.{size, kind, number}
 use Rattle.records.proofs.Stands.{there}
@@ -41,10 +36,6 @@ overflow_mul-i c = omega (arith, there _ _ _ c.requires.0.at)
 pub copy_part-requires : goal.copy_part-requires
 copy_part-requires c =
     (omega (arith, there _ _ _ c.requires.0.at), record_fits c.requires.0 c.requires.1 c.is_variable.ensures c.if-is_variable.false)
-
-pub overflow_add-end : goal.overflow_add-end
-overflow_add-end c =
-    omega (arith, record_fits c.requires.0 c.requires.1 c.is_variable.ensures c.if-is_variable.false)
 
 pub returns : goal.returns
 returns c u v a e = written_else a c.requires.1 _ v _ _ _ (eqb-false _ _ (sym c.is_variable.ensures ∙ c.if-is_variable.false)) c.copy_part.ensures

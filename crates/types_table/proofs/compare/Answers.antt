@@ -1,60 +1,59 @@
 -- A table that passes holds a type at each record, so the walk may start at both indexes.
-use Rattle.std.proofs.Common.{ap, sym, ◌∙◌, arith}
-use Rattle.rules.specs.Answer.{Answer, ◌>>◌}
+use Rattle.std.proofs.Common.{ap, sym, ◌∙◌}
+use Rattle.rules.specs.Answer.{accepted}
 use Rattle.rules.specs.Groups.{properties_of}
-use Rattle.rules.specs.Types.{type_count, type_at}
-use Rattle.rules.specs.Calls.{types_check}
-use Rattle.types_table.specs.Answered.{answered, told, refusal}
+use Rattle.rules.specs.Types.{type_at}
+use Rattle.rules.specs.Calls.{comparing}
+use Rattle.types_table.specs.Answered.{said_comparison, told}
+use Rattle.answer.proofs.Passed.{then_asked}
 use Rattle.types.proofs.Parts.{to_end, starts_of}
-use Rattle.types_table.proofs.Questions.{found, second_index, from_25, past, comparing_is, told_is, first_outside, second_outside, both_inside}
+use Rattle.types_table.proofs.Questions.{refused_by, passed_on, counted, inside, told_is}
 use Rattle.types_table.proofs.Table.{type_held}
 use Rattle.types_table.proofs.compare.Goals as goal
 
-pub returns-in_default : goal.returns-in_default
-returns-in_default c =
-    let g = c.args.groups.now in
-    let t = c.args.types.now in
-    ap answered (c.refused.ensures ∙ ap refusal c.in_default.is)
-    ∙ ap (λ (o : Answer (Unit {0})). ◌>>◌ o (from_25 g t c.args.i c.args.j)) c.in_default.ensures
-    ∙ comparing_is g t c.args.i c.args.j
+pub returns-in_err-types_check : goal.returns-in_err-types_check
+unfolding comparing
+returns-in_err-types_check c =
+    passed_on _ _ c.from_residual.ensures.1 ∙ refused_by _ _ c.in_err-types_check.field-0.0 c.in_err-types_check.ensures
 
-pub returns-then-m-i : goal.returns-then-m-i
-returns-then-m-i c =
-    let g = c.args.groups.now in
-    let t = c.args.types.now in
-    past (types_check g t) (from_25 g t c.args.i c.args.j) (sym c.in-Passed.ensures)
-    (first_outside (type_count t) c.args.i (second_index g t c.args.i c.args.j) (omega arith))
-    ∙ comparing_is g t c.args.i c.args.j
+pub returns-in_err-ask : goal.returns-in_err-ask
+unfolding comparing
+returns-in_err-ask c =
+    passed_on _ _ c.from_residual-in_err-ask.ensures.1
+    ∙ then_asked _ _ c.in_ok-types_check.ensures (refused_by _ _ c.in_err-ask.field-0.0 (counted 0 c.args.i c.type_count-count.ensures c.in_err-ask.ensures))
 
-pub returns-then-m-j : goal.returns-then-m-j
-returns-then-m-j c =
-    let g = c.args.groups.now in
-    let t = c.args.types.now in
-    past (types_check g t) (from_25 g t c.args.i c.args.j) (sym c.in-Passed.ensures)
-    (second_outside (type_count t) c.args.i c.args.j (found g t c.args.i c.args.j) (omega arith) (omega arith))
-    ∙ comparing_is g t c.args.i c.args.j
+pub returns-in_err-ask-2 : goal.returns-in_err-ask-2
+unfolding comparing
+returns-in_err-ask-2 c =
+    passed_on _ _ c.from_residual-in_err-ask-2.ensures.1
+    ∙ then_asked _ _ c.in_ok-types_check.ensures
+    (then_asked _ _ (counted 0 c.args.i c.type_count-count.ensures c.in_ok-ask.ensures) (refused_by _ _ c.in_err-ask-2.field-0.0 (counted 1 c.args.j c.type_count-count.ensures c.in_err-ask-2.ensures)))
 
 pub at_or_below-requires : goal.at_or_below-requires
 at_or_below-requires c =
     let g = c.args.groups.now in
     let t = c.args.types.now in
-    let yes = sym c.in-Passed.ensures in (
-      rw to_end (starts_of (type_held g t yes c.args.i (omega arith))),
-      rw to_end (starts_of (type_held g t yes c.args.j (omega arith))),
+    let first = counted 0 c.args.i c.type_count-count.ensures c.in_ok-ask.ensures in
+    let second = counted 1 c.args.j c.type_count-count.ensures c.in_ok-ask-2.ensures in
+    let yes = sym c.in_ok-types_check.ensures in (
+      rw to_end (starts_of (type_held g t yes c.args.i (inside 0 _ _ first))),
+      rw to_end (starts_of (type_held g t yes c.args.j (inside 1 _ _ second))),
     )
 
 pub returns : goal.returns
+unfolding comparing
 returns c =
     let g = c.args.groups.now in
     let t = c.args.types.now in
-    let yes = sym c.in-Passed.ensures in
+    let first = counted 0 c.args.i c.type_count-count.ensures c.in_ok-ask.ensures in
+    let second = counted 1 c.args.j c.type_count-count.ensures c.in_ok-ask-2.ensures in
+    let yes = sym c.in_ok-types_check.ensures in
     let lower = type_at t c.args.i in
     let upper = type_at t c.args.j in
-    ap answered
-    (c.told.ensures
-    ∙ ap told
-    (c.at_or_below.ensures lower upper (rw to_end (type_held g t yes c.args.i (omega arith))) (rw to_end (type_held g t yes c.args.j (omega arith)))))
-    ∙ told_is (properties_of g) lower upper
-    ∙ past (types_check g t) (from_25 g t c.args.i c.args.j) yes
-    (both_inside (type_count t) c.args.i c.args.j (found g t c.args.i c.args.j) (omega arith) (omega arith))
-    ∙ comparing_is g t c.args.i c.args.j
+    let walk = c.at_or_below.ensures lower upper
+    (rw to_end (type_held g t yes c.args.i (inside 0 _ _ first)))
+    (rw to_end (type_held g t yes c.args.j (inside 1 _ _ second))) in
+    then_asked _ _ c.in_ok-types_check.ensures
+    (then_asked _ _ first
+    (then_asked _ _ second
+    (ap accepted (ap said_comparison (c.told.ensures ∙ ap told walk) ∙ told_is (properties_of g) lower upper))))

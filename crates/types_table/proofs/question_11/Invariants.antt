@@ -1,12 +1,8 @@
 -- Every type that has ended passes, and the walk from the start of the one that hasn't goes on at i with as many sides to come as are
 -- pending.
-use Rattle.std.proofs.Common.{◌≤◌, ◌-◌}
-use Rattle.rules.specs.Types.{type_count, ok11}
+use Rattle.rules.specs.Types.{ok11}
 use Rattle.types_table.proofs.Pass.{Passing}
 use Rattle.types_table.proofs.question_11.Given as goal
 
 abbrev pub invariant-loop-i : goal.invariant-loop-i
-invariant-loop-i l = (l.i ≤ type_count l.types) × Passing (ok11 l.types) l.types l.start l.pending l.i
-
-abbrev pub decreases-loop-i : goal.decreases-loop-i
-decreases-loop-i l = type_count l.types - l.i
+invariant-loop-i l = Passing (ok11 l.types) l.types l.start l.pending l.i

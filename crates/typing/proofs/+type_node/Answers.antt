@@ -1,7 +1,6 @@
 -- The checker calls itself on the part of each operand. What is known from one operand to the next is in `Course`: e, e2 and e3 when
 -- an operand's context is there, d, d2 and d3 when the operand has its type.
-use mathlib.Core.Path.{sym, ap, ◌∙◌}
-use native.Mathlib.Omega.{arith}
+use Rattle.std.proofs.Common.{sym, ap, ◌∙◌, arith}
 use Rattle.calculus.specs.Security.{Property, Security}
 use Rattle.calculus.specs.Types.{top}
 use Rattle.rules.specs.Groups.{properties_of}
@@ -16,29 +15,24 @@ use Rattle.typing.proofs.Steps as steps
 use Rattle.typing.proofs.Course as course
 use Rattle.typing.proofs.+type_node.Goals as goal
 
-pub kind-k-requires : goal.kind-k-requires
-kind-k-requires t c =
-    let v = c.requires in
-    omega (arith, long v.tree v.is)
-
 pub leaf-requires : goal.leaf-requires
 leaf-requires t c =
     let v = c.requires in
-    course.leaf_of c.args.groups.now v (sym (course.counted c.args.groups.now v c.kind-k.ensures c.arity-o.ensures.0) ∙ c.if-o-eq0.true)
+    course.leaf_of c.args.groups.now v (sym (course.counted c.args.groups.now v c.kind_of-kind.ensures c.arity-o.ensures.0) ∙ c.if-o-eq0.true)
 
 pub returns-then-o-eq0 : goal.returns-then-o-eq0
 returns-then-o-eq0 t c v =
-    let o = sym (course.counted c.args.groups.now v c.kind-k.ensures c.arity-o.ensures.0) ∙ c.if-o-eq0.true in
+    let o = sym (course.counted c.args.groups.now v c.kind_of-kind.ensures c.arity-o.ensures.0) ∙ c.if-o-eq0.true in
     meets_of (typing_leaf (properties_of c.args.groups.now) (type_at c.args.types.now) v.ctx c.args.place v.tree o) (c.leaf.ensures (course.leaf_of c.args.groups.now v o))
 
-pub returns-in_default : goal.returns-in_default
-returns-in_default t c v =
-    steps.before_refuses c.args.groups.now v (c.before_operands-asked.ensures v) c.in_default.not-Passed c.refused.ensures
+pub returns-in_err-before_operands : goal.returns-in_err-before_operands
+returns-in_err-before_operands t c v =
+    steps.before_refuses c.args.groups.now v _ (c.in_err-before_operands.ensures v) c.from_residual.ensures.1
 
 pub operand_end-i2-requires : goal.operand_end-i2-requires
 operand_end-i2-requires t c =
     let v = c.requires in
-    let e = course.entered c.args.groups.now v c.kind-k.ensures c.arity-o.ensures.0 c.if-o-eq0.false (c.before_operands-asked.ensures v) c.in-Passed.is c.binders.ensures.0 c.before_operands-asked.auto.w in
+    let e = course.entered c.args.groups.now v c.kind_of-kind.ensures c.arity-o.ensures.0 c.if-o-eq0.false (c.in_ok-before_operands.ensures v) c.binders.ensures.0 c.before_operands.auto.w in
     record { tree = first_operand v.tree; at = e.stands; whole = λ z. first_whole c.args.s.now v.tree v.is (sym e.count ∙ sym z) }
 
 pub kept_front-low-requires : goal.kept_front-low-requires
@@ -49,164 +43,164 @@ kept_front-low-requires t c =
 pub operand-first-requires : goal.operand-first-requires
 operand-first-requires t c =
     let v = c.requires in
-    let e = course.entered c.args.groups.now v c.kind-k.ensures c.arity-o.ensures.0 c.if-o-eq0.false (c.before_operands-asked.ensures v) c.in-Passed.is c.binders.ensures.0 c.before_operands-asked.auto.w in
+    let e = course.entered c.args.groups.now v c.kind_of-kind.ensures c.arity-o.ensures.0 c.if-o-eq0.false (c.in_ok-before_operands.ensures v) c.binders.ensures.0 c.before_operands.auto.w in
     record { tree = first_operand v.tree; at = e.stands; ends = c.operand_end-i2.ensures _ e.stands }
 
 pub slice_bounds-type_node-count : goal.slice_bounds-type_node-count
 slice_bounds-type_node-count t c =
     let v = c.requires in
-    let e = course.entered c.args.groups.now v c.kind-k.ensures c.arity-o.ensures.0 c.if-o-eq0.false (c.before_operands-asked.ensures v) c.in-Passed.is c.binders.ensures.0 c.before_operands-asked.auto.w in
+    let e = course.entered c.args.groups.now v c.kind_of-kind.ensures c.arity-o.ensures.0 c.if-o-eq0.false (c.in_ok-before_operands.ensures v) c.binders.ensures.0 c.before_operands.auto.w in
     steps.low_within c.args.groups.now v e.some e.went (c.kept_front-low.ensures v.tree v.is)
 
 pub slice_bounds-type_node-start : goal.slice_bounds-type_node-start
 slice_bounds-type_node-start t c =
     let v = c.requires in
-    let e = course.entered c.args.groups.now v c.kind-k.ensures c.arity-o.ensures.0 c.if-o-eq0.false (c.before_operands-asked.ensures v) c.in-Passed.is c.binders.ensures.0 c.before_operands-asked.auto.w in
+    let e = course.entered c.args.groups.now v c.kind_of-kind.ensures c.arity-o.ensures.0 c.if-o-eq0.false (c.in_ok-before_operands.ensures v) c.binders.ensures.0 c.before_operands.auto.w in
     steps.low_within c.args.groups.now v e.some e.went (c.kept_front-low.ensures v.tree v.is)
 
-pub type_node-x1-requires : goal.type_node-x1-requires
-type_node-x1-requires t c =
+pub type_node-requires : goal.type_node-requires
+type_node-requires t c =
     let v = c.requires in
-    let e = course.entered c.args.groups.now v c.kind-k.ensures c.arity-o.ensures.0 c.if-o-eq0.false (c.before_operands-asked.ensures v) c.in-Passed.is c.binders.ensures.0 c.before_operands-asked.auto.w in
+    let e = course.entered c.args.groups.now v c.kind_of-kind.ensures c.arity-o.ensures.0 c.if-o-eq0.false (c.in_ok-before_operands.ensures v) c.binders.ensures.0 c.before_operands.auto.w in
     (omega (arith, c.operand-first.ensures.1 (omega arith), c.decreases), course.first_ready c.args.groups.now v e c.operand_end-i2.ensures c.kept_front-low.ensures c.operand-first.ensures.0)
 
-pub returns-in_default-x1 : goal.returns-in_default-x1
-returns-in_default-x1 t c v =
-    let e = course.entered c.args.groups.now v c.kind-k.ensures c.arity-o.ensures.0 c.if-o-eq0.false (c.before_operands-asked.ensures v) c.in-Passed.is c.binders.ensures.0 c.before_operands-asked.auto.w in
-    course.first_refuses c.args.groups.now v e c.operand_end-i2.ensures c.kept_front-low.ensures c.operand-first.ensures.0 c.type_node-x1.ensures c.in_default-x1.not-Typed
+pub returns-in_err-n : goal.returns-in_err-n
+returns-in_err-n t c v =
+    let e = course.entered c.args.groups.now v c.kind_of-kind.ensures c.arity-o.ensures.0 c.if-o-eq0.false (c.in_ok-before_operands.ensures v) c.binders.ensures.0 c.before_operands.auto.w in
+    course.first_refuses c.args.groups.now v e c.operand_end-i2.ensures c.kept_front-low.ensures c.operand-first.ensures.0 _ c.in_err-n.ensures c.from_residual-in_err-n.ensures.1
 
 pub after_one-requires : goal.after_one-requires
 after_one-requires t c =
     let v = c.requires in
-    let e = course.entered c.args.groups.now v c.kind-k.ensures c.arity-o.ensures.0 c.if-o-eq0.false (c.before_operands-asked.ensures v) c.in-Passed.is c.binders.ensures.0 c.before_operands-asked.auto.w in
-    let d = course.first_done c.args.groups.now v e c.operand_end-i2.ensures c.kept_front-low.ensures c.operand-first.ensures.0 c.type_node-x1.ensures c.type_node-x1.auto.w c.in-Typed.is in
+    let e = course.entered c.args.groups.now v c.kind_of-kind.ensures c.arity-o.ensures.0 c.if-o-eq0.false (c.in_ok-before_operands.ensures v) c.binders.ensures.0 c.before_operands.auto.w in
+    let d = course.first_done c.args.groups.now v e c.operand_end-i2.ensures c.kept_front-low.ensures c.operand-first.ensures.0 c.in_ok-n.ensures c.type_node.auto.w in
     steps.one_of c.args.groups.now v d.done (sym d.count ∙ c.if-o-eq1.true)
 
 pub returns-then-o-eq1 : goal.returns-then-o-eq1
 returns-then-o-eq1 t c v =
-    let e = course.entered c.args.groups.now v c.kind-k.ensures c.arity-o.ensures.0 c.if-o-eq0.false (c.before_operands-asked.ensures v) c.in-Passed.is c.binders.ensures.0 c.before_operands-asked.auto.w in
-    let d = course.first_done c.args.groups.now v e c.operand_end-i2.ensures c.kept_front-low.ensures c.operand-first.ensures.0 c.type_node-x1.ensures c.type_node-x1.auto.w c.in-Typed.is in
+    let e = course.entered c.args.groups.now v c.kind_of-kind.ensures c.arity-o.ensures.0 c.if-o-eq0.false (c.in_ok-before_operands.ensures v) c.binders.ensures.0 c.before_operands.auto.w in
+    let d = course.first_done c.args.groups.now v e c.operand_end-i2.ensures c.kept_front-low.ensures c.operand-first.ensures.0 c.in_ok-n.ensures c.type_node.auto.w in
     let o = sym d.count ∙ c.if-o-eq1.true in
     steps.last_meets c.args.groups.now v d.done o (c.after_one.ensures (steps.one_of c.args.groups.now v d.done o) c.args.b (steps.room2 c.args.groups.now v d.done))
 
 pub property-tested-requires : goal.property-tested-requires
 property-tested-requires t c =
     let v = c.requires in
-    let e = course.entered c.args.groups.now v c.kind-k.ensures c.arity-o.ensures.0 c.if-o-eq0.false (c.before_operands-asked.ensures v) c.in-Passed.is c.binders.ensures.0 c.before_operands-asked.auto.w in
-    let d = course.first_done c.args.groups.now v e c.operand_end-i2.ensures c.kept_front-low.ensures c.operand-first.ensures.0 c.type_node-x1.ensures c.type_node-x1.auto.w c.in-Typed.is in
+    let e = course.entered c.args.groups.now v c.kind_of-kind.ensures c.arity-o.ensures.0 c.if-o-eq0.false (c.in_ok-before_operands.ensures v) c.binders.ensures.0 c.before_operands.auto.w in
+    let d = course.first_done c.args.groups.now v e c.operand_end-i2.ensures c.kept_front-low.ensures c.operand-first.ensures.0 c.in_ok-n.ensures c.type_node.auto.w in
     record { type = d.done.type; held = (steps.front c.args.groups.now v d.done (course.has_two c.args.groups.now v d c.if-o-eq1.false)).held }
 
-pub between-read-requires : goal.between-read-requires
-between-read-requires t c =
+pub between-requires : goal.between-requires
+between-requires t c =
     let v = c.requires in
-    let e = course.entered c.args.groups.now v c.kind-k.ensures c.arity-o.ensures.0 c.if-o-eq0.false (c.before_operands-asked.ensures v) c.in-Passed.is c.binders.ensures.0 c.before_operands-asked.auto.w in
-    let d = course.first_done c.args.groups.now v e c.operand_end-i2.ensures c.kept_front-low.ensures c.operand-first.ensures.0 c.type_node-x1.ensures c.type_node-x1.auto.w c.in-Typed.is in
+    let e = course.entered c.args.groups.now v c.kind_of-kind.ensures c.arity-o.ensures.0 c.if-o-eq0.false (c.in_ok-before_operands.ensures v) c.binders.ensures.0 c.before_operands.auto.w in
+    let d = course.first_done c.args.groups.now v e c.operand_end-i2.ensures c.kept_front-low.ensures c.operand-first.ensures.0 c.in_ok-n.ensures c.type_node.auto.w in
     course.some_of c.args.groups.now v d c.if-o-eq1.false
 
-pub returns-in_default-read : goal.returns-in_default-read
-returns-in_default-read t c v =
-    let e = course.entered c.args.groups.now v c.kind-k.ensures c.arity-o.ensures.0 c.if-o-eq0.false (c.before_operands-asked.ensures v) c.in-Passed.is c.binders.ensures.0 c.before_operands-asked.auto.w in
-    let d = course.first_done c.args.groups.now v e c.operand_end-i2.ensures c.kept_front-low.ensures c.operand-first.ensures.0 c.type_node-x1.ensures c.type_node-x1.auto.w c.in-Typed.is in
-    steps.between_refuses c.args.groups.now v d.done (course.has_two c.args.groups.now v d c.if-o-eq1.false) (c.between-read.ensures (course.some_of c.args.groups.now v d c.if-o-eq1.false)).0 c.in_default-read.not-Passed c.refused-in_default-read.ensures
+pub returns-in_err-between : goal.returns-in_err-between
+returns-in_err-between t c v =
+    let e = course.entered c.args.groups.now v c.kind_of-kind.ensures c.arity-o.ensures.0 c.if-o-eq0.false (c.in_ok-before_operands.ensures v) c.binders.ensures.0 c.before_operands.auto.w in
+    let d = course.first_done c.args.groups.now v e c.operand_end-i2.ensures c.kept_front-low.ensures c.operand-first.ensures.0 c.in_ok-n.ensures c.type_node.auto.w in
+    steps.between_refuses c.args.groups.now v d.done (course.has_two c.args.groups.now v d c.if-o-eq1.false) _ (c.in_err-between.ensures (course.some_of c.args.groups.now v d c.if-o-eq1.false)).0 c.from_residual-in_err-between.ensures.1
 
 pub operand_end-i3-requires : goal.operand_end-i3-requires
 operand_end-i3-requires t c =
     let v = c.requires in
-    let e = course.entered c.args.groups.now v c.kind-k.ensures c.arity-o.ensures.0 c.if-o-eq0.false (c.before_operands-asked.ensures v) c.in-Passed.is c.binders.ensures.0 c.before_operands-asked.auto.w in
-    let d = course.first_done c.args.groups.now v e c.operand_end-i2.ensures c.kept_front-low.ensures c.operand-first.ensures.0 c.type_node-x1.ensures c.type_node-x1.auto.w c.in-Typed.is in
-    let e2 = course.second_entered c.args.groups.now v d c.if-o-eq1.false c.between-read.ensures c.property-tested.ensures c.in-Passed-read.is c.binders-2.ensures.0 c.between-read.auto.w in
+    let e = course.entered c.args.groups.now v c.kind_of-kind.ensures c.arity-o.ensures.0 c.if-o-eq0.false (c.in_ok-before_operands.ensures v) c.binders.ensures.0 c.before_operands.auto.w in
+    let d = course.first_done c.args.groups.now v e c.operand_end-i2.ensures c.kept_front-low.ensures c.operand-first.ensures.0 c.in_ok-n.ensures c.type_node.auto.w in
+    let e2 = course.second_entered c.args.groups.now v d c.if-o-eq1.false c.in_ok-between.ensures c.property-tested.ensures c.binders-2.ensures.0 c.between.auto.w in
     record { tree = second_operand v.tree; at = e2.stands; whole = λ z. second_whole c.args.s.now v.tree v.is _ e2.from (sym e2.count ∙ sym z) }
 
 pub operand-second-requires : goal.operand-second-requires
 operand-second-requires t c =
     let v = c.requires in
-    let e = course.entered c.args.groups.now v c.kind-k.ensures c.arity-o.ensures.0 c.if-o-eq0.false (c.before_operands-asked.ensures v) c.in-Passed.is c.binders.ensures.0 c.before_operands-asked.auto.w in
-    let d = course.first_done c.args.groups.now v e c.operand_end-i2.ensures c.kept_front-low.ensures c.operand-first.ensures.0 c.type_node-x1.ensures c.type_node-x1.auto.w c.in-Typed.is in
-    let e2 = course.second_entered c.args.groups.now v d c.if-o-eq1.false c.between-read.ensures c.property-tested.ensures c.in-Passed-read.is c.binders-2.ensures.0 c.between-read.auto.w in
+    let e = course.entered c.args.groups.now v c.kind_of-kind.ensures c.arity-o.ensures.0 c.if-o-eq0.false (c.in_ok-before_operands.ensures v) c.binders.ensures.0 c.before_operands.auto.w in
+    let d = course.first_done c.args.groups.now v e c.operand_end-i2.ensures c.kept_front-low.ensures c.operand-first.ensures.0 c.in_ok-n.ensures c.type_node.auto.w in
+    let e2 = course.second_entered c.args.groups.now v d c.if-o-eq1.false c.in_ok-between.ensures c.property-tested.ensures c.binders-2.ensures.0 c.between.auto.w in
     record { tree = second_operand v.tree; at = e2.stands; ends = c.operand_end-i3.ensures _ e2.stands }
 
 pub overflow_add-place-2 : goal.overflow_add-place-2
 overflow_add-place-2 t c =
     let v = c.requires in
-    let e = course.entered c.args.groups.now v c.kind-k.ensures c.arity-o.ensures.0 c.if-o-eq0.false (c.before_operands-asked.ensures v) c.in-Passed.is c.binders.ensures.0 c.before_operands-asked.auto.w in
-    let d = course.first_done c.args.groups.now v e c.operand_end-i2.ensures c.kept_front-low.ensures c.operand-first.ensures.0 c.type_node-x1.ensures c.type_node-x1.auto.w c.in-Typed.is in
-    let e2 = course.second_entered c.args.groups.now v d c.if-o-eq1.false c.between-read.ensures c.property-tested.ensures c.in-Passed-read.is c.binders-2.ensures.0 c.between-read.auto.w in
+    let e = course.entered c.args.groups.now v c.kind_of-kind.ensures c.arity-o.ensures.0 c.if-o-eq0.false (c.in_ok-before_operands.ensures v) c.binders.ensures.0 c.before_operands.auto.w in
+    let d = course.first_done c.args.groups.now v e c.operand_end-i2.ensures c.kept_front-low.ensures c.operand-first.ensures.0 c.in_ok-n.ensures c.type_node.auto.w in
+    let e2 = course.second_entered c.args.groups.now v d c.if-o-eq1.false c.in_ok-between.ensures c.property-tested.ensures c.binders-2.ensures.0 c.between.auto.w in
     omega (arith, steps.second_placed c.args.groups.now v e2.two {t = e2.tested} e2.done (c.kept_between-mid.ensures ∙ ap kept_between e2.count) e2.from)
 
 pub slice_bounds-type_node-count-2 : goal.slice_bounds-type_node-count-2
 slice_bounds-type_node-count-2 t c =
     let v = c.requires in
-    let e = course.entered c.args.groups.now v c.kind-k.ensures c.arity-o.ensures.0 c.if-o-eq0.false (c.before_operands-asked.ensures v) c.in-Passed.is c.binders.ensures.0 c.before_operands-asked.auto.w in
-    let d = course.first_done c.args.groups.now v e c.operand_end-i2.ensures c.kept_front-low.ensures c.operand-first.ensures.0 c.type_node-x1.ensures c.type_node-x1.auto.w c.in-Typed.is in
-    let e2 = course.second_entered c.args.groups.now v d c.if-o-eq1.false c.between-read.ensures c.property-tested.ensures c.in-Passed-read.is c.binders-2.ensures.0 c.between-read.auto.w in
+    let e = course.entered c.args.groups.now v c.kind_of-kind.ensures c.arity-o.ensures.0 c.if-o-eq0.false (c.in_ok-before_operands.ensures v) c.binders.ensures.0 c.before_operands.auto.w in
+    let d = course.first_done c.args.groups.now v e c.operand_end-i2.ensures c.kept_front-low.ensures c.operand-first.ensures.0 c.in_ok-n.ensures c.type_node.auto.w in
+    let e2 = course.second_entered c.args.groups.now v d c.if-o-eq1.false c.in_ok-between.ensures c.property-tested.ensures c.binders-2.ensures.0 c.between.auto.w in
     steps.mid_within c.args.groups.now v e2.two e2.done (c.kept_between-mid.ensures ∙ ap kept_between e2.count) e2.from
 
 pub slice_bounds-type_node-start-2 : goal.slice_bounds-type_node-start-2
 slice_bounds-type_node-start-2 t c =
     let v = c.requires in
-    let e = course.entered c.args.groups.now v c.kind-k.ensures c.arity-o.ensures.0 c.if-o-eq0.false (c.before_operands-asked.ensures v) c.in-Passed.is c.binders.ensures.0 c.before_operands-asked.auto.w in
-    let d = course.first_done c.args.groups.now v e c.operand_end-i2.ensures c.kept_front-low.ensures c.operand-first.ensures.0 c.type_node-x1.ensures c.type_node-x1.auto.w c.in-Typed.is in
-    let e2 = course.second_entered c.args.groups.now v d c.if-o-eq1.false c.between-read.ensures c.property-tested.ensures c.in-Passed-read.is c.binders-2.ensures.0 c.between-read.auto.w in
+    let e = course.entered c.args.groups.now v c.kind_of-kind.ensures c.arity-o.ensures.0 c.if-o-eq0.false (c.in_ok-before_operands.ensures v) c.binders.ensures.0 c.before_operands.auto.w in
+    let d = course.first_done c.args.groups.now v e c.operand_end-i2.ensures c.kept_front-low.ensures c.operand-first.ensures.0 c.in_ok-n.ensures c.type_node.auto.w in
+    let e2 = course.second_entered c.args.groups.now v d c.if-o-eq1.false c.in_ok-between.ensures c.property-tested.ensures c.binders-2.ensures.0 c.between.auto.w in
     steps.mid_within c.args.groups.now v e2.two e2.done (c.kept_between-mid.ensures ∙ ap kept_between e2.count) e2.from
 
-pub type_node-x2-requires : goal.type_node-x2-requires
-type_node-x2-requires t c =
+pub type_node-requires-2 : goal.type_node-requires-2
+type_node-requires-2 t c =
     let v = c.requires in
-    let e = course.entered c.args.groups.now v c.kind-k.ensures c.arity-o.ensures.0 c.if-o-eq0.false (c.before_operands-asked.ensures v) c.in-Passed.is c.binders.ensures.0 c.before_operands-asked.auto.w in
-    let d = course.first_done c.args.groups.now v e c.operand_end-i2.ensures c.kept_front-low.ensures c.operand-first.ensures.0 c.type_node-x1.ensures c.type_node-x1.auto.w c.in-Typed.is in
-    let e2 = course.second_entered c.args.groups.now v d c.if-o-eq1.false c.between-read.ensures c.property-tested.ensures c.in-Passed-read.is c.binders-2.ensures.0 c.between-read.auto.w in
+    let e = course.entered c.args.groups.now v c.kind_of-kind.ensures c.arity-o.ensures.0 c.if-o-eq0.false (c.in_ok-before_operands.ensures v) c.binders.ensures.0 c.before_operands.auto.w in
+    let d = course.first_done c.args.groups.now v e c.operand_end-i2.ensures c.kept_front-low.ensures c.operand-first.ensures.0 c.in_ok-n.ensures c.type_node.auto.w in
+    let e2 = course.second_entered c.args.groups.now v d c.if-o-eq1.false c.in_ok-between.ensures c.property-tested.ensures c.binders-2.ensures.0 c.between.auto.w in
     (omega (arith, c.operand-second.ensures.1 (omega (arith, e2.from)), c.decreases), course.second_ready c.args.groups.now v e2 c.operand_end-i3.ensures c.kept_between-mid.ensures c.operand-second.ensures.0)
 
-pub returns-in_default-x2 : goal.returns-in_default-x2
-returns-in_default-x2 t c v =
-    let e = course.entered c.args.groups.now v c.kind-k.ensures c.arity-o.ensures.0 c.if-o-eq0.false (c.before_operands-asked.ensures v) c.in-Passed.is c.binders.ensures.0 c.before_operands-asked.auto.w in
-    let d = course.first_done c.args.groups.now v e c.operand_end-i2.ensures c.kept_front-low.ensures c.operand-first.ensures.0 c.type_node-x1.ensures c.type_node-x1.auto.w c.in-Typed.is in
-    let e2 = course.second_entered c.args.groups.now v d c.if-o-eq1.false c.between-read.ensures c.property-tested.ensures c.in-Passed-read.is c.binders-2.ensures.0 c.between-read.auto.w in
-    course.second_refuses c.args.groups.now v e2 c.operand_end-i3.ensures c.kept_between-mid.ensures c.operand-second.ensures.0 c.type_node-x2.ensures c.in_default-x2.not-Typed
+pub returns-in_err-m : goal.returns-in_err-m
+returns-in_err-m t c v =
+    let e = course.entered c.args.groups.now v c.kind_of-kind.ensures c.arity-o.ensures.0 c.if-o-eq0.false (c.in_ok-before_operands.ensures v) c.binders.ensures.0 c.before_operands.auto.w in
+    let d = course.first_done c.args.groups.now v e c.operand_end-i2.ensures c.kept_front-low.ensures c.operand-first.ensures.0 c.in_ok-n.ensures c.type_node.auto.w in
+    let e2 = course.second_entered c.args.groups.now v d c.if-o-eq1.false c.in_ok-between.ensures c.property-tested.ensures c.binders-2.ensures.0 c.between.auto.w in
+    course.second_refuses c.args.groups.now v e2 c.operand_end-i3.ensures c.kept_between-mid.ensures c.operand-second.ensures.0 _ c.in_err-m.ensures c.from_residual-in_err-m.ensures.1
 
 pub after_two-requires : goal.after_two-requires
 after_two-requires t c =
     let v = c.requires in
-    let e = course.entered c.args.groups.now v c.kind-k.ensures c.arity-o.ensures.0 c.if-o-eq0.false (c.before_operands-asked.ensures v) c.in-Passed.is c.binders.ensures.0 c.before_operands-asked.auto.w in
-    let d = course.first_done c.args.groups.now v e c.operand_end-i2.ensures c.kept_front-low.ensures c.operand-first.ensures.0 c.type_node-x1.ensures c.type_node-x1.auto.w c.in-Typed.is in
-    let e2 = course.second_entered c.args.groups.now v d c.if-o-eq1.false c.between-read.ensures c.property-tested.ensures c.in-Passed-read.is c.binders-2.ensures.0 c.between-read.auto.w in
-    let d2 = course.second_done c.args.groups.now v e2 c.operand_end-i3.ensures c.kept_between-mid.ensures c.operand-second.ensures.0 c.type_node-x2.ensures c.type_node-x2.auto.w c.in-Typed-x2.is in
+    let e = course.entered c.args.groups.now v c.kind_of-kind.ensures c.arity-o.ensures.0 c.if-o-eq0.false (c.in_ok-before_operands.ensures v) c.binders.ensures.0 c.before_operands.auto.w in
+    let d = course.first_done c.args.groups.now v e c.operand_end-i2.ensures c.kept_front-low.ensures c.operand-first.ensures.0 c.in_ok-n.ensures c.type_node.auto.w in
+    let e2 = course.second_entered c.args.groups.now v d c.if-o-eq1.false c.in_ok-between.ensures c.property-tested.ensures c.binders-2.ensures.0 c.between.auto.w in
+    let d2 = course.second_done c.args.groups.now v e2 c.operand_end-i3.ensures c.kept_between-mid.ensures c.operand-second.ensures.0 c.in_ok-m.ensures c.type_node-2.auto.w in
     steps.two_of c.args.groups.now v (sym d2.count ∙ c.if-o-eq2.true) d2.done
 
 pub returns-then-o-eq2 : goal.returns-then-o-eq2
 returns-then-o-eq2 t c v =
-    let e = course.entered c.args.groups.now v c.kind-k.ensures c.arity-o.ensures.0 c.if-o-eq0.false (c.before_operands-asked.ensures v) c.in-Passed.is c.binders.ensures.0 c.before_operands-asked.auto.w in
-    let d = course.first_done c.args.groups.now v e c.operand_end-i2.ensures c.kept_front-low.ensures c.operand-first.ensures.0 c.type_node-x1.ensures c.type_node-x1.auto.w c.in-Typed.is in
-    let e2 = course.second_entered c.args.groups.now v d c.if-o-eq1.false c.between-read.ensures c.property-tested.ensures c.in-Passed-read.is c.binders-2.ensures.0 c.between-read.auto.w in
-    let d2 = course.second_done c.args.groups.now v e2 c.operand_end-i3.ensures c.kept_between-mid.ensures c.operand-second.ensures.0 c.type_node-x2.ensures c.type_node-x2.auto.w c.in-Typed-x2.is in
+    let e = course.entered c.args.groups.now v c.kind_of-kind.ensures c.arity-o.ensures.0 c.if-o-eq0.false (c.in_ok-before_operands.ensures v) c.binders.ensures.0 c.before_operands.auto.w in
+    let d = course.first_done c.args.groups.now v e c.operand_end-i2.ensures c.kept_front-low.ensures c.operand-first.ensures.0 c.in_ok-n.ensures c.type_node.auto.w in
+    let e2 = course.second_entered c.args.groups.now v d c.if-o-eq1.false c.in_ok-between.ensures c.property-tested.ensures c.binders-2.ensures.0 c.between.auto.w in
+    let d2 = course.second_done c.args.groups.now v e2 c.operand_end-i3.ensures c.kept_between-mid.ensures c.operand-second.ensures.0 c.in_ok-m.ensures c.type_node-2.auto.w in
     let o = sym d2.count ∙ c.if-o-eq2.true in
     steps.ends_meets c.args.groups.now v o d2.done (c.after_two.ensures (steps.two_of c.args.groups.now v o d2.done) c.args.b (omega (arith, steps.level c.args.groups.now v, d2.done.same)))
 
-pub after_first_branch-fits-requires : goal.after_first_branch-fits-requires
-after_first_branch-fits-requires t c =
+pub after_first_branch-requires : goal.after_first_branch-requires
+after_first_branch-requires t c =
     let v = c.requires in
-    let e = course.entered c.args.groups.now v c.kind-k.ensures c.arity-o.ensures.0 c.if-o-eq0.false (c.before_operands-asked.ensures v) c.in-Passed.is c.binders.ensures.0 c.before_operands-asked.auto.w in
-    let d = course.first_done c.args.groups.now v e c.operand_end-i2.ensures c.kept_front-low.ensures c.operand-first.ensures.0 c.type_node-x1.ensures c.type_node-x1.auto.w c.in-Typed.is in
-    let e2 = course.second_entered c.args.groups.now v d c.if-o-eq1.false c.between-read.ensures c.property-tested.ensures c.in-Passed-read.is c.binders-2.ensures.0 c.between-read.auto.w in
-    let d2 = course.second_done c.args.groups.now v e2 c.operand_end-i3.ensures c.kept_between-mid.ensures c.operand-second.ensures.0 c.type_node-x2.ensures c.type_node-x2.auto.w c.in-Typed-x2.is in
+    let e = course.entered c.args.groups.now v c.kind_of-kind.ensures c.arity-o.ensures.0 c.if-o-eq0.false (c.in_ok-before_operands.ensures v) c.binders.ensures.0 c.before_operands.auto.w in
+    let d = course.first_done c.args.groups.now v e c.operand_end-i2.ensures c.kept_front-low.ensures c.operand-first.ensures.0 c.in_ok-n.ensures c.type_node.auto.w in
+    let e2 = course.second_entered c.args.groups.now v d c.if-o-eq1.false c.in_ok-between.ensures c.property-tested.ensures c.binders-2.ensures.0 c.between.auto.w in
+    let d2 = course.second_done c.args.groups.now v e2 c.operand_end-i3.ensures c.kept_between-mid.ensures c.operand-second.ensures.0 c.in_ok-m.ensures c.type_node-2.auto.w in
     course.branch_of c.args.groups.now v d2 c.if-o-eq2.false
 
-pub returns-in_default-fits : goal.returns-in_default-fits
-returns-in_default-fits t c v =
-    let e = course.entered c.args.groups.now v c.kind-k.ensures c.arity-o.ensures.0 c.if-o-eq0.false (c.before_operands-asked.ensures v) c.in-Passed.is c.binders.ensures.0 c.before_operands-asked.auto.w in
-    let d = course.first_done c.args.groups.now v e c.operand_end-i2.ensures c.kept_front-low.ensures c.operand-first.ensures.0 c.type_node-x1.ensures c.type_node-x1.auto.w c.in-Typed.is in
-    let e2 = course.second_entered c.args.groups.now v d c.if-o-eq1.false c.between-read.ensures c.property-tested.ensures c.in-Passed-read.is c.binders-2.ensures.0 c.between-read.auto.w in
-    let d2 = course.second_done c.args.groups.now v e2 c.operand_end-i3.ensures c.kept_between-mid.ensures c.operand-second.ensures.0 c.type_node-x2.ensures c.type_node-x2.auto.w c.in-Typed-x2.is in
-    steps.branch_refuses c.args.groups.now v (course.has_three c.args.groups.now v d2 c.if-o-eq2.false) d2.done (c.after_first_branch-fits.ensures (course.branch_of c.args.groups.now v d2 c.if-o-eq2.false)).0 c.in_default-fits.not-Passed c.refused-in_default-fits.ensures
+pub returns-in_err-after_first_branch : goal.returns-in_err-after_first_branch
+returns-in_err-after_first_branch t c v =
+    let e = course.entered c.args.groups.now v c.kind_of-kind.ensures c.arity-o.ensures.0 c.if-o-eq0.false (c.in_ok-before_operands.ensures v) c.binders.ensures.0 c.before_operands.auto.w in
+    let d = course.first_done c.args.groups.now v e c.operand_end-i2.ensures c.kept_front-low.ensures c.operand-first.ensures.0 c.in_ok-n.ensures c.type_node.auto.w in
+    let e2 = course.second_entered c.args.groups.now v d c.if-o-eq1.false c.in_ok-between.ensures c.property-tested.ensures c.binders-2.ensures.0 c.between.auto.w in
+    let d2 = course.second_done c.args.groups.now v e2 c.operand_end-i3.ensures c.kept_between-mid.ensures c.operand-second.ensures.0 c.in_ok-m.ensures c.type_node-2.auto.w in
+    steps.branch_refuses c.args.groups.now v (course.has_three c.args.groups.now v d2 c.if-o-eq2.false) d2.done _ (c.in_err-after_first_branch.ensures (course.branch_of c.args.groups.now v d2 c.if-o-eq2.false)).0 c.from_residual-in_err-after_first_branch.ensures.1
 
 pub operand_end-end-requires : goal.operand_end-end-requires
 operand_end-end-requires t c =
     let v = c.requires in
-    let e = course.entered c.args.groups.now v c.kind-k.ensures c.arity-o.ensures.0 c.if-o-eq0.false (c.before_operands-asked.ensures v) c.in-Passed.is c.binders.ensures.0 c.before_operands-asked.auto.w in
-    let d = course.first_done c.args.groups.now v e c.operand_end-i2.ensures c.kept_front-low.ensures c.operand-first.ensures.0 c.type_node-x1.ensures c.type_node-x1.auto.w c.in-Typed.is in
-    let e2 = course.second_entered c.args.groups.now v d c.if-o-eq1.false c.between-read.ensures c.property-tested.ensures c.in-Passed-read.is c.binders-2.ensures.0 c.between-read.auto.w in
-    let d2 = course.second_done c.args.groups.now v e2 c.operand_end-i3.ensures c.kept_between-mid.ensures c.operand-second.ensures.0 c.type_node-x2.ensures c.type_node-x2.auto.w c.in-Typed-x2.is in
-    let e3 = course.third_entered c.args.groups.now v d2 c.if-o-eq2.false c.after_first_branch-fits.ensures c.in-Passed-fits.is c.after_first_branch-fits.auto.w in
+    let e = course.entered c.args.groups.now v c.kind_of-kind.ensures c.arity-o.ensures.0 c.if-o-eq0.false (c.in_ok-before_operands.ensures v) c.binders.ensures.0 c.before_operands.auto.w in
+    let d = course.first_done c.args.groups.now v e c.operand_end-i2.ensures c.kept_front-low.ensures c.operand-first.ensures.0 c.in_ok-n.ensures c.type_node.auto.w in
+    let e2 = course.second_entered c.args.groups.now v d c.if-o-eq1.false c.in_ok-between.ensures c.property-tested.ensures c.binders-2.ensures.0 c.between.auto.w in
+    let d2 = course.second_done c.args.groups.now v e2 c.operand_end-i3.ensures c.kept_between-mid.ensures c.operand-second.ensures.0 c.in_ok-m.ensures c.type_node-2.auto.w in
+    let e3 = course.third_entered c.args.groups.now v d2 c.if-o-eq2.false c.in_ok-after_first_branch.ensures c.after_first_branch.auto.w in
     record { tree = third_operand v.tree; at = e3.stands; whole = λ z. third_whole c.args.s.now v.tree v.is _ e3.from (sym e3.count ∙ sym z) }
 
 pub kept_branch-past-requires : goal.kept_branch-past-requires
@@ -217,61 +211,61 @@ kept_branch-past-requires t c =
 pub operand-third-requires : goal.operand-third-requires
 operand-third-requires t c =
     let v = c.requires in
-    let e = course.entered c.args.groups.now v c.kind-k.ensures c.arity-o.ensures.0 c.if-o-eq0.false (c.before_operands-asked.ensures v) c.in-Passed.is c.binders.ensures.0 c.before_operands-asked.auto.w in
-    let d = course.first_done c.args.groups.now v e c.operand_end-i2.ensures c.kept_front-low.ensures c.operand-first.ensures.0 c.type_node-x1.ensures c.type_node-x1.auto.w c.in-Typed.is in
-    let e2 = course.second_entered c.args.groups.now v d c.if-o-eq1.false c.between-read.ensures c.property-tested.ensures c.in-Passed-read.is c.binders-2.ensures.0 c.between-read.auto.w in
-    let d2 = course.second_done c.args.groups.now v e2 c.operand_end-i3.ensures c.kept_between-mid.ensures c.operand-second.ensures.0 c.type_node-x2.ensures c.type_node-x2.auto.w c.in-Typed-x2.is in
-    let e3 = course.third_entered c.args.groups.now v d2 c.if-o-eq2.false c.after_first_branch-fits.ensures c.in-Passed-fits.is c.after_first_branch-fits.auto.w in
+    let e = course.entered c.args.groups.now v c.kind_of-kind.ensures c.arity-o.ensures.0 c.if-o-eq0.false (c.in_ok-before_operands.ensures v) c.binders.ensures.0 c.before_operands.auto.w in
+    let d = course.first_done c.args.groups.now v e c.operand_end-i2.ensures c.kept_front-low.ensures c.operand-first.ensures.0 c.in_ok-n.ensures c.type_node.auto.w in
+    let e2 = course.second_entered c.args.groups.now v d c.if-o-eq1.false c.in_ok-between.ensures c.property-tested.ensures c.binders-2.ensures.0 c.between.auto.w in
+    let d2 = course.second_done c.args.groups.now v e2 c.operand_end-i3.ensures c.kept_between-mid.ensures c.operand-second.ensures.0 c.in_ok-m.ensures c.type_node-2.auto.w in
+    let e3 = course.third_entered c.args.groups.now v d2 c.if-o-eq2.false c.in_ok-after_first_branch.ensures c.after_first_branch.auto.w in
     record { tree = third_operand v.tree; at = e3.stands; ends = c.operand_end-end.ensures _ e3.stands }
 
 pub overflow_add-place-3 : goal.overflow_add-place-3
 overflow_add-place-3 t c =
     let v = c.requires in
-    let e = course.entered c.args.groups.now v c.kind-k.ensures c.arity-o.ensures.0 c.if-o-eq0.false (c.before_operands-asked.ensures v) c.in-Passed.is c.binders.ensures.0 c.before_operands-asked.auto.w in
-    let d = course.first_done c.args.groups.now v e c.operand_end-i2.ensures c.kept_front-low.ensures c.operand-first.ensures.0 c.type_node-x1.ensures c.type_node-x1.auto.w c.in-Typed.is in
-    let e2 = course.second_entered c.args.groups.now v d c.if-o-eq1.false c.between-read.ensures c.property-tested.ensures c.in-Passed-read.is c.binders-2.ensures.0 c.between-read.auto.w in
-    let d2 = course.second_done c.args.groups.now v e2 c.operand_end-i3.ensures c.kept_between-mid.ensures c.operand-second.ensures.0 c.type_node-x2.ensures c.type_node-x2.auto.w c.in-Typed-x2.is in
-    let e3 = course.third_entered c.args.groups.now v d2 c.if-o-eq2.false c.after_first_branch-fits.ensures c.in-Passed-fits.is c.after_first_branch-fits.auto.w in
+    let e = course.entered c.args.groups.now v c.kind_of-kind.ensures c.arity-o.ensures.0 c.if-o-eq0.false (c.in_ok-before_operands.ensures v) c.binders.ensures.0 c.before_operands.auto.w in
+    let d = course.first_done c.args.groups.now v e c.operand_end-i2.ensures c.kept_front-low.ensures c.operand-first.ensures.0 c.in_ok-n.ensures c.type_node.auto.w in
+    let e2 = course.second_entered c.args.groups.now v d c.if-o-eq1.false c.in_ok-between.ensures c.property-tested.ensures c.binders-2.ensures.0 c.between.auto.w in
+    let d2 = course.second_done c.args.groups.now v e2 c.operand_end-i3.ensures c.kept_between-mid.ensures c.operand-second.ensures.0 c.in_ok-m.ensures c.type_node-2.auto.w in
+    let e3 = course.third_entered c.args.groups.now v d2 c.if-o-eq2.false c.in_ok-after_first_branch.ensures c.after_first_branch.auto.w in
     omega (arith, steps.third_placed c.args.groups.now v e3.three {t = e3.tested} {first = e3.first} e3.done c.kept_branch-past.ensures e3.from)
 
 pub slice_bounds-type_node-count-3 : goal.slice_bounds-type_node-count-3
 slice_bounds-type_node-count-3 t c =
     let v = c.requires in
-    let e = course.entered c.args.groups.now v c.kind-k.ensures c.arity-o.ensures.0 c.if-o-eq0.false (c.before_operands-asked.ensures v) c.in-Passed.is c.binders.ensures.0 c.before_operands-asked.auto.w in
-    let d = course.first_done c.args.groups.now v e c.operand_end-i2.ensures c.kept_front-low.ensures c.operand-first.ensures.0 c.type_node-x1.ensures c.type_node-x1.auto.w c.in-Typed.is in
-    let e2 = course.second_entered c.args.groups.now v d c.if-o-eq1.false c.between-read.ensures c.property-tested.ensures c.in-Passed-read.is c.binders-2.ensures.0 c.between-read.auto.w in
-    let d2 = course.second_done c.args.groups.now v e2 c.operand_end-i3.ensures c.kept_between-mid.ensures c.operand-second.ensures.0 c.type_node-x2.ensures c.type_node-x2.auto.w c.in-Typed-x2.is in
-    let e3 = course.third_entered c.args.groups.now v d2 c.if-o-eq2.false c.after_first_branch-fits.ensures c.in-Passed-fits.is c.after_first_branch-fits.auto.w in
+    let e = course.entered c.args.groups.now v c.kind_of-kind.ensures c.arity-o.ensures.0 c.if-o-eq0.false (c.in_ok-before_operands.ensures v) c.binders.ensures.0 c.before_operands.auto.w in
+    let d = course.first_done c.args.groups.now v e c.operand_end-i2.ensures c.kept_front-low.ensures c.operand-first.ensures.0 c.in_ok-n.ensures c.type_node.auto.w in
+    let e2 = course.second_entered c.args.groups.now v d c.if-o-eq1.false c.in_ok-between.ensures c.property-tested.ensures c.binders-2.ensures.0 c.between.auto.w in
+    let d2 = course.second_done c.args.groups.now v e2 c.operand_end-i3.ensures c.kept_between-mid.ensures c.operand-second.ensures.0 c.in_ok-m.ensures c.type_node-2.auto.w in
+    let e3 = course.third_entered c.args.groups.now v d2 c.if-o-eq2.false c.in_ok-after_first_branch.ensures c.after_first_branch.auto.w in
     steps.past_within c.args.groups.now v e3.three e3.done c.kept_branch-past.ensures e3.from
 
 pub slice_bounds-type_node-start-3 : goal.slice_bounds-type_node-start-3
 slice_bounds-type_node-start-3 t c =
     let v = c.requires in
-    let e = course.entered c.args.groups.now v c.kind-k.ensures c.arity-o.ensures.0 c.if-o-eq0.false (c.before_operands-asked.ensures v) c.in-Passed.is c.binders.ensures.0 c.before_operands-asked.auto.w in
-    let d = course.first_done c.args.groups.now v e c.operand_end-i2.ensures c.kept_front-low.ensures c.operand-first.ensures.0 c.type_node-x1.ensures c.type_node-x1.auto.w c.in-Typed.is in
-    let e2 = course.second_entered c.args.groups.now v d c.if-o-eq1.false c.between-read.ensures c.property-tested.ensures c.in-Passed-read.is c.binders-2.ensures.0 c.between-read.auto.w in
-    let d2 = course.second_done c.args.groups.now v e2 c.operand_end-i3.ensures c.kept_between-mid.ensures c.operand-second.ensures.0 c.type_node-x2.ensures c.type_node-x2.auto.w c.in-Typed-x2.is in
-    let e3 = course.third_entered c.args.groups.now v d2 c.if-o-eq2.false c.after_first_branch-fits.ensures c.in-Passed-fits.is c.after_first_branch-fits.auto.w in
+    let e = course.entered c.args.groups.now v c.kind_of-kind.ensures c.arity-o.ensures.0 c.if-o-eq0.false (c.in_ok-before_operands.ensures v) c.binders.ensures.0 c.before_operands.auto.w in
+    let d = course.first_done c.args.groups.now v e c.operand_end-i2.ensures c.kept_front-low.ensures c.operand-first.ensures.0 c.in_ok-n.ensures c.type_node.auto.w in
+    let e2 = course.second_entered c.args.groups.now v d c.if-o-eq1.false c.in_ok-between.ensures c.property-tested.ensures c.binders-2.ensures.0 c.between.auto.w in
+    let d2 = course.second_done c.args.groups.now v e2 c.operand_end-i3.ensures c.kept_between-mid.ensures c.operand-second.ensures.0 c.in_ok-m.ensures c.type_node-2.auto.w in
+    let e3 = course.third_entered c.args.groups.now v d2 c.if-o-eq2.false c.in_ok-after_first_branch.ensures c.after_first_branch.auto.w in
     steps.past_within c.args.groups.now v e3.three e3.done c.kept_branch-past.ensures e3.from
 
-pub type_node-x3-requires : goal.type_node-x3-requires
-type_node-x3-requires t c =
+pub type_node-requires-3 : goal.type_node-requires-3
+type_node-requires-3 t c =
     let v = c.requires in
-    let e = course.entered c.args.groups.now v c.kind-k.ensures c.arity-o.ensures.0 c.if-o-eq0.false (c.before_operands-asked.ensures v) c.in-Passed.is c.binders.ensures.0 c.before_operands-asked.auto.w in
-    let d = course.first_done c.args.groups.now v e c.operand_end-i2.ensures c.kept_front-low.ensures c.operand-first.ensures.0 c.type_node-x1.ensures c.type_node-x1.auto.w c.in-Typed.is in
-    let e2 = course.second_entered c.args.groups.now v d c.if-o-eq1.false c.between-read.ensures c.property-tested.ensures c.in-Passed-read.is c.binders-2.ensures.0 c.between-read.auto.w in
-    let d2 = course.second_done c.args.groups.now v e2 c.operand_end-i3.ensures c.kept_between-mid.ensures c.operand-second.ensures.0 c.type_node-x2.ensures c.type_node-x2.auto.w c.in-Typed-x2.is in
-    let e3 = course.third_entered c.args.groups.now v d2 c.if-o-eq2.false c.after_first_branch-fits.ensures c.in-Passed-fits.is c.after_first_branch-fits.auto.w in
+    let e = course.entered c.args.groups.now v c.kind_of-kind.ensures c.arity-o.ensures.0 c.if-o-eq0.false (c.in_ok-before_operands.ensures v) c.binders.ensures.0 c.before_operands.auto.w in
+    let d = course.first_done c.args.groups.now v e c.operand_end-i2.ensures c.kept_front-low.ensures c.operand-first.ensures.0 c.in_ok-n.ensures c.type_node.auto.w in
+    let e2 = course.second_entered c.args.groups.now v d c.if-o-eq1.false c.in_ok-between.ensures c.property-tested.ensures c.binders-2.ensures.0 c.between.auto.w in
+    let d2 = course.second_done c.args.groups.now v e2 c.operand_end-i3.ensures c.kept_between-mid.ensures c.operand-second.ensures.0 c.in_ok-m.ensures c.type_node-2.auto.w in
+    let e3 = course.third_entered c.args.groups.now v d2 c.if-o-eq2.false c.in_ok-after_first_branch.ensures c.after_first_branch.auto.w in
     (omega (arith, c.operand-third.ensures.1 (omega (arith, e3.from)), c.decreases), course.third_ready c.args.groups.now v e3 c.operand_end-end.ensures c.kept_branch-past.ensures c.operand-third.ensures.0)
 
-pub returns-in_default-x3 : goal.returns-in_default-x3
-returns-in_default-x3 t c v =
-    let e = course.entered c.args.groups.now v c.kind-k.ensures c.arity-o.ensures.0 c.if-o-eq0.false (c.before_operands-asked.ensures v) c.in-Passed.is c.binders.ensures.0 c.before_operands-asked.auto.w in
-    let d = course.first_done c.args.groups.now v e c.operand_end-i2.ensures c.kept_front-low.ensures c.operand-first.ensures.0 c.type_node-x1.ensures c.type_node-x1.auto.w c.in-Typed.is in
-    let e2 = course.second_entered c.args.groups.now v d c.if-o-eq1.false c.between-read.ensures c.property-tested.ensures c.in-Passed-read.is c.binders-2.ensures.0 c.between-read.auto.w in
-    let d2 = course.second_done c.args.groups.now v e2 c.operand_end-i3.ensures c.kept_between-mid.ensures c.operand-second.ensures.0 c.type_node-x2.ensures c.type_node-x2.auto.w c.in-Typed-x2.is in
-    let e3 = course.third_entered c.args.groups.now v d2 c.if-o-eq2.false c.after_first_branch-fits.ensures c.in-Passed-fits.is c.after_first_branch-fits.auto.w in
-    course.third_refuses c.args.groups.now v e3 c.operand_end-end.ensures c.kept_branch-past.ensures c.operand-third.ensures.0 c.type_node-x3.ensures c.in_default-x3.not-Typed
+pub returns-in_err-type_node : goal.returns-in_err-type_node
+returns-in_err-type_node t c v =
+    let e = course.entered c.args.groups.now v c.kind_of-kind.ensures c.arity-o.ensures.0 c.if-o-eq0.false (c.in_ok-before_operands.ensures v) c.binders.ensures.0 c.before_operands.auto.w in
+    let d = course.first_done c.args.groups.now v e c.operand_end-i2.ensures c.kept_front-low.ensures c.operand-first.ensures.0 c.in_ok-n.ensures c.type_node.auto.w in
+    let e2 = course.second_entered c.args.groups.now v d c.if-o-eq1.false c.in_ok-between.ensures c.property-tested.ensures c.binders-2.ensures.0 c.between.auto.w in
+    let d2 = course.second_done c.args.groups.now v e2 c.operand_end-i3.ensures c.kept_between-mid.ensures c.operand-second.ensures.0 c.in_ok-m.ensures c.type_node-2.auto.w in
+    let e3 = course.third_entered c.args.groups.now v d2 c.if-o-eq2.false c.in_ok-after_first_branch.ensures c.after_first_branch.auto.w in
+    course.third_refuses c.args.groups.now v e3 c.operand_end-end.ensures c.kept_branch-past.ensures c.operand-third.ensures.0 _ c.in_err-type_node.ensures c.from_residual-in_err-type_node.ensures.1
 
 pub reader-requires : goal.reader-requires
 reader-requires t c =
@@ -281,22 +275,22 @@ reader-requires t c =
 pub after_second_branch-requires : goal.after_second_branch-requires
 after_second_branch-requires t c =
     let v = c.requires in
-    let e = course.entered c.args.groups.now v c.kind-k.ensures c.arity-o.ensures.0 c.if-o-eq0.false (c.before_operands-asked.ensures v) c.in-Passed.is c.binders.ensures.0 c.before_operands-asked.auto.w in
-    let d = course.first_done c.args.groups.now v e c.operand_end-i2.ensures c.kept_front-low.ensures c.operand-first.ensures.0 c.type_node-x1.ensures c.type_node-x1.auto.w c.in-Typed.is in
-    let e2 = course.second_entered c.args.groups.now v d c.if-o-eq1.false c.between-read.ensures c.property-tested.ensures c.in-Passed-read.is c.binders-2.ensures.0 c.between-read.auto.w in
-    let d2 = course.second_done c.args.groups.now v e2 c.operand_end-i3.ensures c.kept_between-mid.ensures c.operand-second.ensures.0 c.type_node-x2.ensures c.type_node-x2.auto.w c.in-Typed-x2.is in
-    let e3 = course.third_entered c.args.groups.now v d2 c.if-o-eq2.false c.after_first_branch-fits.ensures c.in-Passed-fits.is c.after_first_branch-fits.auto.w in
-    let d3 = course.third_done c.args.groups.now v e3 c.operand_end-end.ensures c.kept_branch-past.ensures c.operand-third.ensures.0 c.type_node-x3.ensures c.type_node-x3.auto.w c.in-Typed-x3.is in
+    let e = course.entered c.args.groups.now v c.kind_of-kind.ensures c.arity-o.ensures.0 c.if-o-eq0.false (c.in_ok-before_operands.ensures v) c.binders.ensures.0 c.before_operands.auto.w in
+    let d = course.first_done c.args.groups.now v e c.operand_end-i2.ensures c.kept_front-low.ensures c.operand-first.ensures.0 c.in_ok-n.ensures c.type_node.auto.w in
+    let e2 = course.second_entered c.args.groups.now v d c.if-o-eq1.false c.in_ok-between.ensures c.property-tested.ensures c.binders-2.ensures.0 c.between.auto.w in
+    let d2 = course.second_done c.args.groups.now v e2 c.operand_end-i3.ensures c.kept_between-mid.ensures c.operand-second.ensures.0 c.in_ok-m.ensures c.type_node-2.auto.w in
+    let e3 = course.third_entered c.args.groups.now v d2 c.if-o-eq2.false c.in_ok-after_first_branch.ensures c.after_first_branch.auto.w in
+    let d3 = course.third_done c.args.groups.now v e3 c.operand_end-end.ensures c.kept_branch-past.ensures c.operand-third.ensures.0 c.in_ok-type_node.ensures c.type_node-3.auto.w in
     steps.branches_of c.args.groups.now v d3.three d3.done
 
 pub returns : goal.returns
 returns t c v =
-    let e = course.entered c.args.groups.now v c.kind-k.ensures c.arity-o.ensures.0 c.if-o-eq0.false (c.before_operands-asked.ensures v) c.in-Passed.is c.binders.ensures.0 c.before_operands-asked.auto.w in
-    let d = course.first_done c.args.groups.now v e c.operand_end-i2.ensures c.kept_front-low.ensures c.operand-first.ensures.0 c.type_node-x1.ensures c.type_node-x1.auto.w c.in-Typed.is in
-    let e2 = course.second_entered c.args.groups.now v d c.if-o-eq1.false c.between-read.ensures c.property-tested.ensures c.in-Passed-read.is c.binders-2.ensures.0 c.between-read.auto.w in
-    let d2 = course.second_done c.args.groups.now v e2 c.operand_end-i3.ensures c.kept_between-mid.ensures c.operand-second.ensures.0 c.type_node-x2.ensures c.type_node-x2.auto.w c.in-Typed-x2.is in
-    let e3 = course.third_entered c.args.groups.now v d2 c.if-o-eq2.false c.after_first_branch-fits.ensures c.in-Passed-fits.is c.after_first_branch-fits.auto.w in
-    let d3 = course.third_done c.args.groups.now v e3 c.operand_end-end.ensures c.kept_branch-past.ensures c.operand-third.ensures.0 c.type_node-x3.ensures c.type_node-x3.auto.w c.in-Typed-x3.is in
+    let e = course.entered c.args.groups.now v c.kind_of-kind.ensures c.arity-o.ensures.0 c.if-o-eq0.false (c.in_ok-before_operands.ensures v) c.binders.ensures.0 c.before_operands.auto.w in
+    let d = course.first_done c.args.groups.now v e c.operand_end-i2.ensures c.kept_front-low.ensures c.operand-first.ensures.0 c.in_ok-n.ensures c.type_node.auto.w in
+    let e2 = course.second_entered c.args.groups.now v d c.if-o-eq1.false c.in_ok-between.ensures c.property-tested.ensures c.binders-2.ensures.0 c.between.auto.w in
+    let d2 = course.second_done c.args.groups.now v e2 c.operand_end-i3.ensures c.kept_between-mid.ensures c.operand-second.ensures.0 c.in_ok-m.ensures c.type_node-2.auto.w in
+    let e3 = course.third_entered c.args.groups.now v d2 c.if-o-eq2.false c.in_ok-after_first_branch.ensures c.after_first_branch.auto.w in
+    let d3 = course.third_done c.args.groups.now v e3 c.operand_end-end.ensures c.kept_branch-past.ensures c.operand-third.ensures.0 c.in_ok-type_node.ensures c.type_node-3.auto.w in
     let S : Security = properties_of c.args.groups.now in
     let by = c.influence-by.ensures
     ∙ ap (λ (p : Property). S.influence p c.reader.result.0) d3.property_is

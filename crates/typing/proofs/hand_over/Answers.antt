@@ -1,27 +1,30 @@
 -- A found type's records, at the front of the work buffer, are copied.
-use mathlib.Core.Path.{sym, ap, ◌∙◌}
-use Prim.Native.Nat.{ℕ}
-use native.Mathlib.Omega.{arith}
+use Rattle.std.proofs.Common.{◌≡◌, ℕ, Result, Ok, sym, ap, ◌∙◌, subst, arith}
+use Rattle.rules.specs.Answer.{Bytes}
 use Rattle.rules.specs.Types.{encode_type}
 use Rattle.rules.specs.Calls.{answer_after}
+use Rattle.answer.specs.declared.Refusal.{Refusal}
 use Rattle.memory.specs.Splice.{splice}
 use Rattle.memory.proofs.Laws.{splice_front}
+use Rattle.inference.specs.Memory.{Meets}
 use Rattle.inference.proofs.Front.{held_long, held_bytes}
 use Rattle.inference.proofs.Rules.{TypedAs, typed_as}
+use Rattle.typing.specs.Answers.{Answers}
 use Rattle.typing.proofs.hand_over.Goals as goal
+
+-- the found type
+type_of : {x : Result ℕ Refusal} {w : Bytes} {n : ℕ} (v : Answers x w) → x ≡ Ok n → TypedAs v.answer 0 v.old n w
+type_of {w = w} v e = typed_as (subst (λ y. Meets v.answer 0 v.old y w) e v.meets)
 
 pub copy-requires : goal.copy-requires
 copy-requires c =
-    let n : ℕ = c.in-Typed.n in
-    let wrote : TypedAs c.requires.0.answer 0 c.requires.0.old n c.args.work.now = typed_as c.in-Typed.is c.requires.0.meets in
-    let a = wrote.wrote.sized in
+    let a = (type_of c.requires.0 c.in-Ok.is).wrote.sized in
     (omega (arith, a.count, held_long a.held), omega (arith, a.count, a.small, c.requires.1))
 
-pub returns : goal.returns
-returns c v =
-    let n : ℕ = c.in-Typed.n in
+pub returns-in-Ok : goal.returns-in-Ok
+returns-in-Ok c v =
     let old = c.args.answer.now in
-    let a = typed_as {n = n} c.in-Typed.is v.meets in
-    c.copy.ensures ∙ ap (λ x. splice 0 x old) (held_bytes a.wrote.sized.held n a.wrote.sized.count)
+    let a = type_of v c.in-Ok.is in
+    c.copy.ensures ∙ ap (λ x. splice 0 x old) (held_bytes a.wrote.sized.held _ a.wrote.sized.count)
     ∙ splice_front (encode_type a.type) old
     ∙ sym (ap (λ o. answer_after o old) a.is)

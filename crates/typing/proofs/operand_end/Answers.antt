@@ -1,8 +1,5 @@
 -- The node's last operand ends where its part does, and another is scanned.
-use mathlib.Core.Path.{◌≡◌, sym, ap, ◌∙◌}
-use Prim.Native.Nat.{ℕ, ◌+◌, ◌/◌}
-use native.Mathlib.Omega.{arith}
-use lib.ListN.{length}
+use Rattle.std.proofs.Common.{◌≡◌, sym, ap, ◌∙◌, ℕ, ◌+◌, ◌/◌, arith, length}
 use Rattle.calculus.specs.Terms.{Term}
 use Rattle.rules.specs.Limits.{script_width}
 use Rattle.rules.specs.Answer.{Bytes}

@@ -1,5 +1,5 @@
 -- A script that has passed questions 2 to 19 is ready for the checker.
-use native.Mathlib.Omega.{arith}
+use Rattle.std.proofs.Common.{arith}
 use Rattle.typing.proofs.Accepted.{ready}
 use Rattle.typing.proofs.type_script.Goals as goal
 

@@ -2,15 +2,15 @@ use mathlib.Core.Path.{sym, ap, subst, ◌∙◌}
 use native.Mathlib.Omega.{arith}
 use lib.ListN.{length}
 use Rattle.rules.specs.Answer.{Octets}
-use Rattle.typing.specs.Said.{said}
+use Rattle.answer.specs.Said.{said}
 use Rattle.packing.specs.Packed.{packed, Bounded, Holds}
 use Rattle.packing.proofs.Bounds.{check_bounded}
 use Rattle.packing.proofs.Exported.{records_bounded, check_holds}
 use Rattle.wigneld.proofs.Reports.{read_off}
 use Rattle.wigneld.proofs.wigneld_check.Goals as goal
 
-pub found-requires : goal.found-requires
-found-requires c =
+pub answer-requires : goal.answer-requires
+answer-requires c =
     let script_octets : Octets c.args.script.now = λ k. omega (arith, c.type_inv.script k) in
     let a = c.args in
     subst Bounded (sym c.checking.ensures.0)
@@ -24,4 +24,4 @@ returns c =
     subst Holds (sym c.checking.ensures.0)
     (check_holds a.groups.now a.types.now a.script.now (length a.work.now) (length a.answer.now) groups_octets script_octets) in
     let x = c.checking.ensures in
-    (c.found.ensures ∙ ap packed x.0, x.1, x.2, λ l m. read_off c.found.ensures holds (x.3 l m))
+    (c.answer.ensures ∙ ap packed x.0, x.1, x.2, λ l m. read_off c.answer.ensures holds (x.3 l m))

@@ -5,9 +5,9 @@ use Rattle.packing.proofs.Bounds.{page_bounded}
 use Rattle.packing.proofs.Exported.{sheet_bounded}
 use Rattle.wigneld.proofs.wigneld_sheet.Goals as goal
 
-pub shown-requires : goal.shown-requires
-shown-requires c = subst Bounded (sym c.page.ensures.0)
+pub answer-requires : goal.answer-requires
+answer-requires c = subst Bounded (sym c.page.ensures.0)
     (sheet_bounded _ (page_bounded c.args.groups.now c.args.types.now c.args.value.now c.args.group (length c.args.sheet.now)))
 
 pub returns : goal.returns
-returns c = let x = c.page.ensures in (c.shown.ensures ∙ ap packed x.0, x.1)
+returns c = let x = c.page.ensures in (c.answer.ensures ∙ ap packed x.0, x.1)

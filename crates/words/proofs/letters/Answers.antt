@@ -1,12 +1,11 @@
-use mathlib.Core.Path.{sym, ◌∙◌}
-use native.Mathlib.Omega.{arith}
-use Rattle.words.proofs.WordBytes.{letters_end, all_letters}
+use Rattle.std.proofs.Common.{rules, true, false, ◌≡◌}
+use Rattle.std.proofs.lemmas.Iterator.{IsFirst-from_position, YieldsList-from_slice}
+use Rattle.rules.specs.Words.{is_letter}
+use Rattle.words.proofs.WordBytes.{letters_are}
 use Rattle.words.proofs.letters.Goals as goal
-
-pub returns-then-not-is_letter : goal.returns-then-not-is_letter
-returns-then-not-is_letter c =
-    (letters_end c.args.words.now c.args.i _ (omega arith) c.loop-j.invariant.1 (sym c.is_letter.ensures ∙ c.if-not-is_letter.true), omega arith)
 
 pub returns : goal.returns
 returns c =
-    (all_letters c.args.words.now c.args.i (λ k l. c.loop-j.invariant.1 k (omega arith)), omega arith)
+    rw c.unwrap_or.ensures
+    (letters_are (record { whole = c.requires.0; there = c.requires.1; is = c.word.ensures }) _
+    (IsFirst-from_position _ _ _ (λ c. is_letter c ≡ false) (λ c. is_letter c ≡ true) c.position-end.ensures.ran (YieldsList-from_slice c.word.result.now cc) (λ x q k. search rules) (λ x q k. search rules)))

@@ -1,24 +1,9 @@
-use mathlib.Core.Path.{sym}
-use mathlib.Core.Bool.{Bool}
-use Prim.Native.Nat.{ℕ}
-use native.Mathlib.Omega.{arith}
-use borrow.Author.Tests.{ne_eqb}
-use lib.Dec.{eqb}
-use Rattle.rules.specs.Answer.{Bytes, first_from}
-use Rattle.rules.specs.Limits.{word_width}
-use Rattle.rules.specs.Words.{word_byte, same_word}
-use Rattle.rules.proofs.Search.{all_below_true, all_below_false}
+use Rattle.std.proofs.Common.{eq-eqb, eqb-true}
+use Rattle.std.proofs.lemmas.Slice.Eq.{slice_eq-Decides}
+use Rattle.words.proofs.WordBytes.{words_same}
 use Rattle.words.proofs.same_word.Goals as goal
 
-abbrev same_byte : Bytes → ℕ → ℕ → ℕ → Bool
-same_byte w i j k = eqb (word_byte w i k) (word_byte w j k)
-
-pub returns-then-words-first : goal.returns-then-words-first
-unfolding same_word first_from
-returns-then-words-first c =
-    sym (all_below_false word_width (same_byte c.args.words.now c.args.i c.args.j) _ (omega arith) c.loop-k.invariant.1 (ne_eqb _ _ c.if-words-first.true))
-
 pub returns : goal.returns
-unfolding same_word first_from
 returns c =
-    sym (all_below_true word_width (same_byte c.args.words.now c.args.i c.args.j) (λ k l. c.loop-k.invariant.1 k (omega arith)))
+    words_same (record { whole = c.told-words; there = c.requires.0; is = c.word.ensures }) (record { whole = c.told-words; there = c.requires.1; is = c.word-2.ensures }) _
+    (slice_eq-Decides (λ a b. (eqb-true a b, eq-eqb a b)) _ _ _ c.eq.ensures)
