@@ -4,3 +4,4 @@ pub mod Stands
 pub mod Made
 pub mod Weights
 pub mod Passing
+pub mod Numbered

@@ -4,7 +4,7 @@
 
 ghost use Rattle.std.specs.Prelude.{◌≡◌, ◌+◌, ◌≤◌, ◌<◌};
 ghost use Rattle.calculus.specs.Terms.{Term};
-ghost use Rattle.rules.specs.Script.{records, kind, r, ir, zero_byte, number, c, ic, signature, signature_of, arity, is_object, size, own_at, term_end};
+ghost use Rattle.rules.specs.Script.{records, kind, r, ir, zero_byte, number, c, ic, signature, signature_of, arity, is_object, object_record, size, own_at, term_end};
 ghost use Rattle.lattice.specs.Said.{said_property, said_influence};
 ghost use Rattle.records.specs.Kinds.{is_injection};
 ghost use Rattle.records.specs.Numbers.{kind_number, Names, KindIs};
@@ -101,12 +101,12 @@ impl Kind {
 
     // How many binders stand over operand j, counted from 0.
     #[tactic(auto, unfolding(crate::specs::Binders::binds))]
-    pub fn binders(self, j: usize) -> usize
+    pub fn binders(self, j: usize) -> u8
         ensures { (result ≡ binds (kind_number self) j) × (result ≤ 1) }
     {
         match self {
-            Kind::Function | Kind::Recursion => usize::from(j == 0),
-            Kind::Case => usize::from(j != 0),
+            Kind::Function | Kind::Recursion => u8::from(j == 0),
+            Kind::Case => u8::from(j != 0),
             _ => 0,
         }
     }
@@ -163,15 +163,22 @@ pub fn kind_of(script: &[u8], i: usize) -> Kind
     kind_at(script, i).unwrap()
 }
 
-// The line of the table of kinds for record i: nothing is named if its number names no kind.
+// The line of the table of kinds for a number: nothing is named if it is that of no kind.
+pub fn signature_of(n: u8) -> Signature
+    ensures { said_line result ≡ signature_of n }
+{
+    match Kind::try_from(n) {
+        Ok(kind) => kind.signature(),
+        Err(_) => entry(0, false, false, false, false),
+    }
+}
+
+// The same of record i.
 pub fn signature_at(script: &[u8], i: usize) -> Signature
     requires { i < records script.now }
     ensures { said_line result ≡ signature_of (kind script.now i) }
 {
-    match kind_at(script, i) {
-        Some(kind) => kind.signature(),
-        None => entry(0, false, false, false, false),
-    }
+    signature_of(kind_number_at(script, i))
 }
 
 // The number of operands that follow record i.
@@ -245,6 +252,23 @@ pub fn influence(script: &[u8], i: usize) -> Influence
     let ir = indirect(script, i);
     let ic = indirect_creator(script, i);
     Influence { ir, ic }
+}
+
+// The bytes of a record of this kind that names these groups and this number.
+pub fn record(kind: Kind, property: Property, number: u16) -> [u8; SCRIPT_WIDTH]
+    ensures { result ≡ object_record (kind_number kind) (said_property property) number }
+{
+    let [low, high] = number.to_le_bytes();
+    [
+        kind.number(),
+        property.r.0,
+        property.ir.0,
+        0,
+        low,
+        high,
+        property.c.0,
+        property.ic.0,
+    ]
 }
 
 // A line of the table of kinds: the number of operands, which fields are named, and whether the number names a type.

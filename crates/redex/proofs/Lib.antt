@@ -1,4 +1,3 @@
-pub mod Numbered
 pub mod Plugs
 pub mod Places
 pub mod Turns

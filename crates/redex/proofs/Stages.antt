@@ -20,7 +20,7 @@ use Rattle.records.specs.Numbers.{kind_number}
 use Rattle.records.specs.declared.Kind.{Kind}
 use Rattle.records.specs.declared.Kind.TheVariants.{Variable, Unit, Function, FirstInjection, SecondInjection, FirstProjection, SecondProjection, Case, Protect, Recursion}
 use Rattle.redex.proofs.Forms.{Position, Evaluates, first_position, Second, second_position, ReadsOne}
-use Rattle.redex.proofs.Numbered.{same_kind}
+use Rattle.records.proofs.Numbered.{same_kind}
 use Rattle.redex.proofs.Searches.{found_value, position_at}
 
 -- an operand's answer, where it is a value

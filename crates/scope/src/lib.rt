@@ -71,7 +71,7 @@ impl Count for Binders {
     }
 
     fn increment(_weight: usize, kind: Kind, j: usize) -> usize {
-        kind.binders(j)
+        usize::from(kind.binders(j))
     }
 }
 

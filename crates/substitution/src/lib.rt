@@ -73,7 +73,7 @@ pub fn measure(script: &[u8], i: usize, n: u16, value: Size) -> Extent
     let mut sum: usize = 1;
     let mut below: usize = 0;
     for j in 0..kind.arity() {
-        let level = n + kind.binders(j) as u16;
+        let level = n + u16::from(kind.binders(j));
         let x = measure(script, next, level, value);
         next = x.next;
         sum += x.size.records;
@@ -163,7 +163,7 @@ pub fn write(
     let mut next = i + 1;
     let mut end = at + SCRIPT_WIDTH;
     for j in 0..kind.arity() {
-        let level = n + kind.binders(j) as u16;
+        let level = n + u16::from(kind.binders(j));
         let x = write(script, next, front, mid, back, level, to, end);
         next = x.next;
         end = x.end;

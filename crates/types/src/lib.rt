@@ -2,7 +2,7 @@
 
 #![tactic(auto)]
 
-ghost use Rattle.std.specs.Prelude.{◌≡◌, ◌++◌, ◌+◌, ◌-◌, ◌≤◌, ◌<◌, length};
+ghost use Rattle.std.specs.Prelude.{◌≡◌, ◌&&◌, eqb, ltb, ◌++◌, ◌+◌, ◌-◌, ◌≤◌, ◌<◌, length};
 ghost use Rattle.calculus.specs.Types.{Ty, top, raise_t, size_t};
 ghost use Rattle.rules.specs.Groups.{properties_of};
 ghost use Rattle.rules.specs.Types.{type_count, type_kind, type_r, sides, encode_type};
@@ -87,6 +87,13 @@ pub fn kind_at(types: &[u8], i: usize) -> Option<Kind>
     Kind::try_from(kind_number_at(types, i)).ok()
 }
 
+// Is there a record i, and is it of this kind?
+pub fn is_of_kind(types: &[u8], i: usize, kind: Kind) -> bool
+    ensures { result ≡ (ltb i (type_count types.now) && eqb (type_kind types.now i) (kind_number kind)) }
+{
+    i < type_count(types) && kind_at(types, i) == Some(kind)
+}
+
 // The fields of record i.
 pub fn reader_at(types: &[u8], i: usize) -> Reader
     requires { i < type_count types.now }
@@ -133,11 +140,7 @@ pub fn pending_after(types: &[u8], i: usize, pending: usize) -> usize
     requires { (i < type_count types.now) × (pending ≤ i + 1) }
     ensures { result ≡ (pending - 1) + sides (type_kind types.now i) }
 {
-    let more = sides_at(types, i);
-    if pending == 0 {
-        return more;
-    }
-    pending - 1 + more
+    pending.saturating_sub(1) + sides_at(types, i)
 }
 
 // The first record of the type that s starts with.
@@ -146,6 +149,14 @@ pub fn kind_of(s: &[u8]) -> Kind
     ensures { (t : Ty) → Held s.now t → kind_number result ≡ kind_of t }
 {
     kind_at(s, 0).unwrap()
+}
+
+// Are the types that two parts start with of one kind?
+pub fn of_one_kind(s: &[u8], other: &[u8]) -> bool
+    requires { Starts s.now × Starts other.now }
+    ensures { (t u : Ty) → Held s.now t → Held other.now u → result ≡ eqb (kind_of t) (kind_of u) }
+{
+    kind_number_at(s, 0) == kind_number_at(other, 0)
 }
 
 pub fn reader(s: &[u8]) -> Reader

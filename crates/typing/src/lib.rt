@@ -80,7 +80,7 @@ fn type_node(
         return inference::leaf(s, b, w);
     }
     inference::before_operands(groups, types, s, place, b, w)?;
-    let c = b + kind.binders(0);
+    let c = b + usize::from(kind.binders(0));
     let i2 = operand_end(s, o, 1, 1);
     let low = inference::kept_front(s);
     let first = operand(s, 1, i2);
@@ -90,7 +90,7 @@ fn type_node(
     }
     let tested = types::property(w);
     inference::between(groups, s, place, b, w, n)?;
-    let c2 = b + kind.binders(1);
+    let c2 = b + usize::from(kind.binders(1));
     let i3 = operand_end(s, o, 2, i2);
     let mid = kept_between(o);
     let second = operand(s, i2, i3);

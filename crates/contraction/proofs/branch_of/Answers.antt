@@ -8,7 +8,7 @@ use Rattle.records.specs.Operands.{first_operand}
 use Rattle.records.specs.Place.{At}
 use Rattle.records.specs.declared.Kind.TheVariants.{FirstInjection}
 use Rattle.records.proofs.Stands.{kind_of, stands_kind, here}
-use Rattle.redex.proofs.Numbered.{same_kind}
+use Rattle.records.proofs.Numbered.{same_kind}
 use Rattle.contraction.specs.Plans.{Branches}
 use Rattle.contraction.proofs.Redexes.{taken_at, inner_at, Cased, cased}
 use Rattle.contraction.proofs.branch_of.Goals as goal

@@ -9,7 +9,7 @@ use Rattle.records.specs.Place.{At}
 use Rattle.records.specs.declared.Kind.{Kind}
 use Rattle.records.specs.declared.Kind.TheVariants.{Application, FirstProjection, SecondProjection, Protect, Recursion}
 use Rattle.records.proofs.Stands.{kind_of, there, stands_kind, here}
-use Rattle.redex.proofs.Numbered.{same_kind}
+use Rattle.records.proofs.Numbered.{same_kind}
 use Rattle.contraction.specs.Plans.{Fires}
 use Rattle.contraction.proofs.Redexes.{taken_at, inner_at, plan_unrolled, plan_raised, plan_first, plan_second, plan_applied, only_case}
 use Rattle.contraction.proofs.plan_of.Goals as goal

@@ -9,7 +9,7 @@ use Rattle.records.proofs.Stands.{there, stands_kind, here}
 use Rattle.redex.specs.Found.{finds_value, is_destructor}
 use Rattle.redex.proofs.Forms.{unit_value, function_value, pair_value, injection_value}
 use Rattle.redex.proofs.Forms.{variable_turn, recursion_turn, protect_turn, application_turn, destructor_turn, application_reads, one_reads}
-use Rattle.redex.proofs.Numbered.{same_kind}
+use Rattle.records.proofs.Numbered.{same_kind}
 use Rattle.redex.proofs.Searches.{position_shallow, lift, fired}
 use Rattle.redex.proofs.Stages.{kind_read, opened, is_kind, injects, reads_one, first_at, first_of, first_value, second_of, second_at, value_found}
 use Rattle.records.specs.Numbers.{kind_number}

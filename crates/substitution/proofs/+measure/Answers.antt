@@ -30,7 +30,7 @@ measure-x-requires t c =
     let q = c.requires in
     let p = c.loop-j.invariant _ _ q.at q.records_of q.depth_of in
     let n = ahead p.passed (omega (arith, c.loop-j-test.true, count_is c.kind_of-kind.ensures q.at c.arity-j-end.ensures.0)) in
-    let z = operand_sizes q p.passed n (c.args.n + c.binders.result) (omega (arith, c.binders.ensures.1)) in
+    let z = operand_sizes q p.passed n (c.args.n + c.from.result) (omega (arith, c.from.ensures, c.binders.ensures.1)) in
     (omega (arith, c.decreases, p.passed.next_is, there _ _ _ z.at), z)
 
 pub overflow_add-sum : goal.overflow_add-sum
@@ -38,7 +38,7 @@ overflow_add-sum t c =
     let q = c.requires in
     let p = c.loop-j.invariant _ _ q.at q.records_of q.depth_of in
     let n = ahead p.passed (omega (arith, c.loop-j-test.true, count_is c.kind_of-kind.ensures q.at c.arity-j-end.ensures.0)) in
-    let x = counted_more p n _ (level_is c.kind_of-kind.ensures q.at c.args.n c.loop-j.j c.binders.ensures.0) c.measure-x.result
+    let x = counted_more p n _ (level_is c.kind_of-kind.ensures q.at c.args.n c.loop-j.j (c.from.ensures ∙ c.binders.ensures.0)) c.measure-x.result
     (c.measure-x.ensures n.operand _ (operand_here p.passed n q.at) q.records_of q.depth_of) in
     omega (arith, (counted_bound x (small_value q)).0, q.small)
 
@@ -47,7 +47,7 @@ loop-j-preserved t c u v a e f =
     let p = c.loop-j.invariant u v a e f in
     let n = ahead p.passed (omega (arith, c.loop-j-test.true, count_is c.kind_of-kind.ensures a c.arity-j-end.ensures.0)) in
     rw c.max-below.ensures
-    (counted_more p n _ (level_is c.kind_of-kind.ensures a c.args.n c.loop-j.j c.binders.ensures.0) c.measure-x.result
+    (counted_more p n _ (level_is c.kind_of-kind.ensures a c.args.n c.loop-j.j (c.from.ensures ∙ c.binders.ensures.0)) c.measure-x.result
     (c.measure-x.ensures n.operand v (operand_here p.passed n a) e f))
 
 pub weight-requires : goal.weight-requires

@@ -26,15 +26,15 @@ write-x-requires t c =
     let q = c.requires in
     let p = c.loop-j.invariant _ _ q.at q.pieces in
     let n = ahead p.passed (omega (arith, c.loop-j-test.true, count_is c.kind_of-kind.ensures q.at c.arity-j-end.ensures.0)) in
-    let z = operand_room q p n (c.args.n + c.binders.result) c.copy_part.auto.to (other_kind _ c.if-eq.ensures c.kind_of-kind.ensures q.at)
-    (level_is c.kind_of-kind.ensures q.at c.args.n c.loop-j.j c.binders.ensures.0) (omega (arith, c.binders.ensures.1)) in
+    let z = operand_room q p n (c.args.n + c.from.result) c.copy_part.auto.to (other_kind _ c.if-eq.ensures c.kind_of-kind.ensures q.at)
+    (level_is c.kind_of-kind.ensures q.at c.args.n c.loop-j.j (c.from.ensures ∙ c.binders.ensures.0)) (omega (arith, c.from.ensures, c.binders.ensures.1)) in
     (omega (arith, c.decreases, p.passed.next_is, there _ _ _ z.at), z)
 
 pub loop-j-preserved : goal.loop-j-preserved
 loop-j-preserved t c u v a e =
     let p = c.loop-j.invariant u v a e in
     let n = ahead p.passed (omega (arith, c.loop-j-test.true, count_is c.kind_of-kind.ensures a c.arity-j-end.ensures.0)) in
-    copied_more p n _ (level_is c.kind_of-kind.ensures a c.args.n c.loop-j.j c.binders.ensures.0)
+    copied_more p n _ (level_is c.kind_of-kind.ensures a c.args.n c.loop-j.j (c.from.ensures ∙ c.binders.ensures.0))
     (omega (arith, record_fits c.requires, c.copy_part.auto.to)) c.write-x.result c.write-x.new.to
     (c.write-x.ensures n.operand v (operand_here p.passed n a) e) c.write-x.auto.to
 

@@ -32,7 +32,7 @@ returns-in_err-before_operands t c v =
 pub operand_end-i2-requires : goal.operand_end-i2-requires
 operand_end-i2-requires t c =
     let v = c.requires in
-    let e = course.entered c.args.groups.now v c.kind_of-kind.ensures c.arity-o.ensures.0 c.if-o-eq0.false (c.in_ok-before_operands.ensures v) c.binders.ensures.0 c.before_operands.auto.w in
+    let e = course.entered c.args.groups.now v c.kind_of-kind.ensures c.arity-o.ensures.0 c.if-o-eq0.false (c.in_ok-before_operands.ensures v) (c.from.ensures ∙ c.binders.ensures.0) c.before_operands.auto.w in
     record { tree = first_operand v.tree; at = e.stands; whole = λ z. first_whole c.args.s.now v.tree v.is (sym e.count ∙ sym z) }
 
 pub kept_front-low-requires : goal.kept_front-low-requires
@@ -43,42 +43,42 @@ kept_front-low-requires t c =
 pub operand-first-requires : goal.operand-first-requires
 operand-first-requires t c =
     let v = c.requires in
-    let e = course.entered c.args.groups.now v c.kind_of-kind.ensures c.arity-o.ensures.0 c.if-o-eq0.false (c.in_ok-before_operands.ensures v) c.binders.ensures.0 c.before_operands.auto.w in
+    let e = course.entered c.args.groups.now v c.kind_of-kind.ensures c.arity-o.ensures.0 c.if-o-eq0.false (c.in_ok-before_operands.ensures v) (c.from.ensures ∙ c.binders.ensures.0) c.before_operands.auto.w in
     record { tree = first_operand v.tree; at = e.stands; ends = c.operand_end-i2.ensures _ e.stands }
 
 pub slice_bounds-type_node-count : goal.slice_bounds-type_node-count
 slice_bounds-type_node-count t c =
     let v = c.requires in
-    let e = course.entered c.args.groups.now v c.kind_of-kind.ensures c.arity-o.ensures.0 c.if-o-eq0.false (c.in_ok-before_operands.ensures v) c.binders.ensures.0 c.before_operands.auto.w in
+    let e = course.entered c.args.groups.now v c.kind_of-kind.ensures c.arity-o.ensures.0 c.if-o-eq0.false (c.in_ok-before_operands.ensures v) (c.from.ensures ∙ c.binders.ensures.0) c.before_operands.auto.w in
     steps.low_within c.args.groups.now v e.some e.went (c.kept_front-low.ensures v.tree v.is)
 
 pub slice_bounds-type_node-start : goal.slice_bounds-type_node-start
 slice_bounds-type_node-start t c =
     let v = c.requires in
-    let e = course.entered c.args.groups.now v c.kind_of-kind.ensures c.arity-o.ensures.0 c.if-o-eq0.false (c.in_ok-before_operands.ensures v) c.binders.ensures.0 c.before_operands.auto.w in
+    let e = course.entered c.args.groups.now v c.kind_of-kind.ensures c.arity-o.ensures.0 c.if-o-eq0.false (c.in_ok-before_operands.ensures v) (c.from.ensures ∙ c.binders.ensures.0) c.before_operands.auto.w in
     steps.low_within c.args.groups.now v e.some e.went (c.kept_front-low.ensures v.tree v.is)
 
 pub type_node-requires : goal.type_node-requires
 type_node-requires t c =
     let v = c.requires in
-    let e = course.entered c.args.groups.now v c.kind_of-kind.ensures c.arity-o.ensures.0 c.if-o-eq0.false (c.in_ok-before_operands.ensures v) c.binders.ensures.0 c.before_operands.auto.w in
+    let e = course.entered c.args.groups.now v c.kind_of-kind.ensures c.arity-o.ensures.0 c.if-o-eq0.false (c.in_ok-before_operands.ensures v) (c.from.ensures ∙ c.binders.ensures.0) c.before_operands.auto.w in
     (omega (arith, c.operand-first.ensures.1 (omega arith), c.decreases), course.first_ready c.args.groups.now v e c.operand_end-i2.ensures c.kept_front-low.ensures c.operand-first.ensures.0)
 
 pub returns-in_err-n : goal.returns-in_err-n
 returns-in_err-n t c v =
-    let e = course.entered c.args.groups.now v c.kind_of-kind.ensures c.arity-o.ensures.0 c.if-o-eq0.false (c.in_ok-before_operands.ensures v) c.binders.ensures.0 c.before_operands.auto.w in
+    let e = course.entered c.args.groups.now v c.kind_of-kind.ensures c.arity-o.ensures.0 c.if-o-eq0.false (c.in_ok-before_operands.ensures v) (c.from.ensures ∙ c.binders.ensures.0) c.before_operands.auto.w in
     course.first_refuses c.args.groups.now v e c.operand_end-i2.ensures c.kept_front-low.ensures c.operand-first.ensures.0 _ c.in_err-n.ensures c.from_residual-in_err-n.ensures.1
 
 pub after_one-requires : goal.after_one-requires
 after_one-requires t c =
     let v = c.requires in
-    let e = course.entered c.args.groups.now v c.kind_of-kind.ensures c.arity-o.ensures.0 c.if-o-eq0.false (c.in_ok-before_operands.ensures v) c.binders.ensures.0 c.before_operands.auto.w in
+    let e = course.entered c.args.groups.now v c.kind_of-kind.ensures c.arity-o.ensures.0 c.if-o-eq0.false (c.in_ok-before_operands.ensures v) (c.from.ensures ∙ c.binders.ensures.0) c.before_operands.auto.w in
     let d = course.first_done c.args.groups.now v e c.operand_end-i2.ensures c.kept_front-low.ensures c.operand-first.ensures.0 c.in_ok-n.ensures c.type_node.auto.w in
     steps.one_of c.args.groups.now v d.done (sym d.count ∙ c.if-o-eq1.true)
 
 pub returns-then-o-eq1 : goal.returns-then-o-eq1
 returns-then-o-eq1 t c v =
-    let e = course.entered c.args.groups.now v c.kind_of-kind.ensures c.arity-o.ensures.0 c.if-o-eq0.false (c.in_ok-before_operands.ensures v) c.binders.ensures.0 c.before_operands.auto.w in
+    let e = course.entered c.args.groups.now v c.kind_of-kind.ensures c.arity-o.ensures.0 c.if-o-eq0.false (c.in_ok-before_operands.ensures v) (c.from.ensures ∙ c.binders.ensures.0) c.before_operands.auto.w in
     let d = course.first_done c.args.groups.now v e c.operand_end-i2.ensures c.kept_front-low.ensures c.operand-first.ensures.0 c.in_ok-n.ensures c.type_node.auto.w in
     let o = sym d.count ∙ c.if-o-eq1.true in
     steps.last_meets c.args.groups.now v d.done o (c.after_one.ensures (steps.one_of c.args.groups.now v d.done o) c.args.b (steps.room2 c.args.groups.now v d.done))
@@ -86,92 +86,92 @@ returns-then-o-eq1 t c v =
 pub property-tested-requires : goal.property-tested-requires
 property-tested-requires t c =
     let v = c.requires in
-    let e = course.entered c.args.groups.now v c.kind_of-kind.ensures c.arity-o.ensures.0 c.if-o-eq0.false (c.in_ok-before_operands.ensures v) c.binders.ensures.0 c.before_operands.auto.w in
+    let e = course.entered c.args.groups.now v c.kind_of-kind.ensures c.arity-o.ensures.0 c.if-o-eq0.false (c.in_ok-before_operands.ensures v) (c.from.ensures ∙ c.binders.ensures.0) c.before_operands.auto.w in
     let d = course.first_done c.args.groups.now v e c.operand_end-i2.ensures c.kept_front-low.ensures c.operand-first.ensures.0 c.in_ok-n.ensures c.type_node.auto.w in
     record { type = d.done.type; held = (steps.front c.args.groups.now v d.done (course.has_two c.args.groups.now v d c.if-o-eq1.false)).held }
 
 pub between-requires : goal.between-requires
 between-requires t c =
     let v = c.requires in
-    let e = course.entered c.args.groups.now v c.kind_of-kind.ensures c.arity-o.ensures.0 c.if-o-eq0.false (c.in_ok-before_operands.ensures v) c.binders.ensures.0 c.before_operands.auto.w in
+    let e = course.entered c.args.groups.now v c.kind_of-kind.ensures c.arity-o.ensures.0 c.if-o-eq0.false (c.in_ok-before_operands.ensures v) (c.from.ensures ∙ c.binders.ensures.0) c.before_operands.auto.w in
     let d = course.first_done c.args.groups.now v e c.operand_end-i2.ensures c.kept_front-low.ensures c.operand-first.ensures.0 c.in_ok-n.ensures c.type_node.auto.w in
     course.some_of c.args.groups.now v d c.if-o-eq1.false
 
 pub returns-in_err-between : goal.returns-in_err-between
 returns-in_err-between t c v =
-    let e = course.entered c.args.groups.now v c.kind_of-kind.ensures c.arity-o.ensures.0 c.if-o-eq0.false (c.in_ok-before_operands.ensures v) c.binders.ensures.0 c.before_operands.auto.w in
+    let e = course.entered c.args.groups.now v c.kind_of-kind.ensures c.arity-o.ensures.0 c.if-o-eq0.false (c.in_ok-before_operands.ensures v) (c.from.ensures ∙ c.binders.ensures.0) c.before_operands.auto.w in
     let d = course.first_done c.args.groups.now v e c.operand_end-i2.ensures c.kept_front-low.ensures c.operand-first.ensures.0 c.in_ok-n.ensures c.type_node.auto.w in
     steps.between_refuses c.args.groups.now v d.done (course.has_two c.args.groups.now v d c.if-o-eq1.false) _ (c.in_err-between.ensures (course.some_of c.args.groups.now v d c.if-o-eq1.false)).0 c.from_residual-in_err-between.ensures.1
 
 pub operand_end-i3-requires : goal.operand_end-i3-requires
 operand_end-i3-requires t c =
     let v = c.requires in
-    let e = course.entered c.args.groups.now v c.kind_of-kind.ensures c.arity-o.ensures.0 c.if-o-eq0.false (c.in_ok-before_operands.ensures v) c.binders.ensures.0 c.before_operands.auto.w in
+    let e = course.entered c.args.groups.now v c.kind_of-kind.ensures c.arity-o.ensures.0 c.if-o-eq0.false (c.in_ok-before_operands.ensures v) (c.from.ensures ∙ c.binders.ensures.0) c.before_operands.auto.w in
     let d = course.first_done c.args.groups.now v e c.operand_end-i2.ensures c.kept_front-low.ensures c.operand-first.ensures.0 c.in_ok-n.ensures c.type_node.auto.w in
-    let e2 = course.second_entered c.args.groups.now v d c.if-o-eq1.false c.in_ok-between.ensures c.property-tested.ensures c.binders-2.ensures.0 c.between.auto.w in
+    let e2 = course.second_entered c.args.groups.now v d c.if-o-eq1.false c.in_ok-between.ensures c.property-tested.ensures (c.from-2.ensures ∙ c.binders-2.ensures.0) c.between.auto.w in
     record { tree = second_operand v.tree; at = e2.stands; whole = λ z. second_whole c.args.s.now v.tree v.is _ e2.from (sym e2.count ∙ sym z) }
 
 pub operand-second-requires : goal.operand-second-requires
 operand-second-requires t c =
     let v = c.requires in
-    let e = course.entered c.args.groups.now v c.kind_of-kind.ensures c.arity-o.ensures.0 c.if-o-eq0.false (c.in_ok-before_operands.ensures v) c.binders.ensures.0 c.before_operands.auto.w in
+    let e = course.entered c.args.groups.now v c.kind_of-kind.ensures c.arity-o.ensures.0 c.if-o-eq0.false (c.in_ok-before_operands.ensures v) (c.from.ensures ∙ c.binders.ensures.0) c.before_operands.auto.w in
     let d = course.first_done c.args.groups.now v e c.operand_end-i2.ensures c.kept_front-low.ensures c.operand-first.ensures.0 c.in_ok-n.ensures c.type_node.auto.w in
-    let e2 = course.second_entered c.args.groups.now v d c.if-o-eq1.false c.in_ok-between.ensures c.property-tested.ensures c.binders-2.ensures.0 c.between.auto.w in
+    let e2 = course.second_entered c.args.groups.now v d c.if-o-eq1.false c.in_ok-between.ensures c.property-tested.ensures (c.from-2.ensures ∙ c.binders-2.ensures.0) c.between.auto.w in
     record { tree = second_operand v.tree; at = e2.stands; ends = c.operand_end-i3.ensures _ e2.stands }
 
 pub overflow_add-place-2 : goal.overflow_add-place-2
 overflow_add-place-2 t c =
     let v = c.requires in
-    let e = course.entered c.args.groups.now v c.kind_of-kind.ensures c.arity-o.ensures.0 c.if-o-eq0.false (c.in_ok-before_operands.ensures v) c.binders.ensures.0 c.before_operands.auto.w in
+    let e = course.entered c.args.groups.now v c.kind_of-kind.ensures c.arity-o.ensures.0 c.if-o-eq0.false (c.in_ok-before_operands.ensures v) (c.from.ensures ∙ c.binders.ensures.0) c.before_operands.auto.w in
     let d = course.first_done c.args.groups.now v e c.operand_end-i2.ensures c.kept_front-low.ensures c.operand-first.ensures.0 c.in_ok-n.ensures c.type_node.auto.w in
-    let e2 = course.second_entered c.args.groups.now v d c.if-o-eq1.false c.in_ok-between.ensures c.property-tested.ensures c.binders-2.ensures.0 c.between.auto.w in
+    let e2 = course.second_entered c.args.groups.now v d c.if-o-eq1.false c.in_ok-between.ensures c.property-tested.ensures (c.from-2.ensures ∙ c.binders-2.ensures.0) c.between.auto.w in
     omega (arith, steps.second_placed c.args.groups.now v e2.two {t = e2.tested} e2.done (c.kept_between-mid.ensures ∙ ap kept_between e2.count) e2.from)
 
 pub slice_bounds-type_node-count-2 : goal.slice_bounds-type_node-count-2
 slice_bounds-type_node-count-2 t c =
     let v = c.requires in
-    let e = course.entered c.args.groups.now v c.kind_of-kind.ensures c.arity-o.ensures.0 c.if-o-eq0.false (c.in_ok-before_operands.ensures v) c.binders.ensures.0 c.before_operands.auto.w in
+    let e = course.entered c.args.groups.now v c.kind_of-kind.ensures c.arity-o.ensures.0 c.if-o-eq0.false (c.in_ok-before_operands.ensures v) (c.from.ensures ∙ c.binders.ensures.0) c.before_operands.auto.w in
     let d = course.first_done c.args.groups.now v e c.operand_end-i2.ensures c.kept_front-low.ensures c.operand-first.ensures.0 c.in_ok-n.ensures c.type_node.auto.w in
-    let e2 = course.second_entered c.args.groups.now v d c.if-o-eq1.false c.in_ok-between.ensures c.property-tested.ensures c.binders-2.ensures.0 c.between.auto.w in
+    let e2 = course.second_entered c.args.groups.now v d c.if-o-eq1.false c.in_ok-between.ensures c.property-tested.ensures (c.from-2.ensures ∙ c.binders-2.ensures.0) c.between.auto.w in
     steps.mid_within c.args.groups.now v e2.two e2.done (c.kept_between-mid.ensures ∙ ap kept_between e2.count) e2.from
 
 pub slice_bounds-type_node-start-2 : goal.slice_bounds-type_node-start-2
 slice_bounds-type_node-start-2 t c =
     let v = c.requires in
-    let e = course.entered c.args.groups.now v c.kind_of-kind.ensures c.arity-o.ensures.0 c.if-o-eq0.false (c.in_ok-before_operands.ensures v) c.binders.ensures.0 c.before_operands.auto.w in
+    let e = course.entered c.args.groups.now v c.kind_of-kind.ensures c.arity-o.ensures.0 c.if-o-eq0.false (c.in_ok-before_operands.ensures v) (c.from.ensures ∙ c.binders.ensures.0) c.before_operands.auto.w in
     let d = course.first_done c.args.groups.now v e c.operand_end-i2.ensures c.kept_front-low.ensures c.operand-first.ensures.0 c.in_ok-n.ensures c.type_node.auto.w in
-    let e2 = course.second_entered c.args.groups.now v d c.if-o-eq1.false c.in_ok-between.ensures c.property-tested.ensures c.binders-2.ensures.0 c.between.auto.w in
+    let e2 = course.second_entered c.args.groups.now v d c.if-o-eq1.false c.in_ok-between.ensures c.property-tested.ensures (c.from-2.ensures ∙ c.binders-2.ensures.0) c.between.auto.w in
     steps.mid_within c.args.groups.now v e2.two e2.done (c.kept_between-mid.ensures ∙ ap kept_between e2.count) e2.from
 
 pub type_node-requires-2 : goal.type_node-requires-2
 type_node-requires-2 t c =
     let v = c.requires in
-    let e = course.entered c.args.groups.now v c.kind_of-kind.ensures c.arity-o.ensures.0 c.if-o-eq0.false (c.in_ok-before_operands.ensures v) c.binders.ensures.0 c.before_operands.auto.w in
+    let e = course.entered c.args.groups.now v c.kind_of-kind.ensures c.arity-o.ensures.0 c.if-o-eq0.false (c.in_ok-before_operands.ensures v) (c.from.ensures ∙ c.binders.ensures.0) c.before_operands.auto.w in
     let d = course.first_done c.args.groups.now v e c.operand_end-i2.ensures c.kept_front-low.ensures c.operand-first.ensures.0 c.in_ok-n.ensures c.type_node.auto.w in
-    let e2 = course.second_entered c.args.groups.now v d c.if-o-eq1.false c.in_ok-between.ensures c.property-tested.ensures c.binders-2.ensures.0 c.between.auto.w in
+    let e2 = course.second_entered c.args.groups.now v d c.if-o-eq1.false c.in_ok-between.ensures c.property-tested.ensures (c.from-2.ensures ∙ c.binders-2.ensures.0) c.between.auto.w in
     (omega (arith, c.operand-second.ensures.1 (omega (arith, e2.from)), c.decreases), course.second_ready c.args.groups.now v e2 c.operand_end-i3.ensures c.kept_between-mid.ensures c.operand-second.ensures.0)
 
 pub returns-in_err-m : goal.returns-in_err-m
 returns-in_err-m t c v =
-    let e = course.entered c.args.groups.now v c.kind_of-kind.ensures c.arity-o.ensures.0 c.if-o-eq0.false (c.in_ok-before_operands.ensures v) c.binders.ensures.0 c.before_operands.auto.w in
+    let e = course.entered c.args.groups.now v c.kind_of-kind.ensures c.arity-o.ensures.0 c.if-o-eq0.false (c.in_ok-before_operands.ensures v) (c.from.ensures ∙ c.binders.ensures.0) c.before_operands.auto.w in
     let d = course.first_done c.args.groups.now v e c.operand_end-i2.ensures c.kept_front-low.ensures c.operand-first.ensures.0 c.in_ok-n.ensures c.type_node.auto.w in
-    let e2 = course.second_entered c.args.groups.now v d c.if-o-eq1.false c.in_ok-between.ensures c.property-tested.ensures c.binders-2.ensures.0 c.between.auto.w in
+    let e2 = course.second_entered c.args.groups.now v d c.if-o-eq1.false c.in_ok-between.ensures c.property-tested.ensures (c.from-2.ensures ∙ c.binders-2.ensures.0) c.between.auto.w in
     course.second_refuses c.args.groups.now v e2 c.operand_end-i3.ensures c.kept_between-mid.ensures c.operand-second.ensures.0 _ c.in_err-m.ensures c.from_residual-in_err-m.ensures.1
 
 pub after_two-requires : goal.after_two-requires
 after_two-requires t c =
     let v = c.requires in
-    let e = course.entered c.args.groups.now v c.kind_of-kind.ensures c.arity-o.ensures.0 c.if-o-eq0.false (c.in_ok-before_operands.ensures v) c.binders.ensures.0 c.before_operands.auto.w in
+    let e = course.entered c.args.groups.now v c.kind_of-kind.ensures c.arity-o.ensures.0 c.if-o-eq0.false (c.in_ok-before_operands.ensures v) (c.from.ensures ∙ c.binders.ensures.0) c.before_operands.auto.w in
     let d = course.first_done c.args.groups.now v e c.operand_end-i2.ensures c.kept_front-low.ensures c.operand-first.ensures.0 c.in_ok-n.ensures c.type_node.auto.w in
-    let e2 = course.second_entered c.args.groups.now v d c.if-o-eq1.false c.in_ok-between.ensures c.property-tested.ensures c.binders-2.ensures.0 c.between.auto.w in
+    let e2 = course.second_entered c.args.groups.now v d c.if-o-eq1.false c.in_ok-between.ensures c.property-tested.ensures (c.from-2.ensures ∙ c.binders-2.ensures.0) c.between.auto.w in
     let d2 = course.second_done c.args.groups.now v e2 c.operand_end-i3.ensures c.kept_between-mid.ensures c.operand-second.ensures.0 c.in_ok-m.ensures c.type_node-2.auto.w in
     steps.two_of c.args.groups.now v (sym d2.count ∙ c.if-o-eq2.true) d2.done
 
 pub returns-then-o-eq2 : goal.returns-then-o-eq2
 returns-then-o-eq2 t c v =
-    let e = course.entered c.args.groups.now v c.kind_of-kind.ensures c.arity-o.ensures.0 c.if-o-eq0.false (c.in_ok-before_operands.ensures v) c.binders.ensures.0 c.before_operands.auto.w in
+    let e = course.entered c.args.groups.now v c.kind_of-kind.ensures c.arity-o.ensures.0 c.if-o-eq0.false (c.in_ok-before_operands.ensures v) (c.from.ensures ∙ c.binders.ensures.0) c.before_operands.auto.w in
     let d = course.first_done c.args.groups.now v e c.operand_end-i2.ensures c.kept_front-low.ensures c.operand-first.ensures.0 c.in_ok-n.ensures c.type_node.auto.w in
-    let e2 = course.second_entered c.args.groups.now v d c.if-o-eq1.false c.in_ok-between.ensures c.property-tested.ensures c.binders-2.ensures.0 c.between.auto.w in
+    let e2 = course.second_entered c.args.groups.now v d c.if-o-eq1.false c.in_ok-between.ensures c.property-tested.ensures (c.from-2.ensures ∙ c.binders-2.ensures.0) c.between.auto.w in
     let d2 = course.second_done c.args.groups.now v e2 c.operand_end-i3.ensures c.kept_between-mid.ensures c.operand-second.ensures.0 c.in_ok-m.ensures c.type_node-2.auto.w in
     let o = sym d2.count ∙ c.if-o-eq2.true in
     steps.ends_meets c.args.groups.now v o d2.done (c.after_two.ensures (steps.two_of c.args.groups.now v o d2.done) c.args.b (omega (arith, steps.level c.args.groups.now v, d2.done.same)))
@@ -179,26 +179,26 @@ returns-then-o-eq2 t c v =
 pub after_first_branch-requires : goal.after_first_branch-requires
 after_first_branch-requires t c =
     let v = c.requires in
-    let e = course.entered c.args.groups.now v c.kind_of-kind.ensures c.arity-o.ensures.0 c.if-o-eq0.false (c.in_ok-before_operands.ensures v) c.binders.ensures.0 c.before_operands.auto.w in
+    let e = course.entered c.args.groups.now v c.kind_of-kind.ensures c.arity-o.ensures.0 c.if-o-eq0.false (c.in_ok-before_operands.ensures v) (c.from.ensures ∙ c.binders.ensures.0) c.before_operands.auto.w in
     let d = course.first_done c.args.groups.now v e c.operand_end-i2.ensures c.kept_front-low.ensures c.operand-first.ensures.0 c.in_ok-n.ensures c.type_node.auto.w in
-    let e2 = course.second_entered c.args.groups.now v d c.if-o-eq1.false c.in_ok-between.ensures c.property-tested.ensures c.binders-2.ensures.0 c.between.auto.w in
+    let e2 = course.second_entered c.args.groups.now v d c.if-o-eq1.false c.in_ok-between.ensures c.property-tested.ensures (c.from-2.ensures ∙ c.binders-2.ensures.0) c.between.auto.w in
     let d2 = course.second_done c.args.groups.now v e2 c.operand_end-i3.ensures c.kept_between-mid.ensures c.operand-second.ensures.0 c.in_ok-m.ensures c.type_node-2.auto.w in
     course.branch_of c.args.groups.now v d2 c.if-o-eq2.false
 
 pub returns-in_err-after_first_branch : goal.returns-in_err-after_first_branch
 returns-in_err-after_first_branch t c v =
-    let e = course.entered c.args.groups.now v c.kind_of-kind.ensures c.arity-o.ensures.0 c.if-o-eq0.false (c.in_ok-before_operands.ensures v) c.binders.ensures.0 c.before_operands.auto.w in
+    let e = course.entered c.args.groups.now v c.kind_of-kind.ensures c.arity-o.ensures.0 c.if-o-eq0.false (c.in_ok-before_operands.ensures v) (c.from.ensures ∙ c.binders.ensures.0) c.before_operands.auto.w in
     let d = course.first_done c.args.groups.now v e c.operand_end-i2.ensures c.kept_front-low.ensures c.operand-first.ensures.0 c.in_ok-n.ensures c.type_node.auto.w in
-    let e2 = course.second_entered c.args.groups.now v d c.if-o-eq1.false c.in_ok-between.ensures c.property-tested.ensures c.binders-2.ensures.0 c.between.auto.w in
+    let e2 = course.second_entered c.args.groups.now v d c.if-o-eq1.false c.in_ok-between.ensures c.property-tested.ensures (c.from-2.ensures ∙ c.binders-2.ensures.0) c.between.auto.w in
     let d2 = course.second_done c.args.groups.now v e2 c.operand_end-i3.ensures c.kept_between-mid.ensures c.operand-second.ensures.0 c.in_ok-m.ensures c.type_node-2.auto.w in
     steps.branch_refuses c.args.groups.now v (course.has_three c.args.groups.now v d2 c.if-o-eq2.false) d2.done _ (c.in_err-after_first_branch.ensures (course.branch_of c.args.groups.now v d2 c.if-o-eq2.false)).0 c.from_residual-in_err-after_first_branch.ensures.1
 
 pub operand_end-end-requires : goal.operand_end-end-requires
 operand_end-end-requires t c =
     let v = c.requires in
-    let e = course.entered c.args.groups.now v c.kind_of-kind.ensures c.arity-o.ensures.0 c.if-o-eq0.false (c.in_ok-before_operands.ensures v) c.binders.ensures.0 c.before_operands.auto.w in
+    let e = course.entered c.args.groups.now v c.kind_of-kind.ensures c.arity-o.ensures.0 c.if-o-eq0.false (c.in_ok-before_operands.ensures v) (c.from.ensures ∙ c.binders.ensures.0) c.before_operands.auto.w in
     let d = course.first_done c.args.groups.now v e c.operand_end-i2.ensures c.kept_front-low.ensures c.operand-first.ensures.0 c.in_ok-n.ensures c.type_node.auto.w in
-    let e2 = course.second_entered c.args.groups.now v d c.if-o-eq1.false c.in_ok-between.ensures c.property-tested.ensures c.binders-2.ensures.0 c.between.auto.w in
+    let e2 = course.second_entered c.args.groups.now v d c.if-o-eq1.false c.in_ok-between.ensures c.property-tested.ensures (c.from-2.ensures ∙ c.binders-2.ensures.0) c.between.auto.w in
     let d2 = course.second_done c.args.groups.now v e2 c.operand_end-i3.ensures c.kept_between-mid.ensures c.operand-second.ensures.0 c.in_ok-m.ensures c.type_node-2.auto.w in
     let e3 = course.third_entered c.args.groups.now v d2 c.if-o-eq2.false c.in_ok-after_first_branch.ensures c.after_first_branch.auto.w in
     record { tree = third_operand v.tree; at = e3.stands; whole = λ z. third_whole c.args.s.now v.tree v.is _ e3.from (sym e3.count ∙ sym z) }
@@ -211,9 +211,9 @@ kept_branch-past-requires t c =
 pub operand-third-requires : goal.operand-third-requires
 operand-third-requires t c =
     let v = c.requires in
-    let e = course.entered c.args.groups.now v c.kind_of-kind.ensures c.arity-o.ensures.0 c.if-o-eq0.false (c.in_ok-before_operands.ensures v) c.binders.ensures.0 c.before_operands.auto.w in
+    let e = course.entered c.args.groups.now v c.kind_of-kind.ensures c.arity-o.ensures.0 c.if-o-eq0.false (c.in_ok-before_operands.ensures v) (c.from.ensures ∙ c.binders.ensures.0) c.before_operands.auto.w in
     let d = course.first_done c.args.groups.now v e c.operand_end-i2.ensures c.kept_front-low.ensures c.operand-first.ensures.0 c.in_ok-n.ensures c.type_node.auto.w in
-    let e2 = course.second_entered c.args.groups.now v d c.if-o-eq1.false c.in_ok-between.ensures c.property-tested.ensures c.binders-2.ensures.0 c.between.auto.w in
+    let e2 = course.second_entered c.args.groups.now v d c.if-o-eq1.false c.in_ok-between.ensures c.property-tested.ensures (c.from-2.ensures ∙ c.binders-2.ensures.0) c.between.auto.w in
     let d2 = course.second_done c.args.groups.now v e2 c.operand_end-i3.ensures c.kept_between-mid.ensures c.operand-second.ensures.0 c.in_ok-m.ensures c.type_node-2.auto.w in
     let e3 = course.third_entered c.args.groups.now v d2 c.if-o-eq2.false c.in_ok-after_first_branch.ensures c.after_first_branch.auto.w in
     record { tree = third_operand v.tree; at = e3.stands; ends = c.operand_end-end.ensures _ e3.stands }
@@ -221,9 +221,9 @@ operand-third-requires t c =
 pub overflow_add-place-3 : goal.overflow_add-place-3
 overflow_add-place-3 t c =
     let v = c.requires in
-    let e = course.entered c.args.groups.now v c.kind_of-kind.ensures c.arity-o.ensures.0 c.if-o-eq0.false (c.in_ok-before_operands.ensures v) c.binders.ensures.0 c.before_operands.auto.w in
+    let e = course.entered c.args.groups.now v c.kind_of-kind.ensures c.arity-o.ensures.0 c.if-o-eq0.false (c.in_ok-before_operands.ensures v) (c.from.ensures ∙ c.binders.ensures.0) c.before_operands.auto.w in
     let d = course.first_done c.args.groups.now v e c.operand_end-i2.ensures c.kept_front-low.ensures c.operand-first.ensures.0 c.in_ok-n.ensures c.type_node.auto.w in
-    let e2 = course.second_entered c.args.groups.now v d c.if-o-eq1.false c.in_ok-between.ensures c.property-tested.ensures c.binders-2.ensures.0 c.between.auto.w in
+    let e2 = course.second_entered c.args.groups.now v d c.if-o-eq1.false c.in_ok-between.ensures c.property-tested.ensures (c.from-2.ensures ∙ c.binders-2.ensures.0) c.between.auto.w in
     let d2 = course.second_done c.args.groups.now v e2 c.operand_end-i3.ensures c.kept_between-mid.ensures c.operand-second.ensures.0 c.in_ok-m.ensures c.type_node-2.auto.w in
     let e3 = course.third_entered c.args.groups.now v d2 c.if-o-eq2.false c.in_ok-after_first_branch.ensures c.after_first_branch.auto.w in
     omega (arith, steps.third_placed c.args.groups.now v e3.three {t = e3.tested} {first = e3.first} e3.done c.kept_branch-past.ensures e3.from)
@@ -231,9 +231,9 @@ overflow_add-place-3 t c =
 pub slice_bounds-type_node-count-3 : goal.slice_bounds-type_node-count-3
 slice_bounds-type_node-count-3 t c =
     let v = c.requires in
-    let e = course.entered c.args.groups.now v c.kind_of-kind.ensures c.arity-o.ensures.0 c.if-o-eq0.false (c.in_ok-before_operands.ensures v) c.binders.ensures.0 c.before_operands.auto.w in
+    let e = course.entered c.args.groups.now v c.kind_of-kind.ensures c.arity-o.ensures.0 c.if-o-eq0.false (c.in_ok-before_operands.ensures v) (c.from.ensures ∙ c.binders.ensures.0) c.before_operands.auto.w in
     let d = course.first_done c.args.groups.now v e c.operand_end-i2.ensures c.kept_front-low.ensures c.operand-first.ensures.0 c.in_ok-n.ensures c.type_node.auto.w in
-    let e2 = course.second_entered c.args.groups.now v d c.if-o-eq1.false c.in_ok-between.ensures c.property-tested.ensures c.binders-2.ensures.0 c.between.auto.w in
+    let e2 = course.second_entered c.args.groups.now v d c.if-o-eq1.false c.in_ok-between.ensures c.property-tested.ensures (c.from-2.ensures ∙ c.binders-2.ensures.0) c.between.auto.w in
     let d2 = course.second_done c.args.groups.now v e2 c.operand_end-i3.ensures c.kept_between-mid.ensures c.operand-second.ensures.0 c.in_ok-m.ensures c.type_node-2.auto.w in
     let e3 = course.third_entered c.args.groups.now v d2 c.if-o-eq2.false c.in_ok-after_first_branch.ensures c.after_first_branch.auto.w in
     steps.past_within c.args.groups.now v e3.three e3.done c.kept_branch-past.ensures e3.from
@@ -241,9 +241,9 @@ slice_bounds-type_node-count-3 t c =
 pub slice_bounds-type_node-start-3 : goal.slice_bounds-type_node-start-3
 slice_bounds-type_node-start-3 t c =
     let v = c.requires in
-    let e = course.entered c.args.groups.now v c.kind_of-kind.ensures c.arity-o.ensures.0 c.if-o-eq0.false (c.in_ok-before_operands.ensures v) c.binders.ensures.0 c.before_operands.auto.w in
+    let e = course.entered c.args.groups.now v c.kind_of-kind.ensures c.arity-o.ensures.0 c.if-o-eq0.false (c.in_ok-before_operands.ensures v) (c.from.ensures ∙ c.binders.ensures.0) c.before_operands.auto.w in
     let d = course.first_done c.args.groups.now v e c.operand_end-i2.ensures c.kept_front-low.ensures c.operand-first.ensures.0 c.in_ok-n.ensures c.type_node.auto.w in
-    let e2 = course.second_entered c.args.groups.now v d c.if-o-eq1.false c.in_ok-between.ensures c.property-tested.ensures c.binders-2.ensures.0 c.between.auto.w in
+    let e2 = course.second_entered c.args.groups.now v d c.if-o-eq1.false c.in_ok-between.ensures c.property-tested.ensures (c.from-2.ensures ∙ c.binders-2.ensures.0) c.between.auto.w in
     let d2 = course.second_done c.args.groups.now v e2 c.operand_end-i3.ensures c.kept_between-mid.ensures c.operand-second.ensures.0 c.in_ok-m.ensures c.type_node-2.auto.w in
     let e3 = course.third_entered c.args.groups.now v d2 c.if-o-eq2.false c.in_ok-after_first_branch.ensures c.after_first_branch.auto.w in
     steps.past_within c.args.groups.now v e3.three e3.done c.kept_branch-past.ensures e3.from
@@ -251,18 +251,18 @@ slice_bounds-type_node-start-3 t c =
 pub type_node-requires-3 : goal.type_node-requires-3
 type_node-requires-3 t c =
     let v = c.requires in
-    let e = course.entered c.args.groups.now v c.kind_of-kind.ensures c.arity-o.ensures.0 c.if-o-eq0.false (c.in_ok-before_operands.ensures v) c.binders.ensures.0 c.before_operands.auto.w in
+    let e = course.entered c.args.groups.now v c.kind_of-kind.ensures c.arity-o.ensures.0 c.if-o-eq0.false (c.in_ok-before_operands.ensures v) (c.from.ensures ∙ c.binders.ensures.0) c.before_operands.auto.w in
     let d = course.first_done c.args.groups.now v e c.operand_end-i2.ensures c.kept_front-low.ensures c.operand-first.ensures.0 c.in_ok-n.ensures c.type_node.auto.w in
-    let e2 = course.second_entered c.args.groups.now v d c.if-o-eq1.false c.in_ok-between.ensures c.property-tested.ensures c.binders-2.ensures.0 c.between.auto.w in
+    let e2 = course.second_entered c.args.groups.now v d c.if-o-eq1.false c.in_ok-between.ensures c.property-tested.ensures (c.from-2.ensures ∙ c.binders-2.ensures.0) c.between.auto.w in
     let d2 = course.second_done c.args.groups.now v e2 c.operand_end-i3.ensures c.kept_between-mid.ensures c.operand-second.ensures.0 c.in_ok-m.ensures c.type_node-2.auto.w in
     let e3 = course.third_entered c.args.groups.now v d2 c.if-o-eq2.false c.in_ok-after_first_branch.ensures c.after_first_branch.auto.w in
     (omega (arith, c.operand-third.ensures.1 (omega (arith, e3.from)), c.decreases), course.third_ready c.args.groups.now v e3 c.operand_end-end.ensures c.kept_branch-past.ensures c.operand-third.ensures.0)
 
 pub returns-in_err-type_node : goal.returns-in_err-type_node
 returns-in_err-type_node t c v =
-    let e = course.entered c.args.groups.now v c.kind_of-kind.ensures c.arity-o.ensures.0 c.if-o-eq0.false (c.in_ok-before_operands.ensures v) c.binders.ensures.0 c.before_operands.auto.w in
+    let e = course.entered c.args.groups.now v c.kind_of-kind.ensures c.arity-o.ensures.0 c.if-o-eq0.false (c.in_ok-before_operands.ensures v) (c.from.ensures ∙ c.binders.ensures.0) c.before_operands.auto.w in
     let d = course.first_done c.args.groups.now v e c.operand_end-i2.ensures c.kept_front-low.ensures c.operand-first.ensures.0 c.in_ok-n.ensures c.type_node.auto.w in
-    let e2 = course.second_entered c.args.groups.now v d c.if-o-eq1.false c.in_ok-between.ensures c.property-tested.ensures c.binders-2.ensures.0 c.between.auto.w in
+    let e2 = course.second_entered c.args.groups.now v d c.if-o-eq1.false c.in_ok-between.ensures c.property-tested.ensures (c.from-2.ensures ∙ c.binders-2.ensures.0) c.between.auto.w in
     let d2 = course.second_done c.args.groups.now v e2 c.operand_end-i3.ensures c.kept_between-mid.ensures c.operand-second.ensures.0 c.in_ok-m.ensures c.type_node-2.auto.w in
     let e3 = course.third_entered c.args.groups.now v d2 c.if-o-eq2.false c.in_ok-after_first_branch.ensures c.after_first_branch.auto.w in
     course.third_refuses c.args.groups.now v e3 c.operand_end-end.ensures c.kept_branch-past.ensures c.operand-third.ensures.0 _ c.in_err-type_node.ensures c.from_residual-in_err-type_node.ensures.1
@@ -275,9 +275,9 @@ reader-requires t c =
 pub after_second_branch-requires : goal.after_second_branch-requires
 after_second_branch-requires t c =
     let v = c.requires in
-    let e = course.entered c.args.groups.now v c.kind_of-kind.ensures c.arity-o.ensures.0 c.if-o-eq0.false (c.in_ok-before_operands.ensures v) c.binders.ensures.0 c.before_operands.auto.w in
+    let e = course.entered c.args.groups.now v c.kind_of-kind.ensures c.arity-o.ensures.0 c.if-o-eq0.false (c.in_ok-before_operands.ensures v) (c.from.ensures ∙ c.binders.ensures.0) c.before_operands.auto.w in
     let d = course.first_done c.args.groups.now v e c.operand_end-i2.ensures c.kept_front-low.ensures c.operand-first.ensures.0 c.in_ok-n.ensures c.type_node.auto.w in
-    let e2 = course.second_entered c.args.groups.now v d c.if-o-eq1.false c.in_ok-between.ensures c.property-tested.ensures c.binders-2.ensures.0 c.between.auto.w in
+    let e2 = course.second_entered c.args.groups.now v d c.if-o-eq1.false c.in_ok-between.ensures c.property-tested.ensures (c.from-2.ensures ∙ c.binders-2.ensures.0) c.between.auto.w in
     let d2 = course.second_done c.args.groups.now v e2 c.operand_end-i3.ensures c.kept_between-mid.ensures c.operand-second.ensures.0 c.in_ok-m.ensures c.type_node-2.auto.w in
     let e3 = course.third_entered c.args.groups.now v d2 c.if-o-eq2.false c.in_ok-after_first_branch.ensures c.after_first_branch.auto.w in
     let d3 = course.third_done c.args.groups.now v e3 c.operand_end-end.ensures c.kept_branch-past.ensures c.operand-third.ensures.0 c.in_ok-type_node.ensures c.type_node-3.auto.w in
@@ -285,9 +285,9 @@ after_second_branch-requires t c =
 
 pub returns : goal.returns
 returns t c v =
-    let e = course.entered c.args.groups.now v c.kind_of-kind.ensures c.arity-o.ensures.0 c.if-o-eq0.false (c.in_ok-before_operands.ensures v) c.binders.ensures.0 c.before_operands.auto.w in
+    let e = course.entered c.args.groups.now v c.kind_of-kind.ensures c.arity-o.ensures.0 c.if-o-eq0.false (c.in_ok-before_operands.ensures v) (c.from.ensures ∙ c.binders.ensures.0) c.before_operands.auto.w in
     let d = course.first_done c.args.groups.now v e c.operand_end-i2.ensures c.kept_front-low.ensures c.operand-first.ensures.0 c.in_ok-n.ensures c.type_node.auto.w in
-    let e2 = course.second_entered c.args.groups.now v d c.if-o-eq1.false c.in_ok-between.ensures c.property-tested.ensures c.binders-2.ensures.0 c.between.auto.w in
+    let e2 = course.second_entered c.args.groups.now v d c.if-o-eq1.false c.in_ok-between.ensures c.property-tested.ensures (c.from-2.ensures ∙ c.binders-2.ensures.0) c.between.auto.w in
     let d2 = course.second_done c.args.groups.now v e2 c.operand_end-i3.ensures c.kept_between-mid.ensures c.operand-second.ensures.0 c.in_ok-m.ensures c.type_node-2.auto.w in
     let e3 = course.third_entered c.args.groups.now v d2 c.if-o-eq2.false c.in_ok-after_first_branch.ensures c.after_first_branch.auto.w in
     let d3 = course.third_done c.args.groups.now v e3 c.operand_end-end.ensures c.kept_branch-past.ensures c.operand-third.ensures.0 c.in_ok-type_node.ensures c.type_node-3.auto.w in
