@@ -164,14 +164,14 @@ pub few : (v b : Term) → size v ≤ value_limit → size b ≤ script_limit �
 few v b l h = omega (arith, subst_bound v l b 0)
 
 -- a term's bytes after its own record are those of its operands
-pub operand_bytes : (e : Term) → take (length (encode e) - script_width) (drop script_width (encode e)) ≡ joined encode (term_operands e)
+operand_bytes : (e : Term) → take (length (encode e) - script_width) (drop script_width (encode e)) ≡ joined encode (term_operands e)
 operand_bytes e =
     take_all (length (encode e) - script_width) (drop script_width (encode e)) (simp length-drop (omega arith))
     ∙ ap (drop script_width) (term_encode_is e)
     ∙ drop_at (term_head e) (joined encode (term_operands e)) script_width (term_head_length e)
 
 -- a raised value: its own record with other groups, and its operands as they are
-pub raised_bytes : (S : Security) (v : Term) (m : Indirect) → So (is_value v)
+raised_bytes : (S : Security) (v : Term) (m : Indirect) → So (is_value v)
     → object_record (kind_of v) (S.raise (property_of v) m) (number_of v) ++ joined encode (term_operands v) ≡ encode (raise_value S v m)
 unfolding raise_value is_value
 raised_bytes S (var n) m h = absurd (false≢true h)
@@ -185,6 +185,12 @@ raised_bytes S (proj d w e) m h = absurd (false≢true h)
 raised_bytes S (case w i e a b) m h = absurd (false≢true h)
 raised_bytes S (protect n e) m h = absurd (false≢true h)
 raised_bytes S (mu w i e) m h = absurd (false≢true h)
+
+-- as the code puts it together
+pub raised_from : (S : Security) (v : Term) (m : Indirect) → So (is_value v) → {k n : ℕ} {p : Property} {own bytes : Bytes} → own ≡ object_record k p n → k ≡ kind_of v
+    → p ≡ S.raise (property_of v) m → n ≡ number_of v → bytes ≡ encode v
+    → own ++ take (length bytes - script_width) (drop script_width bytes) ≡ encode (raise_value S v m)
+raised_from S v m h o k p n b = rw (o, b, k, p, n, operand_bytes v) (raised_bytes S v m h)
 
 -- the unrolled function: two records, the recursion, a variable
 pub rolled_bytes : (g : Bytes) (w : Reader) (i : ℕ) (k : Property) (b : Term)

@@ -190,8 +190,9 @@ fn write_raised(groups: &[u8], script: &[u8], at: usize, out: &mut Writer)
     let raised = records::property(script, x).raised(groups, by);
     let kind = records::kind_of(script, x);
     let number = records::number(script, x);
+    let value = term_bytes(script, x);
     out.put(&records::record(kind, raised, number));
-    out.put(&term_bytes(script, x)[SCRIPT_WIDTH..]);
+    out.put(&value[SCRIPT_WIDTH..]);
 }
 
 // The body of a recursion, with the recursion put in for its variable: (λx. (μf. e) x), with the groups of the recursion's type,
