@@ -1,5 +1,5 @@
 -- What a plan's contractum is: counted, and as bytes.
-use Rattle.std.proofs.Common.{◌≡◌, refl, sym, ap, ap₂, ◌∙◌, cond, true, false, Bool, [], ◌∷◌, ◌++◌, ℕ, suc, ◌+◌, ◌*◌, ◌/◌, ◌%◌, ◌≤◌, ◌<◌, arith, length, take, drop, length-append, take_at}
+use Rattle.std.proofs.Common.{◌≡◌, refl, sym, ap, ◌∙◌, cond, true, false, Bool, [], ◌++◌, ℕ, suc, ◌+◌, ◌-◌, ◌*◌, ◌≤◌, ◌<◌, arith, length, take, drop, length-drop, take_all, drop_at}
 use Rattle.std.proofs.Math.Bool.{So}
 use Rattle.std.proofs.lemmas.Bool.{false≢true}
 use Rattle.std.proofs.Common.{subst as transport}
@@ -11,25 +11,22 @@ use Rattle.rules.specs.Answer.{Bytes}
 use Rattle.rules.specs.Limits.{script_width, script_limit}
 use Rattle.rules.specs.Groups.{properties_of}
 use Rattle.rules.specs.Types.{type_at}
-use Rattle.rules.specs.Script.{records, kind, number, object_record, encode, size, depth}
+use Rattle.rules.specs.Script.{records, number, object_record, encode, size, depth}
 use Rattle.rules.proofs.Prefix.{joined}
-use Rattle.rules.proofs.PrefixLaws.{after_head}
-use Rattle.rules.proofs.TermCode.{term_code, term_head, term_head_length, term_operands, term_encode_is, two_bytes}
+use Rattle.rules.proofs.TermCode.{term_head, term_head_length, term_operands, term_encode_is, two_bytes}
 use Rattle.records.specs.Kinds as kinds
 use Rattle.records.specs.Place.{At}
-use Rattle.records.specs.Labels.{property_at}
 use Rattle.records.specs.Operands.{first_operand}
-use Rattle.records.proofs.Stands.{kind_of, operands, there, stands_kind, at_first}
-use Rattle.redex.specs.Fates.{property_of, is_function, goes, wrong_kind, fate, contractum}
+use Rattle.records.proofs.Stands.{kind_of, operands, there, at_first}
+use Rattle.redex.specs.Fates.{only_reader, property_of, is_function, goes, wrong_kind, fate, contractum}
 use Rattle.records.proofs.Made.{number_of, number_at, influence_of}
 use Rattle.types.specs.Held.{type_property}
-use Rattle.redex.proofs.Places.{groups_at}
 use Rattle.redex.proofs.Answers.{function_top}
-use Rattle.memory.specs.Splice.{splice}
+use Rattle.memory.specs.Written.{Room, Written}
+use Rattle.memory.specs.declared.Writer.{Writer}
+use Rattle.memory.proofs.Placed.{then, room_first, room_next}
 use Rattle.substitution.specs.Substituted.{value_limit}
 use Rattle.substitution.proofs.Nodes.{subst_bound}
-use Rattle.memory.proofs.Laws.{join_after}
-use Rattle.substitution.proofs.Reading.{term_length}
 use Rattle.contraction.specs.declared.Plan.TheVariants.{Part, Body, Raised, Unrolled}
 use Rattle.substitution.specs.declared.Size.{Size}
 use Rattle.contraction.specs.Plans.{Planned, applied, projected, branched, lifted, unrolled_one, protect_record, Measures}
@@ -166,24 +163,15 @@ contractum_limit = script_limit * value_limit
 pub few : (v b : Term) → size v ≤ value_limit → size b ≤ script_limit → size (subst 0 v b) ≤ contractum_limit
 few v b l h = omega (arith, subst_bound v l b 0)
 
--- Bytes. A term's own, and those of its operands.
-module _ {s : Bytes} {x : ℕ} {e : Term} (a : At s x e) where
-  pub own_bytes : (n : ℕ) → n ≡ script_width * size e → take n (drop (script_width * x) s) ≡ encode e
-  own_bytes n h = ap (take n) a.stands ∙ take_at (encode e) a.rest n (term_length e ∙ sym h)
-
-  pub operand_bytes : (from n : ℕ) → from ≡ script_width * x + script_width → n + script_width ≡ script_width * size e
-      → take n (drop from s) ≡ joined encode (term_operands e)
-  operand_bytes from n p h =
-      let z : from ≡ script_width * suc x = omega arith in
-      ap (λ m. take n (drop m s)) z ∙ ap (take n) (after_head term_code s x e a.rest a.stands)
-      ∙ take_at (joined encode (term_operands e)) a.rest n
-      (omega (arith, term_length e, ap length (term_encode_is e), head_and_rest))
-    where
-      head_and_rest : length (term_head e ++ joined encode (term_operands e)) ≡ script_width + length (joined encode (term_operands e))
-      head_and_rest = simp (length-append, term_head_length)
+-- a term's bytes after its own record are those of its operands
+operand_bytes : (e : Term) → take (length (encode e) - script_width) (drop script_width (encode e)) ≡ joined encode (term_operands e)
+operand_bytes e =
+    take_all (length (encode e) - script_width) (drop script_width (encode e)) (simp length-drop (omega arith))
+    ∙ ap (drop script_width) (term_encode_is e)
+    ∙ drop_at (term_head e) (joined encode (term_operands e)) script_width (term_head_length e)
 
 -- a raised value: its own record with other groups, and its operands as they are
-pub raised_bytes : (S : Security) (v : Term) (m : Indirect) → So (is_value v)
+raised_bytes : (S : Security) (v : Term) (m : Indirect) → So (is_value v)
     → object_record (kind_of v) (S.raise (property_of v) m) (number_of v) ++ joined encode (term_operands v) ≡ encode (raise_value S v m)
 unfolding raise_value is_value
 raised_bytes S (var n) m h = absurd (false≢true h)
@@ -198,24 +186,31 @@ raised_bytes S (case w i e a b) m h = absurd (false≢true h)
 raised_bytes S (protect n e) m h = absurd (false≢true h)
 raised_bytes S (mu w i e) m h = absurd (false≢true h)
 
+-- as the code puts it together
+pub raised_from : (S : Security) (v : Term) (m : Indirect) → So (is_value v) → {k n : ℕ} {p : Property} {own bytes : Bytes} → own ≡ object_record k p n → k ≡ kind_of v
+    → p ≡ S.raise (property_of v) m → n ≡ number_of v → bytes ≡ encode v
+    → own ++ take (length bytes - script_width) (drop script_width bytes) ≡ encode (raise_value S v m)
+raised_from S v m h o k p n b = rw (o, b, k, p, n, operand_bytes v) (raised_bytes S v m h)
+
 -- the unrolled function: two records, the recursion, a variable
-pub rolled_bytes : (g : Bytes) (w : Reader) (i : ℕ) (k : Property) (b : Term) (w₁ : Reader) (k₁ : Property) (lo hi : ℕ) (mid : Bytes) → w₁ ≡ w → k₁ ≡ k
-    → lo ≡ (i + 1) % 256 → hi ≡ (i + 1) / 256 → mid ≡ encode (mu w i b)
-    → (kinds.function ∷ k₁.r ∷ k₁.ir ∷ 0 ∷ lo ∷ hi ∷ k₁.c ∷ k₁.ic ∷ kinds.application ∷ w₁ ∷ 0 ∷ 0 ∷ 0 ∷ 0 ∷ 0 ∷ 0 ∷ [])
-    ++ (mid ++ (kinds.variable ∷ 0 ∷ 0 ∷ 0 ∷ 0 ∷ 0 ∷ 0 ∷ 0 ∷ []))
+pub rolled_bytes : (g : Bytes) (w : Reader) (i : ℕ) (k : Property) (b : Term)
+    → (object_record kinds.function k (i + 1) ++ (object_record kinds.application (only_reader w) 0 ++ [])) ++ (encode (mu w i b) ++ object_record kinds.variable (only_reader 0) 0)
     ≡ encode (unrolled (properties_of g) w i k b)
 unfolding encode
-rolled_bytes g w i k b w₁ k₁ lo hi mid e1 e2 e3 e4 e5 = let z : i + 1 ≡ suc i = omega arith in rw (e1, e2, e3, e4, e5, z)
+rolled_bytes g w i k b = let z : i + 1 ≡ suc i = omega arith in rw z
 
--- a record and what follows it
-pub record_then : (x : ℕ) (k : Property) (n start : ℕ) (b w w1 w2 : Bytes) → start + script_width ≤ length w → w1 ≡ splice start (object_record x k n) w
-    → w2 ≡ splice (start + script_width) b w1 → w2 ≡ splice start (object_record x k n ++ b) w
-record_then x k n start b w w1 w2 l e1 e2 =
-    e2 ∙ ap (splice (start + script_width) b) e1 ∙ join_after start (start + script_width) (object_record x k n) b w refl l
-
-pub protect_bytes : (m : Indirect) (e : Term) → protect_record m ++ encode e ≡ encode (protect m e)
+-- a protect's record, and the term after it
+pub protect_room : (w : Writer) (m : Indirect) (e : Term) → Room (encode (protect m e)) w → Room (protect_record m) w
 unfolding encode
-protect_bytes m e = refl
+protect_room w m e r = room_first (protect_record m) (encode e) w r
+
+pub inner_room : {m : Indirect} {w w₁ : Writer} (e : Term) → Room (encode (protect m e)) w → Written (protect_record m) w w₁ → Room (encode e) w₁
+unfolding encode
+inner_room e r p = room_next (encode e) p r
+
+pub protect_written : {m : Indirect} {w w₁ w₂ : Writer} (e : Term) → Written (protect_record m) w w₁ → Written (encode e) w₁ w₂ → Written (encode (protect m e)) w w₂
+unfolding encode
+protect_written e p v = then p v
 
 -- a recursion goes when its type is a function
 pub goes_function : (S : Security) (tab : ℕ → Ty) (w : Reader) (i : ℕ) (b : Term) → fate S tab (mu w i b) ≡ goes → So (is_function (tab i))
@@ -233,31 +228,13 @@ operand_there {s} {at} {e} a h = there s (at + 1) (first_operand e) (at_first s 
 pub counted : {e f : Term} {m : Size} → f ≡ e → Measures e m → Measures f m
 counted {m = m} h q = transport (λ (d : Term). Measures d m) (sym h) q
 
--- a protect record of an influence that is also told otherwise
-pub protect_told : {m m' : Indirect} (start : ℕ) (w w' : Bytes) → m ≡ m' → w' ≡ splice start (protect_record m) w → w' ≡ splice start (protect_record m') w
-protect_told start w w' h e = e ∙ ap (λ (m : Indirect). splice start (protect_record m) w) h
+-- a protect around a term is one more record, and one deeper
+pub protect_counted : (m : Indirect) {e : Term} {x y : Size} → Measures e x → (y.records ≡ x.records + 1) × (y.depth ≡ x.depth + 1) → Measures (protect m e) y
+protect_counted m {e} q h = let z = protect_size m e in record { records = omega (arith, q.records, h.0, z.0); deep = omega (arith, q.deep, h.1, z.1) }
 
--- a protect record, and a term after it
-pub protect_placed : (m : Indirect) (start : ℕ) (e : Term) (b w w1 w2 : Bytes) → b ≡ encode e → start + script_width ≤ length w
-    → w1 ≡ splice start (protect_record m) w → w2 ≡ splice (start + script_width) b w1 → w2 ≡ splice start (encode (protect m e)) w
-protect_placed m start e b w w1 w2 h l e1 e2 =
-    record_then kinds.protect (property_of (protect m e)) 0 start b w w1 w2 l e1 e2
-    ∙ ap (λ x. splice start x w) (ap (λ x. protect_record m ++ x) h ∙ protect_bytes m e)
-
--- a raised record, and the operands after it
-pub raise_placed : (S : Security) {s : Bytes} {x : ℕ} {v : Term} (a : At s x v) (m : Indirect) (k₁ : ℕ) (p : Property) (n₁ start : ℕ) (b w w1 w2 : Bytes)
-    → So (is_value v) → k₁ ≡ kind s x → p ≡ S.raise (property_at s x) m → n₁ ≡ number s x → b ≡ joined encode (term_operands v)
-    → start + script_width ≤ length w → w1 ≡ splice start (object_record k₁ p n₁) w → w2 ≡ splice (start + script_width) b w1
-    → w2 ≡ splice start (encode (raise_value S v m)) w
-raise_placed S {s} {x} {v} a m k₁ p n₁ start b w w1 w2 h ek ep en eb l e1 e2 =
-    let pk : k₁ ≡ kind_of v = ek ∙ stands_kind s x v a in
-    let pp : p ≡ S.raise (property_of v) m = ep ∙ ap (λ (k : Property). S.raise k m) (groups_at a) in
-    let pn : n₁ ≡ number_of v = en ∙ number_at a in
-    record_then k₁ p n₁ start b w w1 w2 l e1 e2
-    ∙ ap (λ y. splice start y w)
-    (ap₂ (λ (y : ℕ) (k : Property). object_record y k n₁ ++ b) pk pp
-    ∙ ap₂ (λ (n : ℕ) (y : Bytes). object_record (kind_of v) (S.raise (property_of v) m) n ++ y) pn eb
-    ∙ raised_bytes S v m h)
+-- what is written of a term is written of one equal to it
+pub renamed : {w w' : Writer} {e f : Term} → e ≡ f → Written (encode f) w w' → Written (encode e) w w'
+renamed {w} {w'} h m = transport (λ (b : Bytes). Written b w w') (ap encode (sym h)) m
 
 -- the groups of a recursion's type, as they stand in its first record
 pub type_groups : (t : Bytes) (i n : ℕ) → So (is_function (type_at t i)) → n ≡ i → type_property t n ≡ top (type_at t i)

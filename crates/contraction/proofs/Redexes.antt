@@ -1,5 +1,5 @@
 -- A node whose turn it is and that goes is a left side of table 1, and what its plan is by the kinds of its records.
-use Rattle.std.proofs.Common.{◌≡◌, refl, sym, subst, ◌∙◌, Bool, true, false, ℕ, ◌+◌, ◌≤◌, arith, eqb}
+use Rattle.std.proofs.Common.{◌≡◌, refl, sym, subst, ◌∙◌, inr, Bool, true, false, ℕ, ◌+◌, ◌≤◌, arith, eqb}
 use Rattle.std.proofs.Math.Bool.{So}
 use Rattle.std.proofs.lemmas.Bool.{false≢true}
 use borrow.Author.Tests.{eqb-true}
@@ -15,7 +15,8 @@ use Rattle.records.specs.Operands.{first_operand, second_operand}
 use Rattle.records.proofs.Made.{by_kind}
 use Rattle.records.proofs.Stands.{kind_of, operands, at_first, at_second, at_third}
 use Rattle.redex.specs.Fates.{property_of, goes, reading_fate, ready, fate}
-use Rattle.redex.proofs.Forms.{built_is}
+use Rattle.redex.specs.Found.{is_destructor}
+use Rattle.redex.proofs.Forms.{built_is, one_reads}
 use Rattle.contraction.specs.declared.Plan.TheVariants.{Part, Body, Raised, Unrolled}
 use Rattle.contraction.specs.Plans.{Left, applies, projects, branches, lifts, unrolls, Planned, applied, projected, branched, lifted, unrolled_one}
 
@@ -49,23 +50,30 @@ left_side S tab (case w i e a b) h g = choice w i e a b (fits_it (built_by sum e
 left_side S tab (protect m e) h g = lifts h
 left_side S tab (mu w i e) h g = unrolls
 
--- what a destructor takes apart has an operand, which stands two records on
-destructs : {e : Term} → Left e → (kind_of e ≡ kinds.recursion → ⊥) → (kind_of e ≡ kinds.protect → ⊥) → (1 ≤ operands e) × (1 ≤ operands (first_operand e))
-destructs applies n m = (omega arith, omega arith)
-destructs (projects d) n m = (omega arith, omega arith)
-destructs (branches d) n m = (omega arith, omega arith)
-destructs (lifts v) n m = absurd (m refl)
-destructs unrolls n m = absurd (n refl)
+-- what a destructor takes apart has an operand,
+destructs : {e : Term} → Left e → So (is_destructor (kind_of e)) → (1 ≤ operands e) × (1 ≤ operands (first_operand e))
+unfolding is_destructor
+destructs applies h = (omega arith, omega arith)
+destructs (projects d) h = (omega arith, omega arith)
+destructs (branches d) h = (omega arith, omega arith)
+destructs (lifts v) h = absurd (false≢true h)
+destructs unrolls h = absurd (false≢true h)
+
+-- which stands two records on
+pub record Taken (s : Bytes) (at : ℕ) (e : Term) : Type 0 where
+  pub first_at : At s (at + 1) (first_operand e)
+  pub inner_at : At s (at + 2) (first_operand (first_operand e))
+
+pub taken : {s : Bytes} {at : ℕ} {e : Term} → At s at e → Left e → So (is_destructor (kind_of e)) → Taken s at e
+taken {s} {at} {e} a l h =
+    let z : at + 1 + 1 ≡ at + 2 = omega arith in
+    let x = at_first s at e a (destructs l h).0 in
+    record {
+      first_at = x;
+      inner_at = subst (λ (j : ℕ). At s j (first_operand (first_operand e))) z (at_first s (at + 1) (first_operand e) x (destructs l h).1);
+    }
 
 module _ (s : Bytes) (at : ℕ) where
-  pub taken_at : {e : Term} → At s at e → Left e → (kind_of e ≡ kinds.recursion → ⊥) → (kind_of e ≡ kinds.protect → ⊥) → At s (at + 1) (first_operand e)
-  taken_at {e} a l n m = at_first s at e a (destructs l n m).0
-
-  pub inner_at : {e : Term} → At s at e → Left e → (kind_of e ≡ kinds.recursion → ⊥) → (kind_of e ≡ kinds.protect → ⊥) → At s (at + 2) (first_operand (first_operand e))
-  inner_at {e} a l n m =
-      let z : at + 1 + 1 ≡ at + 2 = omega arith in
-      subst (λ (j : ℕ). At s j (first_operand (first_operand e))) z (at_first s (at + 1) (first_operand e) (taken_at a l n m) (destructs l n m).1)
-
   pub plan_unrolled : {e : Term} → Left e → kind_of e ≡ kinds.recursion → Planned s e Unrolled
   plan_unrolled applies h = absurd (omega arith)
   plan_unrolled (projects first) h = absurd (omega arith)
@@ -121,11 +129,11 @@ module _ (s : Bytes) (at : ℕ) where
   cased next (projects first) h a p = absurd (omega arith)
   cased next (projects second) h a p = absurd (omega arith)
   cased next (branches first) h a p =
-      let x = inner_at a (branches first) (λ z. omega arith) (λ z. omega arith) in
+      let x = (taken a (branches first) (one_reads _ (inr (inr h)))).inner_at in
       let b = at_second s at _ a next (omega arith) (omega arith) in
       record { branch = b; to_first = λ i. branched b x; to_second = λ i third q. absurd (i refl) }
   cased next (branches second) h a p =
-      let x = inner_at a (branches second) (λ z. omega arith) (λ z. omega arith) in
+      let x = (taken a (branches second) (one_reads _ (inr (inr h)))).inner_at in
       record {
         branch = at_second s at _ a next (omega arith) (omega arith);
         to_first = λ i. absurd (omega arith);

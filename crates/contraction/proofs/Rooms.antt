@@ -15,7 +15,8 @@ use Rattle.records.proofs.Stands.{operands, at_first}
 use Rattle.records.proofs.Made.{influence_of, influence_stands}
 use Rattle.redex.specs.Fates.{fate, contractum}
 use Rattle.redex.proofs.Places.{groups_at, reader_at}
-use Rattle.memory.specs.Splice.{splice}
+use Rattle.memory.specs.Written.{Room}
+use Rattle.memory.specs.declared.Writer.{Writer}
 use Rattle.contraction.specs.declared.Plan.{Plan}
 use Rattle.contraction.specs.declared.Plan.TheVariants.{Part, Body, Raised, Unrolled}
 use Rattle.contraction.specs.Plans.{Planned, Ready, Fit, protection, PartRoom, BodyRoom, RaisedRoom, UnrolledRoom}
@@ -24,11 +25,11 @@ use Rattle.contraction.proofs.Plans.{PartPlan, part_plan, BodyPlan, body_plan, L
 pub planned_as : {s : Bytes} {e : Term} {p p' : Plan} → p ≡ p' → Planned s e p → Planned s e p'
 planned_as {s} {e} h q = transport (λ (x : Plan). Planned s e x) h q
 
--- what is written for a term is written for one equal to it
-renamed : (start : ℕ) (w w' : Bytes) {e f : Term} → e ≡ f → w' ≡ splice start (encode f) w → w' ≡ splice start (encode e) w
-renamed start w w' h p = p ∙ ap (λ (x : Term). splice start (encode x) w) (sym h)
+-- room for a term is room for one equal to it
+abbrev room_for : (out : Writer) {e f : Term} → e ≡ f → Room (encode e) out → Room (encode f) out
+room_for out h r = transport (λ (x : Term). Room (encode x) out) h r
 
-module _ {g t s : Bytes} {at : ℕ} {p : Plan} {w : Bytes} {start : ℕ} (q : Fit g t s at p w start) where
+module _ {g t s : Bytes} {at : ℕ} {p : Plan} {out : Writer} (q : Fit g t s at p out) where
   abbrev S : Security
   S = properties_of g
 
@@ -38,31 +39,32 @@ module _ {g t s : Bytes} {at : ℕ} {p : Plan} {w : Bytes} {start : ℕ} (q : Fi
   abbrev e : Term
   e = q.ready.tree
 
+  -- the protection, as the records of the destructor and of what it takes apart tell it
+  abbrev protection_at : 1 ≤ operands e → protection_of S e ≡ protection g s at
+  protection_at h = sym (ap₂ S.influence (groups_at (at_first s at e q.ready.stands h)) (reader_at q.ready.stands))
+
   abbrev part_of : {x : ℕ} → p ≡ Part x → PartPlan s q.ready.tree x
   part_of h = part_plan (planned_as h q.ready.planned)
 
-  abbrev pub part_room : {x : ℕ} → p ≡ Part x → PartRoom s at x w start
+  abbrev pub part_is : {x : ℕ} (h : p ≡ Part x) → contractum S tab e ≡ protect (protection g s at) (part_of h).part
+  part_is h = (part_of h).is S tab ∙ ap (λ m. protect m (part_of h).part) (protection_at (part_of h).operand)
+
+  abbrev pub part_room : {x : ℕ} → p ≡ Part x → PartRoom g s at x out
   part_room h = record {
     part = (part_of h).part;
     stands = (part_of h).stands;
     operand = operand_there q.ready.stands (part_of h).operand;
-    fits = omega (arith, q.fits, ap size ((part_of h).is S tab), (protect_size (protection_of S e) (part_of h).part).0);
+    room = room_for out (part_is h) q.room;
   }
-
-  -- the protection, as the records of the destructor and of what it takes apart tell it
-  protection_at : 1 ≤ operands e → protection g s at ≡ protection_of S e
-  protection_at h = ap₂ S.influence (groups_at (at_first s at e q.ready.stands h)) (reader_at q.ready.stands)
-
-  pub part_written : {x : ℕ} (h : p ≡ Part x) (w' : Bytes) → w' ≡ splice start (encode (protect (protection g s at) (part_room h).part)) w
-      → w' ≡ splice start (encode (contractum S tab e)) w
-  part_written h w' k =
-      renamed start w w'
-      ((part_of h).is S tab ∙ ap (λ m. protect m (part_of h).part) (sym (protection_at (part_of h).operand))) k
 
   abbrev body_of : {x y : ℕ} → p ≡ Body x y → BodyPlan s q.ready.tree x y
   body_of h = body_plan (planned_as h q.ready.planned)
 
-  abbrev pub body_room : {x y : ℕ} → p ≡ Body x y → BodyRoom s at x y w start
+  abbrev pub body_is : {x y : ℕ} (h : p ≡ Body x y) → contractum S tab e ≡ protect (protection g s at) (subst 0 (body_of h).value (body_of h).body)
+  body_is h =
+      (body_of h).is S tab ∙ ap (λ m. protect m (subst 0 (body_of h).value (body_of h).body)) (protection_at (body_of h).operand)
+
+  abbrev pub body_room : {x y : ℕ} → p ≡ Body x y → BodyRoom g s at x y out
   body_room h = record {
     body = (body_of h).body;
     value = (body_of h).value;
@@ -70,46 +72,31 @@ module _ {g t s : Bytes} {at : ℕ} {p : Plan} {w : Bytes} {start : ℕ} (q : Fi
     at_value = (body_of h).at_value;
     shallow = omega (arith, (body_of h).shallow_body, q.ready.shallow);
     operand = operand_there q.ready.stands (body_of h).operand;
-    fits = omega (
-      arith,
-      q.fits,
-      ap size ((body_of h).is S tab),
-      (protect_size (protection_of S e) (subst 0 (body_of h).value (body_of h).body)).0,
-    );
+    room = room_for out (body_is h) q.room;
   }
-
-  pub body_written : {x y : ℕ} (h : p ≡ Body x y) (w' : Bytes)
-      → w' ≡ splice start (encode (protect (protection g s at) (subst 0 (body_room h).value (body_room h).body))) w
-      → w' ≡ splice start (encode (contractum S tab e)) w
-  body_written h w' k =
-      renamed start w w'
-      ((body_of h).is S tab ∙ ap (λ m. protect m (subst 0 (body_of h).value (body_of h).body)) (sym (protection_at (body_of h).operand))) k
 
   abbrev lift_of : p ≡ Raised → LiftPlan s at q.ready.tree
   lift_of h = lift_plan q.ready.stands (planned_as h q.ready.planned)
 
-  abbrev pub raised_room : p ≡ Raised → RaisedRoom s at w start
+  abbrev pub raised_is : (h : p ≡ Raised) → contractum S tab e ≡ raise_value S (lift_of h).value (influence_at s at)
+  raised_is h = (lift_of h).is S tab ∙ ap (raise_value S (lift_of h).value) (sym (influence_stands q.ready.stands))
+
+  abbrev pub raised_room : p ≡ Raised → RaisedRoom g s at out
   raised_room h = record {
     value = (lift_of h).value;
     stands = (lift_of h).stands;
     is_one = (lift_of h).is_one;
-    fits = omega (arith, q.fits, ap size ((lift_of h).is S tab), (raise_size S (lift_of h).value (influence_of e)).0);
+    room = room_for out (raised_is h) q.room;
   }
-
-  pub raised_written : (h : p ≡ Raised) (w' : Bytes) → w' ≡ splice start (encode (raise_value S (raised_room h).value (influence_at s at))) w
-      → w' ≡ splice start (encode (contractum S tab e)) w
-  raised_written h w' k =
-      renamed start w w'
-      ((lift_of h).is S tab ∙ ap (raise_value S (lift_of h).value) (sym (influence_stands q.ready.stands))) k
 
   abbrev roll_of : p ≡ Unrolled → RollPlan q.ready.tree
   roll_of h = roll_plan (planned_as h q.ready.planned)
 
-  abbrev unroll_of : (h : p ≡ Unrolled)
+  abbrev pub unrolled_is : (h : p ≡ Unrolled)
       → contractum S tab e ≡ subst 0 (unrolled S (roll_of h).label (roll_of h).type (top (tab (roll_of h).type)) (roll_of h).body) (roll_of h).body
-  unroll_of h = ap (contractum S tab) (roll_of h).is ∙ unroll_is S tab (roll_of h).label (roll_of h).type (roll_of h).body
+  unrolled_is h = ap (contractum S tab) (roll_of h).is ∙ unroll_is S tab (roll_of h).label (roll_of h).type (roll_of h).body
 
-  abbrev pub unrolled_room : p ≡ Unrolled → UnrolledRoom t s at w start
+  abbrev pub unrolled_room : p ≡ Unrolled → UnrolledRoom t s at out
   unrolled_room h = record {
     label = (roll_of h).label;
     type = (roll_of h).type;
@@ -119,15 +106,8 @@ module _ {g t s : Bytes} {at : ℕ} {p : Plan} {w : Bytes} {start : ℕ} (q : Fi
     function = goes_function S tab (roll_of h).label (roll_of h).type (roll_of h).body (ap (fate S tab) (sym (roll_of h).is) ∙ q.contracts);
     table = q.table;
     groups = g;
-    fits = omega (arith, q.fits, ap size (unroll_of h));
+    room = room_for out (unrolled_is h) q.room;
   }
-
-  pub unrolled_written : (h : p ≡ Unrolled) (w' : Bytes)
-      → w'
-      ≡ splice start
-      (encode (subst 0 (unrolled S (unrolled_room h).label (unrolled_room h).type (top (tab (unrolled_room h).type)) (unrolled_room h).body) (unrolled_room h).body)) w
-      → w' ≡ splice start (encode (contractum S tab e)) w
-  unrolled_written h w' k = renamed start w w' (unroll_of h) k
 
 -- No plan makes more records than can be counted.
 pub contractum_few : (S : Security) (tab : ℕ → Ty) {s : Bytes} {at : ℕ} (p : Plan) (q : Ready s at p) → size (contractum S tab q.tree) ≤ contractum_limit + 1

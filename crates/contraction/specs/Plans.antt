@@ -1,19 +1,21 @@
 -- How a redex's contractum is made from parts of its script, and what counting and writing it are given.
-use Rattle.std.specs.Prelude.{◌≡◌, ℕ, ◌+◌, ◌*◌, ◌≤◌, ◌<◌, length}
+use Rattle.std.specs.Prelude.{◌≡◌, ℕ, ◌+◌, ◌≤◌, ◌<◌}
 use Rattle.std.proofs.Math.Bool.{So}
 use Rattle.calculus.specs.Security.{Property, Reader, Indirect}
 use Rattle.calculus.specs.Types.{top}
-use Rattle.calculus.specs.Terms.{Side, choose, Term, lam, pair, inj, app, proj, case, protect, mu, is_value, subst}
+use Rattle.calculus.specs.Terms.{Side, choose, Term, lam, pair, inj, app, proj, case, protect, mu, is_value, subst, raise_value}
 use Rattle.calculus.specs.Reduction.{unrolled}
 use Rattle.rules.specs.Answer.{Bytes}
-use Rattle.rules.specs.Limits.{script_width, script_limit, depth_limit, table_limit}
+use Rattle.rules.specs.Limits.{script_limit, depth_limit, table_limit}
 use Rattle.rules.specs.Groups.{properties_of}
 use Rattle.rules.specs.Types.{type_count, type_at}
-use Rattle.rules.specs.Script.{records as record_count, kind, r, full_record, size, depth}
+use Rattle.rules.specs.Script.{records as record_count, kind, r, full_record, encode, size, depth}
 use Rattle.records.specs.Kinds as kinds
 use Rattle.records.specs.Place.{At}
-use Rattle.records.specs.Labels.{property_at}
+use Rattle.records.specs.Labels.{property_at, influence_at}
 use Rattle.redex.specs.Fates.{is_function, goes, fate, contractum}
+use Rattle.memory.specs.Written.{Room}
+use Rattle.memory.specs.declared.Writer.{Writer}
 use Rattle.contraction.specs.declared.Plan.{Plan}
 use Rattle.contraction.specs.declared.Plan.TheVariants.{Part, Body, Raised, Unrolled}
 use Rattle.substitution.specs.declared.Size.{Size}
@@ -88,30 +90,30 @@ pub record Recursive (s : Bytes) (at : ℕ) : Type 0 where
   pub small : size (mu label type body) ≤ script_limit
   pub shallow : depth (mu label type body) ≤ depth_limit
 
--- Room in w from byte `start` on: for a protected part, for a protected body with a value put in, for a raised value, for an
--- unrolled recursion. A destructor at record `at` has an operand, and so a record after its own.
-pub record PartRoom (s : Bytes) (at x : ℕ) (w : Bytes) (start : ℕ) : Type 0 where
+-- Room for a protected part, for a protected body with a value put in, for a raised value, for an unrolled recursion. A destructor
+-- at record `at` has an operand, and so a record after its own.
+pub record PartRoom (g s : Bytes) (at x : ℕ) (out : Writer) : Type 0 where
   pub part : Term
   pub stands : At s x part
   pub operand : at + 1 < record_count s
-  pub fits : start + script_width * (1 + size part) ≤ length w
+  pub room : Room (encode (protect (protection g s at) part)) out
 
-pub record BodyRoom (s : Bytes) (at x y : ℕ) (w : Bytes) (start : ℕ) : Type 0 where
+pub record BodyRoom (g s : Bytes) (at x y : ℕ) (out : Writer) : Type 0 where
   pub body : Term
   pub value : Term
   pub at_body : At s x body
   pub at_value : At s y value
   pub shallow : depth body ≤ depth_limit
   pub operand : at + 1 < record_count s
-  pub fits : start + script_width * (1 + size (subst 0 value body)) ≤ length w
+  pub room : Room (encode (protect (protection g s at) (subst 0 value body))) out
 
-pub record RaisedRoom (s : Bytes) (at : ℕ) (w : Bytes) (start : ℕ) : Type 0 where
+pub record RaisedRoom (g s : Bytes) (at : ℕ) (out : Writer) : Type 0 where
   pub value : Term
   pub stands : At s (at + 1) value
   pub is_one : So (is_value value)
-  pub fits : start + script_width * size value ≤ length w
+  pub room : Room (encode (raise_value (properties_of g) value (influence_at s at))) out
 
-pub record UnrolledRoom (t s : Bytes) (at : ℕ) (w : Bytes) (start : ℕ) : Type 0 where
+pub record UnrolledRoom (t s : Bytes) (at : ℕ) (out : Writer) : Type 0 where
   pub label : Reader
   pub type : ℕ
   pub body : Term
@@ -121,11 +123,11 @@ pub record UnrolledRoom (t s : Bytes) (at : ℕ) (w : Bytes) (start : ℕ) : Typ
   pub table : type_count t ≤ table_limit
   -- no group is joined, so the groups table doesn't matter
   pub groups : Bytes
-  pub fits : start + script_width * size (subst 0 (unrolled (properties_of groups) label type (top (type_at t type)) body) body) ≤ length w
+  pub room : Room (encode (subst 0 (unrolled (properties_of groups) label type (top (type_at t type)) body) body)) out
 
--- a redex with its plan stands at record `at`, and w has room for its contractum from byte `start` on
-pub record Fit (g t s : Bytes) (at : ℕ) (p : Plan) (w : Bytes) (start : ℕ) : Type 0 where
+-- a redex with its plan stands at record `at`, and there is room for its contractum
+pub record Fit (g t s : Bytes) (at : ℕ) (p : Plan) (out : Writer) : Type 0 where
   pub ready : Ready s at p
   pub contracts : fate (properties_of g) (type_at t) ready.tree ≡ goes
   pub table : type_count t ≤ table_limit
-  pub fits : start + script_width * size (contractum (properties_of g) (type_at t) ready.tree) ≤ length w
+  pub room : Room (encode (contractum (properties_of g) (type_at t) ready.tree)) out

@@ -2,26 +2,24 @@
 
 #![tactic(auto)]
 
-ghost use Rattle.std.specs.Prelude.{◌≡◌, ℕ, ◌+◌, ◌-◌, ◌≤◌, ◌<◌, length};
-ghost use Rattle.calculus.specs.Security.{Indirect, Security};
+ghost use Rattle.std.specs.Prelude.{◌≡◌, ℕ, ◌+◌, ◌^◌, ◌<◌};
+ghost use Rattle.calculus.specs.Security.{Security};
 ghost use Rattle.calculus.specs.Types.{Ty, top};
-ghost use Rattle.calculus.specs.Terms.{protect, mu, subst, raise_value};
+ghost use Rattle.calculus.specs.Terms.{Term, protect, mu, subst, raise_value};
 ghost use Rattle.calculus.specs.Reduction.{unrolled};
-ghost use Rattle.rules.specs.Answer.{Bytes};
-ghost use Rattle.rules.specs.Limits.{script_width};
 ghost use Rattle.rules.specs.Groups.{properties_of};
 ghost use Rattle.rules.specs.Types.{type_at};
-ghost use Rattle.rules.specs.Script.{records as record_count, object_record, encode};
+ghost use Rattle.rules.specs.Script.{records as record_count, encode};
 ghost use Rattle.lattice.specs.Said.{said_property};
-ghost use Rattle.records.specs.Numbers.{kind_number};
 ghost use Rattle.records.specs.Labels.{influence_at};
-ghost use Rattle.redex.specs.Fates.{contractum};
-ghost use Rattle.memory.specs.Splice.{splice};
-ghost use Rattle.substitution.specs.Substituted.{Within};
+ghost use Rattle.records.specs.Place.{At, Here};
+ghost use Rattle.redex.specs.Fates.{only_reader, contractum};
+ghost use Rattle.memory.specs.Written.{Room, Written};
 ghost use Rattle.contraction.specs.Plans.{Fires, Branches, Planned, Ready, Measures, Both, Recursive, PartRoom, BodyRoom, RaisedRoom};
 ghost use Rattle.contraction.specs.Plans.{protection, protect_record, UnrolledRoom, Fit};
 
-use lattice::{Creator, Property, Reader};
+use lattice::{Creator, Indirect, IndirectCreator, Property, Reader};
+use memory::Writer;
 use records::{Kind, SCRIPT_WIDTH};
 use substitution::Size;
 
@@ -71,30 +69,24 @@ pub fn plan_of(script: &[u8], at: usize) -> Plan
     }
 }
 
-// A protected part, counted.
-fn measure_part(script: &[u8], part: usize) -> Size
-    requires { Within script.now part }
-    ensures { (q : Within script.now part) (m : Indirect) → Measures (protect m q.tree) result }
+// What a protect around a term of this size measures.
+fn protected(e: Size) -> Size
+    requires { (e.records + 1 < 2 ^ 64) × (e.depth + 1 < 2 ^ 64) }
+    ensures { (result.records ≡ e.records + 1) × (result.depth ≡ e.depth + 1) }
 {
-    let e = substitution::extent_at(script, part).size;
     Size {
         records: e.records + 1,
         depth: e.depth + 1,
     }
 }
 
-// A protected body with a value put in, counted.
+// A body with a value put in, counted.
 fn measure_body(script: &[u8], body: usize, value: usize) -> Size
     requires { Both script.now body value }
-    ensures { (q : Both script.now body value) (m : Indirect)
-        → Measures (protect m (subst 0 q.value q.body)) result }
+    ensures { (q : Both script.now body value) → Measures (subst 0 q.value q.body) result }
 {
     let v = substitution::extent_at(script, value).size;
-    let e = substitution::measure(script, body, 0, v).size;
-    Size {
-        records: e.records + 1,
-        depth: e.depth + 1,
-    }
+    substitution::measure(script, body, 0, v).size
 }
 
 // An unrolled recursion, counted: what stands for its variable is the recursion, applied to a variable in a function.
@@ -118,38 +110,38 @@ pub fn measure(script: &[u8], at: usize, plan: Plan) -> Size
         → Measures (contractum S tab q.tree) result }
 {
     match plan {
-        Plan::Part(part) => measure_part(script, part),
-        Plan::Body { body, value } => measure_body(script, body, value),
+        Plan::Part(part) => protected(substitution::extent_at(script, part).size),
+        Plan::Body { body, value } => protected(measure_body(script, body, value)),
         Plan::Raised => substitution::extent_at(script, at + 1).size,
         Plan::Unrolled => measure_unrolled(script, at),
     }
 }
 
-// One record, over `written` from byte `start` on.
-fn write_record(kind: Kind, property: Property, number: u16, written: &mut [u8], start: usize)
-    requires { start + script_width ≤ length written.old }
-    ensures { written.new ≡ splice start (object_record (kind_number kind) (said_property property) number)
-        written.old }
+// The bytes of the term at record i.
+fn term_bytes(script: &[u8], i: usize) -> &[u8]
+    requires { Here script.now i }
+    ensures { (e : Term) → At script.now i e → result.now ≡ encode e }
 {
-    let [low, high] = number.to_le_bytes();
-    let record = [
-        kind.number(),
-        property.r.0,
-        property.ir.0,
-        0,
-        low,
-        high,
-        property.c.0,
-        property.ic.0,
-    ];
-    memory::copy_part(&record, 0, SCRIPT_WIDTH, written, start);
+    let end = records::end_of(script, i);
+    &script[SCRIPT_WIDTH * i..SCRIPT_WIDTH * end]
+}
+
+// The groups of a record that names a reader only.
+fn only_reader(r: Reader) -> Property
+    ensures { said_property result ≡ only_reader r.0 }
+{
+    Property {
+        r,
+        ir: Indirect(0),
+        c: Creator(0),
+        ic: IndirectCreator(0),
+    }
 }
 
 // The protect that a step leaves: what the destructor at record `at` leaves on its result when it reads the object after it.
-fn write_protect(groups: &[u8], script: &[u8], at: usize, written: &mut [u8], start: usize)
-    requires { (at + 1 < record_count script.now) × (start + script_width ≤ length written.old) }
-    ensures { written.new
-        ≡ splice start (protect_record (protection groups.now script.now at)) written.old }
+fn write_protect(groups: &[u8], script: &[u8], at: usize, out: &mut Writer)
+    requires { (at + 1 < record_count script.now) × Room (protect_record (protection groups.now script.now at)) out.old }
+    ensures { Written (protect_record (protection groups.now script.now at)) out.old out.new }
 {
     let read = records::property(script, at + 1);
     let left = read.influence(groups, records::reader(script, at));
@@ -159,160 +151,99 @@ fn write_protect(groups: &[u8], script: &[u8], at: usize, written: &mut [u8], st
         c: Creator(0),
         ic: left.ic,
     };
-    write_record(Kind::Protect, property, 0, written, start);
+    out.put(&records::record(Kind::Protect, property, 0));
 }
 
 // A protected part of what the destructor at record `at` takes apart.
-fn write_part(
-    groups: &[u8],
-    script: &[u8],
-    at: usize,
-    part: usize,
-    written: &mut [u8],
-    start: usize,
-)
-    requires { PartRoom script.now at part written.old start }
-    ensures { (q : PartRoom script.now at part written.old start)
-        → written.new
-        ≡ splice start (encode (protect (protection groups.now script.now at) q.part))
-        written.old }
+fn write_part(groups: &[u8], script: &[u8], at: usize, part: usize, out: &mut Writer)
+    requires { PartRoom groups.now script.now at part out.old }
+    ensures { (q : PartRoom groups.now script.now at part out.old)
+        → Written (encode (protect (protection groups.now script.now at) q.part)) out.old out.new }
 {
-    let end = records::end_of(script, part);
-    write_protect(groups, script, at, written, start);
-    memory::copy_part(
-        script,
-        SCRIPT_WIDTH * part,
-        SCRIPT_WIDTH * (end - part),
-        written,
-        start + SCRIPT_WIDTH,
-    );
+    write_protect(groups, script, at, out);
+    out.put(term_bytes(script, part));
 }
 
 // A protected body with a value put in. The value is put in as it stands: it isn't raised.
-fn write_body(
-    groups: &[u8],
-    script: &[u8],
-    at: usize,
-    body: usize,
-    value: usize,
-    written: &mut [u8],
-    start: usize,
-)
-    requires { BodyRoom script.now at body value written.old start }
-    ensures { (q : BodyRoom script.now at body value written.old start)
-        → written.new
-        ≡ splice start
+fn write_body(groups: &[u8], script: &[u8], at: usize, body: usize, value: usize, out: &mut Writer)
+    requires { BodyRoom groups.now script.now at body value out.old }
+    ensures { (q : BodyRoom groups.now script.now at body value out.old)
+        → Written
         (encode (protect (protection groups.now script.now at) (subst 0 q.value q.body)))
-        written.old }
+        out.old out.new }
 {
-    let end = records::end_of(script, value);
-    write_protect(groups, script, at, written, start);
-    let from = SCRIPT_WIDTH * value;
-    let to = SCRIPT_WIDTH * end;
-    substitution::write(
-        script,
-        body,
-        &[],
-        &script[from..to],
-        &[],
-        0,
-        written,
-        start + SCRIPT_WIDTH,
-    );
+    write_protect(groups, script, at, out);
+    let operand = term_bytes(script, value);
+    substitution::write(script, body, &[], operand, &[], 0, out);
 }
 
 // The value at record `at` + 1, raised by the protect at record `at`: the groups of its own record, and none deeper.
-fn write_raised(groups: &[u8], script: &[u8], at: usize, written: &mut [u8], start: usize)
-    requires { RaisedRoom script.now at written.old start }
-    ensures { (q : RaisedRoom script.now at written.old start)
-        → written.new
-        ≡ splice start (encode (raise_value (properties_of groups.now) q.value (influence_at script.now at)))
-        written.old }
+fn write_raised(groups: &[u8], script: &[u8], at: usize, out: &mut Writer)
+    requires { RaisedRoom groups.now script.now at out.old }
+    ensures { (q : RaisedRoom groups.now script.now at out.old)
+        → Written
+        (encode (raise_value (properties_of groups.now) q.value (influence_at script.now at)))
+        out.old out.new }
 {
     let x = at + 1;
-    let end = records::end_of(script, x);
     let by = records::influence(script, at);
     let raised = records::property(script, x).raised(groups, by);
-    write_record(
-        records::kind_of(script, x),
-        raised,
-        records::number(script, x),
-        written,
-        start,
-    );
-    let from = SCRIPT_WIDTH * x + SCRIPT_WIDTH;
-    let to = SCRIPT_WIDTH * end;
-    memory::copy_part(script, from, to - from, written, start + SCRIPT_WIDTH);
+    let kind = records::kind_of(script, x);
+    let number = records::number(script, x);
+    let value = term_bytes(script, x);
+    out.put(&records::record(kind, raised, number));
+    out.put(&value[SCRIPT_WIDTH..]);
 }
 
 // The body of a recursion, with the recursion put in for its variable: (λx. (μf. e) x), with the groups of the recursion's type,
 // its parameter type the next record of the table, and the application made as the group that the recursion's record names.
-fn write_unrolled(types: &[u8], script: &[u8], at: usize, written: &mut [u8], start: usize)
-    requires { UnrolledRoom types.now script.now at written.old start }
-    ensures { (q : UnrolledRoom types.now script.now at written.old start)
-        (g : Bytes) → written.new
-        ≡ splice start (encode
-        (subst 0 (unrolled (properties_of g) q.label q.type (top (type_at types.now q.type)) q.body) q.body))
-        written.old }
+fn write_unrolled(types: &[u8], script: &[u8], at: usize, out: &mut Writer)
+    requires { UnrolledRoom types.now script.now at out.old }
+    ensures { (q : UnrolledRoom types.now script.now at out.old)
+        → Written
+        (encode
+        (subst 0 (unrolled (properties_of q.groups) q.label q.type (top (type_at types.now q.type)) q.body) q.body))
+        out.old out.new }
 {
-    let end = records::end_of(script, at);
     let named = records::number(script, at);
     let caller = records::reader(script, at);
     let function = types::property_at(types, usize::from(named));
-    let [low, high] = (named + 1).to_le_bytes();
     let front = [
-        Kind::Function.number(),
-        function.r.0,
-        function.ir.0,
-        0,
-        low,
-        high,
-        function.c.0,
-        function.ic.0,
-        Kind::Application.number(),
-        caller.0,
-        0,
-        0,
-        0,
-        0,
-        0,
-        0,
+        records::record(Kind::Function, function, named + 1),
+        records::record(Kind::Application, only_reader(caller), 0),
     ];
-    let back = [Kind::Variable.number(), 0, 0, 0, 0, 0, 0, 0];
-    let from = SCRIPT_WIDTH * at;
-    let to = SCRIPT_WIDTH * end;
+    let recursion = term_bytes(script, at);
+    let back = records::record(Kind::Variable, only_reader(Reader(0)), 0);
     substitution::write(
         script,
         at + 1,
-        &front,
-        &script[from..to],
+        front.as_flattened(),
+        recursion,
         &back,
         0,
-        written,
-        start,
+        out,
     );
 }
 
-// The contractum, over `written` from byte `start` on.
+// The contractum.
 pub fn write_contractum(
     groups: &[u8],
     types: &[u8],
     script: &[u8],
     at: usize,
     plan: Plan,
-    written: &mut [u8],
-    start: usize,
+    out: &mut Writer,
 )
-    requires { Fit groups.now types.now script.now at plan written.old start }
-    ensures { (q : Fit groups.now types.now script.now at plan written.old
-        start) → written.new
-        ≡ splice start (encode (contractum (properties_of groups.now) (type_at types.now) q.ready.tree))
-        written.old }
+    requires { Fit groups.now types.now script.now at plan out.old }
+    ensures { (q : Fit groups.now types.now script.now at plan out.old)
+        → Written
+        (encode (contractum (properties_of groups.now) (type_at types.now) q.ready.tree))
+        out.old out.new }
 {
     match plan {
-        Plan::Part(part) => write_part(groups, script, at, part, written, start),
-        Plan::Body { body, value } => write_body(groups, script, at, body, value, written, start),
-        Plan::Raised => write_raised(groups, script, at, written, start),
-        Plan::Unrolled => write_unrolled(types, script, at, written, start),
+        Plan::Part(part) => write_part(groups, script, at, part, out),
+        Plan::Body { body, value } => write_body(groups, script, at, body, value, out),
+        Plan::Raised => write_raised(groups, script, at, out),
+        Plan::Unrolled => write_unrolled(types, script, at, out),
     }
 }

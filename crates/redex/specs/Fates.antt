@@ -8,7 +8,7 @@ use Rattle.calculus.specs.Stuck.{built_by}
 use Rattle.records.specs.Operands.{first_operand, second_operand}
 
 -- the groups of a record that names a reader only: "unnamed fields are 0"
-abbrev only_reader : Reader → Property
+abbrev pub only_reader : Reader → Property
 only_reader w = record { r = w; ir = 0; c = 0; ic = 0 }
 
 -- the groups of a term's own record

@@ -1,4 +1,3 @@
-pub mod Pieces
 pub mod Nodes
 pub mod Reading
 pub mod Counting

@@ -1,12 +1,12 @@
 -- A closed value put for a variable of a term that stands in a script: what counting and writing it are given, and what they tell.
-use Rattle.std.specs.Prelude.{◌≡◌, ◌++◌, ℕ, ◌+◌, ◌*◌, ◌≤◌, length}
+use Rattle.std.specs.Prelude.{◌≡◌, ◌++◌, ℕ, ◌+◌, ◌*◌, ◌≤◌, take, drop}
 use Rattle.calculus.specs.Terms.{Term, subst}
 use Rattle.rules.specs.Answer.{Bytes}
 use Rattle.rules.specs.Limits.{script_width, script_limit, depth_limit}
 use Rattle.rules.specs.Script.{encode, size, depth}
 use Rattle.records.specs.Place.{At}
-use Rattle.memory.specs.Splice.{splice}
-use Rattle.substitution.specs.declared.Wrote.{Wrote}
+use Rattle.memory.specs.Written.{Room, Written}
+use Rattle.memory.specs.declared.Writer.{Writer}
 use Rattle.substitution.specs.declared.Extent.{Extent}
 use Rattle.substitution.specs.declared.Size.{Size}
 
@@ -45,17 +45,20 @@ pub record Extends (i : ℕ) (e : Term) (x : Extent) : Type 0 where
   pub records : x.size.records ≡ size e
   pub deep : x.size.depth ≡ depth e
 
--- the term at record i and a value in three pieces, and room in w from byte `start` on for the one in the other
-pub record Room (s : Bytes) (i : ℕ) (front mid back : Bytes) (n : ℕ) (w : Bytes) (start : ℕ) : Type 0 where
+-- the bytes of record i
+abbrev pub record_at : Bytes → ℕ → Bytes
+record_at s i = take script_width (drop (script_width * i) s)
+
+-- the term at record i, a value in three pieces, and room for the term with the value for its variable n
+pub record Substitution (s : Bytes) (i : ℕ) (front mid back : Bytes) (n : ℕ) (out : Writer) : Type 0 where
   pub tree : Term
   pub at : At s i tree
   pub value : Term
   pub pieces : front ++ (mid ++ back) ≡ encode value
   pub shallow : n + depth tree ≤ depth_limit
-  pub fits : start + script_width * size (subst n value tree) ≤ length w
+  pub room : Room (encode (subst n value tree)) out
 
--- the record after e, the byte after what was written, and the buffer: e with v for its variable n
-pub record Written (i n : ℕ) (e v : Term) (start : ℕ) (w : Bytes) (x : Wrote) (w' : Bytes) : Type 0 where
-  pub next : x.next ≡ i + size e
-  pub end : x.end ≡ start + script_width * size (subst n v e)
-  pub wrote : w' ≡ splice start (encode (subst n v e)) w
+-- the record after e, and e with v for its variable n is written
+pub record Substituted (i n : ℕ) (e v : Term) (out : Writer) (next : ℕ) (out' : Writer) : Type 0 where
+  pub next_is : next ≡ i + size e
+  pub wrote : Written (encode (subst n v e)) out out'

@@ -7,9 +7,10 @@ ghost use Rattle.calculus.specs.Terms.{Term};
 ghost use Rattle.rules.specs.Script.{records as record_count, kind, number, encode, size, depth};
 ghost use Rattle.records.specs.Kinds as kinds;
 ghost use Rattle.records.specs.Place.{At};
-ghost use Rattle.memory.specs.Splice.{splice};
-ghost use Rattle.substitution.specs.Substituted.{Sizes, Measured, Within, Extends, Room, Written};
+ghost use Rattle.memory.specs.Written.{Room, Written};
+ghost use Rattle.substitution.specs.Substituted.{Sizes, Measured, Within, Extends, record_at, Substitution, Substituted};
 
+use memory::Writer;
 use records::{Kind, SCRIPT_WIDTH};
 
 // The records and the depth of a term.
@@ -24,13 +25,6 @@ pub struct Size {
 pub struct Extent {
     pub next: usize,
     pub size: Size,
-}
-
-// The record after a term, and the byte after what was written for it.
-#[derive(Clone, Copy, Debug, PartialEq, Eq)]
-pub struct Wrote {
-    pub next: usize,
-    pub end: usize,
 }
 
 // Is the variable at record i variable n?
@@ -98,18 +92,13 @@ pub fn extent_at(script: &[u8], i: usize) -> Extent
     measure(script, i, 0, one)
 }
 
-// Three pieces one after the other, over `to` from `at` on.
-fn write_three(front: &[u8], mid: &[u8], back: &[u8], to: &mut [u8], at: usize) -> usize
-    requires { at + length (front.now ++ (mid.now ++ back.now)) ≤ length to.old }
-    ensures { (result ≡ at + length (front.now ++ (mid.now ++ back.now)))
-        × (to.new ≡ splice at (front.now ++ (mid.now ++ back.now)) to.old) }
+// Record i as it stands.
+fn write_record(script: &[u8], i: usize, out: &mut Writer)
+    requires { (i < record_count script.now) × Room (record_at script.now i) out.old }
+    ensures { Written (record_at script.now i) out.old out.new }
 {
-    memory::copy_part(front, 0, front.len(), to, at);
-    let a = at + front.len();
-    memory::copy_part(mid, 0, mid.len(), to, a);
-    let b = a + mid.len();
-    memory::copy_part(back, 0, back.len(), to, b);
-    b + back.len()
+    let start = SCRIPT_WIDTH * i;
+    out.put(&script[start..start + SCRIPT_WIDTH]);
 }
 
 // A variable: the value where it is variable n, else the record itself.
@@ -120,26 +109,25 @@ fn write_variable(
     mid: &[u8],
     back: &[u8],
     n: u16,
-    to: &mut [u8],
-    at: usize,
-) -> Wrote
-    requires { Room script.now i front.now mid.now back.now n to.old at × (kind script.now i ≡ kinds.variable) }
+    out: &mut Writer,
+) -> usize
+    requires { Substitution script.now i front.now mid.now back.now n out.old × (kind script.now i ≡ kinds.variable) }
     ensures { (e v : Term) → At script.now i e
         → front.now ++ (mid.now ++ back.now) ≡ encode v
-        → Written i n e v at to.old result to.new }
+        → Substituted i n e v out.old result out.new }
 {
-    let next = i + 1;
     if is_variable(script, i, n) {
-        let end = write_three(front, mid, back, to, at);
-        return Wrote { next, end };
+        out.put(front);
+        out.put(mid);
+        out.put(back);
+    } else {
+        write_record(script, i, out);
     }
-    memory::copy_part(script, SCRIPT_WIDTH * i, SCRIPT_WIDTH, to, at);
-    let end = at + SCRIPT_WIDTH;
-    Wrote { next, end }
+    i + 1
 }
 
-// The term at record i with the value for its variable n, over `to` from `at` on. The value comes in three pieces, since an
-// unrolled function stands nowhere as a whole: only the recursion in it does.
+// The term at record i with the value for its variable n; the record after the term is returned. The value comes in three pieces,
+// since an unrolled function stands nowhere as a whole: only the recursion in it does.
 pub fn write(
     script: &[u8],
     i: usize,
@@ -147,26 +135,22 @@ pub fn write(
     mid: &[u8],
     back: &[u8],
     n: u16,
-    to: &mut [u8],
-    at: usize,
-) -> Wrote
-    requires { Room script.now i front.now mid.now back.now n to.old at }
+    out: &mut Writer,
+) -> usize
+    requires { Substitution script.now i front.now mid.now back.now n out.old }
     ensures { (e v : Term) → At script.now i e
         → front.now ++ (mid.now ++ back.now) ≡ encode v
-        → Written i n e v at to.old result to.new }
+        → Substituted i n e v out.old result out.new }
 {
     let kind = records::kind_of(script, i);
     if kind == Kind::Variable {
-        return write_variable(script, i, front, mid, back, n, to, at);
+        return write_variable(script, i, front, mid, back, n, out);
     }
-    memory::copy_part(script, SCRIPT_WIDTH * i, SCRIPT_WIDTH, to, at);
+    write_record(script, i, out);
     let mut next = i + 1;
-    let mut end = at + SCRIPT_WIDTH;
     for j in 0..kind.arity() {
         let level = n + u16::from(kind.binders(j));
-        let x = write(script, next, front, mid, back, level, to, end);
-        next = x.next;
-        end = x.end;
+        next = write(script, next, front, mid, back, level, out);
     }
-    Wrote { next, end }
+    next
 }

@@ -1,6 +1,6 @@
 use Rattle.std.proofs.Common.{◌≡◌, sym, ◌∙◌, arith, ℕ, ◌+◌, ◌≤◌}
 use Rattle.std.proofs.Common.{subst as transport}
-use Rattle.calculus.specs.Terms.{Term}
+use Rattle.calculus.specs.Terms.{Term, subst}
 use Rattle.rules.specs.Answer.{Bytes}
 use Rattle.rules.specs.Limits.{script_limit, depth_limit}
 use Rattle.rules.specs.Script.{size, depth}
@@ -12,7 +12,8 @@ use Rattle.contraction.specs.declared.Plan.{Plan}
 use Rattle.contraction.specs.declared.Plan.TheVariants.{Part, Body, Raised, Unrolled}
 use Rattle.contraction.specs.Plans.{Planned, Ready, Measures, Both, Recursive}
 use Rattle.substitution.specs.Substituted.{Within}
-use Rattle.contraction.proofs.Plans.{part_plan, body_plan, LiftPlan, lift_plan, RollPlan, roll_plan, protection_of, raise_size, counted}
+use Rattle.contraction.proofs.Plans.{part_plan, body_plan, LiftPlan, lift_plan, RollPlan, roll_plan, protection_of, raise_size, contractum_limit, few, counted, protect_counted}
+use Rattle.substitution.proofs.Nodes.{depth_size}
 use Rattle.contraction.proofs.measure.Goals as goal
 
 -- what each plan says of the term, and what its measure is asked for
@@ -61,32 +62,53 @@ module _ {s : Bytes} {at : ℕ} {plan : Plan} (q : Ready s at plan) where
         shallow = transport (λ (e : Term). depth e ≤ depth_limit) p.is q.shallow;
       }
 
-pub measure_part-requires : goal.measure_part-requires
-measure_part-requires c = part_ready c.requires c.in-Part.is
+  -- what is counted of a body with a value put in is few
+  abbrev substituted_few : {x y : ℕ} (h : plan ≡ Body x y) → size (subst 0 (body_ready h).value (body_ready h).body) ≤ contractum_limit
+  substituted_few h = let b = body_ready h in few b.value b.body (omega (arith, b.small)) (omega (arith, b.small))
+
+pub extent_at-requires : goal.extent_at-requires
+extent_at-requires c = part_ready c.requires c.in-Part.is
+
+pub protected-requires : goal.protected-requires
+protected-requires c =
+    let q = part_ready c.requires c.in-Part.is in
+    let m = c.extent_at.ensures q.tree q.at in
+    (omega (arith, m.records, q.small), omega (arith, m.deep, q.shallow))
 
 pub measure_body-requires : goal.measure_body-requires
 measure_body-requires c = body_ready c.requires c.in-Body.is
 
+pub protected-requires-in-Body : goal.protected-requires-in-Body
+protected-requires-in-Body c =
+    let q = body_ready c.requires c.in-Body.is in
+    let m = c.measure_body.ensures q in
+    let l = substituted_few c.requires c.in-Body.is in
+    (omega (arith, m.records, l), omega (arith, m.deep, l, depth_size (subst 0 q.value q.body)))
+
 pub overflow_add-at : goal.overflow_add-at
 overflow_add-at c = omega (arith, there _ _ _ (lifted c.requires c.in-Raised.is).stands)
 
-pub extent_at-requires : goal.extent_at-requires
-extent_at-requires c = lift_ready c.requires c.in-Raised.is
+pub extent_at-requires-in-Raised : goal.extent_at-requires-in-Raised
+extent_at-requires-in-Raised c = lift_ready c.requires c.in-Raised.is
+
+pub measure_unrolled-requires : goal.measure_unrolled-requires
+measure_unrolled-requires c = roll_ready c.requires c.in-Unrolled.is
 
 pub returns-in-Part : goal.returns-in-Part
 returns-in-Part c q S tab =
-    counted ((part_plan (planned q c.in-Part.is)).is S tab)
-    (c.measure_part.ensures (part_ready q c.in-Part.is) (protection_of S q.tree))
+    let p = part_ready q c.in-Part.is in
+    let x = c.extent_at.ensures p.tree p.at in
+    counted ((part_plan (planned q c.in-Part.is)).is S tab) (protect_counted (protection_of S q.tree) (record { records = x.records; deep = x.deep }) c.protected.ensures)
 
 pub returns-in-Body : goal.returns-in-Body
 returns-in-Body c q S tab =
     counted ((body_plan (planned q c.in-Body.is)).is S tab)
-    (c.measure_body.ensures (body_ready q c.in-Body.is) (protection_of S q.tree))
+    (protect_counted (protection_of S q.tree) (c.measure_body.ensures (body_ready q c.in-Body.is)) c.protected-in-Body.ensures)
 
 pub returns-in-Raised : goal.returns-in-Raised
 returns-in-Raised c q S tab =
     let p = lifted q c.in-Raised.is in
-    let m = c.extent_at.ensures p.value p.stands in
+    let m = c.extent_at-in-Raised.ensures p.value p.stands in
     let z = raise_size S p.value (influence_of q.tree) in
     counted (p.is S tab) (record { records = m.records ∙ sym z.0; deep = m.deep ∙ sym z.1 })
 

@@ -1,5 +1,6 @@
-use Rattle.contraction.proofs.Rooms.{part_room, part_written, body_room, body_written}
-use Rattle.contraction.proofs.Rooms.{raised_room, raised_written, unrolled_room, unrolled_written}
+use Rattle.contraction.proofs.Plans.{renamed}
+use Rattle.contraction.proofs.Rooms.{part_is, part_room, body_is, body_room}
+use Rattle.contraction.proofs.Rooms.{raised_is, raised_room, unrolled_is, unrolled_room}
 use Rattle.contraction.proofs.write_contractum.Goals as goal
 
 pub write_part-requires : goal.write_part-requires
@@ -15,21 +16,13 @@ pub write_unrolled-requires : goal.write_unrolled-requires
 write_unrolled-requires c = unrolled_room c.requires c.in-Unrolled.is
 
 pub returns-in-Part : goal.returns-in-Part
-returns-in-Part c q =
-    let h = c.in-Part.is in
-    part_written q h _ (c.write_part.ensures (part_room q h))
+returns-in-Part c q = renamed (part_is q c.in-Part.is) (c.write_part.ensures (part_room q c.in-Part.is))
 
 pub returns-in-Body : goal.returns-in-Body
-returns-in-Body c q =
-    let h = c.in-Body.is in
-    body_written q h _ (c.write_body.ensures (body_room q h))
+returns-in-Body c q = renamed (body_is q c.in-Body.is) (c.write_body.ensures (body_room q c.in-Body.is))
 
 pub returns-in-Raised : goal.returns-in-Raised
-returns-in-Raised c q =
-    let h = c.in-Raised.is in
-    raised_written q h _ (c.write_raised.ensures (raised_room q h))
+returns-in-Raised c q = renamed (raised_is q c.in-Raised.is) (c.write_raised.ensures (raised_room q c.in-Raised.is))
 
 pub returns-in-Unrolled : goal.returns-in-Unrolled
-returns-in-Unrolled c q =
-    let h = c.in-Unrolled.is in
-    unrolled_written q h _ (c.write_unrolled.ensures (unrolled_room q h) c.args.groups.now)
+returns-in-Unrolled c q = renamed (unrolled_is q c.in-Unrolled.is) (c.write_unrolled.ensures (unrolled_room q c.in-Unrolled.is))

@@ -1,7 +1,6 @@
 -- The loop has written the first j operands. A call's record falls to the right in the script.
-use Rattle.std.proofs.Common.{◌≡◌, ◌+◌, ◌-◌, ◌++◌, length}
+use Rattle.std.proofs.Common.{◌≡◌, ◌-◌, ◌++◌, length}
 use Rattle.calculus.specs.Terms.{Term}
-use Rattle.rules.specs.Limits.{script_width}
 use Rattle.rules.specs.Script.{encode}
 use Rattle.records.specs.Place.{At}
 use Rattle.substitution.proofs.Writing.{Copied}
@@ -13,4 +12,4 @@ decreases-write l = length l.script.now - l.i
 abbrev pub invariant-loop-j : goal.invariant-loop-j
 invariant-loop-j l =
     (e v : Term) → At l.script l.i e → l.front ++ (l.mid ++ l.back) ≡ encode v
-    → Copied l.i l.n e v (l.at + script_width) l.initial.to l.j l.next l.end l.to
+    → Copied l.i l.n e v l.initial.out l.j l.next l.out
