@@ -1,5 +1,5 @@
 -- What a list that starts with a type has at its front.
-use Rattle.std.proofs.Common.{◌≡◌, refl, sym, ap, ◌∙◌, subst, ◌++◌, ℕ, ◌+◌, ◌-◌, ◌*◌, ◌≤◌, arith, length, take, drop, length-append, length-drop, take_at}
+use Rattle.std.proofs.Common.{◌≡◌, refl, sym, ap, ◌∙◌, subst, ◌++◌, ℕ, ◌+◌, ◌-◌, ◌*◌, ◌≤◌, arith, length, take, drop, length-append, length-drop, length-take-le, take_at}
 use Rattle.calculus.specs.Security.{Indirect, Security}
 use Rattle.calculus.specs.Types.{Ty, one, node, size_t, raise_t}
 use Rattle.calculus.specs.Terms.{Side, first, second}
@@ -8,13 +8,8 @@ use Rattle.rules.specs.Answer.{Bytes}
 use Rattle.rules.specs.Types.{encode_type}
 use Rattle.rules.specs.Typing.{left, right}
 use Rattle.types.specs.Held.{Held, kind_of, left_of, right_of}
-use Rattle.types.proofs.Parts.{type_length, type_positive, left_held, right_held, same_type}
+use Rattle.types.proofs.Parts.{type_length, type_positive, left_held, right_held, sides_size}
 use Rattle.inference.specs.Stages.{side_of}
-
-pub sides_size : (t : Ty) → (kind_of t ≡ 0 → ⊥) → size_t t ≡ 1 + (size_t (left t) + size_t (right t))
-unfolding size_t
-sides_size (one k) n = absurd (n refl)
-sides_size (node c k a b) n = refl
 
 -- the sides in the rules' words
 pub left_is : (t : Ty) → (kind_of t ≡ 0 → ⊥) → left t ≡ left_of t
@@ -24,6 +19,9 @@ left_is (node c k a b) n = refl
 pub right_is : (t : Ty) → (kind_of t ≡ 0 → ⊥) → right t ≡ right_of t
 right_is (one k) n = absurd (n refl)
 right_is (node c k a b) n = refl
+
+pub rule_sides_size : (t : Ty) → (kind_of t ≡ 0 → ⊥) → size_t t ≡ 1 + (size_t (left t) + size_t (right t))
+rule_sides_size t n = rw (left_is t n, right_is t n) (sides_size t n)
 
 module _ {l : Bytes} {t : Ty} (h : Held l t) where
   pub held_long : type_width * size_t t ≤ length l
@@ -35,6 +33,9 @@ module _ {l : Bytes} {t : Ty} (h : Held l t) where
   -- as the code takes it, with the count of its records
   pub held_bytes : (n : ℕ) → n ≡ size_t t → take (type_width * n) l ≡ encode_type t
   held_bytes n e = ap (λ j. take (type_width * j) l) e ∙ held_take
+
+  pub taken_length : (n : ℕ) → n ≡ size_t t → length (take (type_width * n) l) ≡ type_width * n
+  taken_length n e = length-take-le (type_width * n) l (omega (arith, held_long))
 
 -- a part that starts with a type
 pub held_within : {t : Ty} (a : ℕ) (l : Bytes) → Held (drop a l) t → a + type_width * size_t t ≤ length l
@@ -49,8 +50,8 @@ module _ {l : Bytes} (t : Ty) (n : kind_of t ≡ 0 → ⊥) (h : Held l t) where
   held_right m e = subst (λ u. Held (drop (type_width + type_width * m) l) u) (sym (right_is t n)) (right_held t m n e h)
 
 pub side_small : (d : Side) (t : Ty) → (kind_of t ≡ 0 → ⊥) → size_t (side_of d t) ≤ size_t t
-side_small first t n = omega (arith, sides_size t n)
-side_small second t n = omega (arith, sides_size t n)
+side_small first t n = omega (arith, rule_sides_size t n)
+side_small second t n = omega (arith, rule_sides_size t n)
 
 -- the sides' bytes
 pub sides_bytes : (w : Bytes) (t : Ty) → Held w t → (kind_of t ≡ 0 → ⊥) → take (type_width * (size_t t - 1)) (drop type_width w) ≡ encode_type (left t) ++ encode_type (right t)
@@ -65,7 +66,3 @@ pub size_raised : (S : Security) (t : Ty) (m : Indirect) → size_t (raise_t S t
 unfolding size_t
 size_raised S (one k) m = refl
 size_raised S (node c k a b) m = refl
-
--- two types in front of one list
-pub two_of : {l : Bytes} {u t : Ty} → Held l u → (kind_of u ≡ 0 → ⊥) → Held l t → kind_of t ≡ 0 → ⊥
-two_of {l} {u} {t} hu n ht z = n (ap kind_of (same_type hu ht) ∙ z)

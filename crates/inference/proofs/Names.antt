@@ -7,13 +7,14 @@ use Rattle.calculus.specs.Terms.{Side, Term, lam, inj, case, mu}
 use Rattle.rules.specs.Limits.{type_width}
 use Rattle.rules.specs.Answer.{Bytes, byte}
 use Rattle.rules.specs.Types.{former_kind, type_count, type_kind, type_at}
-use Rattle.rules.specs.Script.{number, own_at}
+use Rattle.rules.specs.Script.{kind, number, own_at, encode}
 use Rattle.records.specs.Kinds as kinds
 use Rattle.types.specs.Held.{kind_of}
 use Rattle.inference.specs.Operands.{Formed}
 use Rattle.inference.specs.Memory.{Slot, Table, SlotType, SlotSided}
 use Rattle.inference.specs.Stages.{Case}
 use Rattle.types.proofs.Parts.{kind_is}
+use Rattle.inference.proofs.Shapes.{of_kind}
 
 -- the type that a number names, in the part of the table that starts with it
 pub within : (types : Bytes) (i : ℕ) → i < type_count types → type_width * i ≤ length types
@@ -52,6 +53,14 @@ module _ (t : Bytes) (b i : ℕ) (e : Term) (f : Formed t b e) where
   pub case_index : {w : ℕ} {a x y : Term} → e ≡ case w i a x y → finds_own i ≡ false → i < type_count t
   unfolding Formed
   case_index p = (subst (λ d. Formed t b d) p f).0
+
+-- the same by the kind of the node's record
+module _ (types s : Bytes) (b : ℕ) (e : Term) (is : s ≡ encode e) (f : Formed types b e) where
+  pub function_index : kinds.function ≡ kind s 0 → number s 0 < type_count types
+  function_index k = lam_index types b _ e f (of_kind s e kinds.function is k)
+
+  pub recursion_index : kinds.recursion ≡ kind s 0 → (number s 0 < type_count types) × (type_kind types (number s 0) ≡ former_kind function)
+  recursion_index k = mu_index types b _ e f (of_kind s e kinds.recursion is k)
 
 -- whether a case finds its own type is told by its number alone
 pub owns : {types s : Bytes} → Case types s → own_at s 0 ≡ finds_own (number s 0)

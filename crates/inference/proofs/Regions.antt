@@ -1,18 +1,18 @@
 -- The regions of the work buffer: front, middle, slots.
-use Rattle.std.proofs.Common.{Result, ◌≡◌, refl, sym, ap, ◌∙◌, subst, List, [], ◌∷◌, ◌++◌, append-nil, append_assoc, ℕ, zero, suc, ◌+◌, ◌-◌, ◌*◌, ◌≤◌, ◌<◌, arith, length, take, drop, get_or, length-append, length-drop, take-append-drop, drop_of_length-le, drop_at, drop-drop, take-take, length-take-le}
+use Rattle.std.proofs.Common.{Result, Ok, ◌≡◌, refl, sym, ap, ◌∙◌, subst, List, [], ◌∷◌, ◌++◌, append-nil, append_assoc, ℕ, zero, suc, ◌+◌, ◌-◌, ◌*◌, ◌≤◌, ◌<◌, arith, length, take, drop, get_or, length-append, length-drop, take-append-drop, drop_of_length-le, drop_at, drop-drop, take-take, length-take-le}
 use Rattle.std.proofs.Math.Seq.{take-append-le}
 use borrow.Rule.Slice.PartMut.{put_mid}
 use Rattle.calculus.specs.Types.{Ty, size_t, type_limit}
 use Rattle.rules.specs.Limits.{answer_length, type_width}
-use Rattle.rules.specs.Answer.{Bytes, Answer}
+use Rattle.rules.specs.Answer.{Bytes, Answer, accepted}
 use Rattle.rules.specs.Types.{encode_type, no_type}
 use Rattle.rules.specs.Typing.{left, right}
 use Rattle.types.specs.Held.{Held, kind_of}
 use Rattle.answer.specs.declared.Refusal.{Refusal}
 use Rattle.memory.specs.Splice.{splice}
 use Rattle.memory.proofs.Laws.{length_splice, drop_past, drop_before}
-use Rattle.inference.specs.Memory.{high, Slot, Sized, Holds, Wrote, Meets, finds, refuses, Entered, Beside}
-use Rattle.inference.proofs.Front.{held_take, sides_size}
+use Rattle.inference.specs.Memory.{high, Slot, Sized, Holds, Wrote, Meets, finds, refuses, Gives, Entered, Beside}
+use Rattle.inference.proofs.Front.{held_take, rule_sides_size}
 use Rattle.types.proofs.Parts.{type_length}
 
 -- the slots, seen from a lent part
@@ -146,6 +146,9 @@ wrote_first {t} {b} {n} {w} {x} {w'} c s e l q =
       kept = rw z (high_splice 0 b (encode_type t) w (omega (arith, type_length t)));
     }
 
+pub written : {t : Ty} {n : ℕ} {w x w' : Bytes} → n ≡ size_t t → size_t t ≤ type_limit → x ≡ encode_type t → w' ≡ splice 0 x w → Gives (accepted t) w (Ok n) w'
+written c s e q b l = finds (wrote_first c s e l q)
+
 -- a type written to the next slot
 pub slot_written : {t : Ty} {Γ : List Ty} {b : ℕ} {w x w' : Bytes} → size_t t ≤ type_limit → x ≡ encode_type t → answer_length * (b + 1) ≤ length w → w' ≡ splice (length w - answer_length * (b + 1)) x w
     → length Γ ≡ b → Holds Γ (high b w) → Entered (t ∷ Γ) b w w'
@@ -162,7 +165,7 @@ pub beside_written : {t : Ty} {b : ℕ} (w : Bytes) {x : Bytes} (w' : Bytes) →
     → w' ≡ splice (length w - answer_length * (b + 1)) x w → Beside t b w' × (high b w' ≡ high b w) × (length w' ≡ length w)
 beside_written {t} {b} w {x} w' nz s e l q =
     let at : ℕ = length w - answer_length * (b + 1) in
-    let ss = sides_size t nz in
+    let ss = rule_sides_size t nz in
     let la : length (encode_type (left t)) ≡ type_width * size_t (left t) = type_length (left t) in
     let lb : length (encode_type (right t)) ≡ type_width * size_t (right t) = type_length (right t) in
     let y : Bytes = encode_type (left t) ++ encode_type (right t) in

@@ -1,25 +1,27 @@
 -- What the rule functions ask, and what they leave in the work buffer.
-use Rattle.std.proofs.Common.{◌≡◌, refl, sym, ap, ◌∙◌, subst, Bool, true, false, cond, leb, leb-true, Result, Ok, Err, IsErrAnd, List, ◌++◌, ℕ, ◌+◌, ◌*◌, ◌≤◌, ◌<◌, arith, length, drop, length-append, drop_at}
+use Rattle.std.proofs.Common.{◌≡◌, refl, sym, ap, ◌∙◌, subst, Bool, true, false, cond, eqb, eqb-true, ne_eqb, leb, leb-true, Result, Ok, Err, IsErrAnd, List, ◌++◌, ℕ, ◌+◌, ◌*◌, ◌≤◌, ◌<◌, arith, length, drop, length-append, drop_at}
 use Rattle.calculus.specs.Security.{Property, Indirect, Security}
-use Rattle.calculus.specs.Types.{Former, sum, product, function, Ty, one, node, size_t, same, top, raise_t, type_limit}
+use Rattle.calculus.specs.Types.{Former, sum, product, function, Ty, one, node, size_t, top, raise_t, type_limit}
 use Rattle.calculus.specs.Subtyping.{below}
 use Rattle.calculus.specs.Common.{common}
 use Rattle.calculus.specs.Typing.{finds_own}
 use Rattle.rules.specs.Limits.{answer_length, type_width}
 use Rattle.rules.specs.Answer.{Bytes, Answer, accepted, refused, ◌>>=◌, ◌>>◌, ask}
 use Rattle.rules.specs.Types.{former_kind, type_record, encode_type}
-use Rattle.rules.specs.Typing.{has_form, left, right, q21, q22, q24, q22_of_branch, found_or, branch_type}
+use Rattle.rules.specs.Typing.{has_form, left, right, q22, q24, q22_of_branch, found_or, branch_type}
 use Rattle.types.specs.Held.{kind_of}
 use Rattle.memory.specs.Splice.{splice}
 use Rattle.memory.proofs.Laws.{join_before, join_after}
 use Rattle.answer.specs.Numbers.{number}
 use Rattle.answer.specs.Said.{said}
 use Rattle.answer.specs.declared.Refusal.{Refusal}
-use Rattle.inference.specs.Memory.{Sized, Wrote, Meets, finds, refuses, Entered, Enters}
+use Rattle.inference.specs.Memory.{Sized, Wrote, Meets, refuses, finds, Gives, Entered, Enters}
 use Rattle.inference.specs.Stages.{may_read, result_type, case_type}
 use Rattle.inference.proofs.Front.{size_raised}
+use Rattle.answer.proofs.Passed.{returned}
+use Rattle.types.proofs.Formers.{former_not_unit, same_former}
 use Rattle.types.proofs.Parts.{type_length}
-use Rattle.inference.proofs.Regions.{high_past, wrote_first}
+use Rattle.inference.proofs.Regions.{high_past, written}
 
 -- of a case's branches, and its result type
 module _ (S : Security) (p : ℕ) (tab : ℕ → Ty) (i : ℕ) (t u : Ty) where
@@ -40,72 +42,21 @@ module _ (S : Security) (p : ℕ) (tab : ℕ → Ty) (i : ℕ) (t u : Ty) where
       go (refused q x) = refl
 
 -- questions 20 and 21
-differ : (c d : Former) → (former_kind d ≡ former_kind c → ⊥) → same c d ≡ false
-differ sum sum n = absurd (n refl)
-differ sum product n = refl
-differ sum function n = refl
-differ product sum n = refl
-differ product product n = absurd (n refl)
-differ product function n = refl
-differ function sum n = refl
-differ function product n = refl
-differ function function n = absurd (n refl)
+pub form_is : (f : Former) (t : Ty) → has_form f t ≡ eqb (former_kind f) (kind_of t)
+form_is f (one k) = sym (ne_eqb _ _ (former_not_unit f))
+form_is f (node d k a b) = same_former f d
 
-agree : (c d : Former) → former_kind d ≡ former_kind c → same c d ≡ true
-agree sum sum n = refl
-agree sum product n = absurd (omega arith)
-agree sum function n = absurd (omega arith)
-agree product sum n = absurd (omega arith)
-agree product product n = refl
-agree product function n = absurd (omega arith)
-agree function sum n = absurd (omega arith)
-agree function product n = absurd (omega arith)
-agree function function n = refl
-
-pub former_not_unit : (f : Former) → former_kind f ≡ 0 → ⊥
-former_not_unit sum e = omega arith
-former_not_unit product e = omega arith
-former_not_unit function e = omega arith
-
-pub form_no : (f : Former) (t : Ty) → (kind_of t ≡ former_kind f → ⊥) → has_form f t ≡ false
-form_no f (one k) n = refl
-form_no f (node d k a b) n = differ f d n
-
-pub form_yes : (f : Former) (t : Ty) → kind_of t ≡ former_kind f → has_form f t ≡ true
-form_yes f (one k) e = absurd (former_not_unit f (sym e))
-form_yes f (node d k a b) e = agree f d e
-
-same_kind : (c d : Former) → same c d ≡ true → former_kind d ≡ former_kind c
-same_kind sum sum e = refl
-same_kind sum product e = let z : ◌≡◌ {A = ℕ} 0 1 = cc in absurd (omega arith)
-same_kind sum function e = let z : ◌≡◌ {A = ℕ} 0 1 = cc in absurd (omega arith)
-same_kind product sum e = let z : ◌≡◌ {A = ℕ} 0 1 = cc in absurd (omega arith)
-same_kind product product e = refl
-same_kind product function e = let z : ◌≡◌ {A = ℕ} 0 1 = cc in absurd (omega arith)
-same_kind function sum e = let z : ◌≡◌ {A = ℕ} 0 1 = cc in absurd (omega arith)
-same_kind function product e = let z : ◌≡◌ {A = ℕ} 0 1 = cc in absurd (omega arith)
-same_kind function function e = refl
-
-form_kind : (f : Former) (t : Ty) → has_form f t ≡ true → kind_of t ≡ former_kind f
-form_kind f (one k) e = let z : ◌≡◌ {A = ℕ} 0 1 = cc in absurd (omega arith)
-form_kind f (node d k a b) e = same_kind f d e
-
+-- the questions of a read type are answered yes only where it has two sides
 module _ (S : Security) (p : ℕ) (f : Former) (t : Ty) (w : ℕ) where
-  pub reads_20 : (kind_of t ≡ former_kind f → ⊥) → may_read S p f t w ≡ refused 20 p
-  reads_20 n = ap (λ q. ◌>>◌ (ask 20 p q) (q21 S p t w)) (form_no f t n)
-
-  pub reads_21 : kind_of t ≡ former_kind f → may_read S p f t w ≡ q21 S p t w
-  reads_21 e = ap (λ x. ◌>>◌ (ask 20 p x) (q21 S p t w)) (form_yes f t e)
-
   form_cases : (a b : Bool) → ◌>>◌ (ask 20 p a) (ask 21 p b) ≡ accepted tt → a ≡ true
   form_cases true b e = refl
   form_cases false b e = let z : ◌≡◌ {A = ℕ} 0 1 = cc in absurd (omega arith)
 
-  pub read_kind : may_read S p f t w ≡ accepted tt → kind_of t ≡ former_kind f
-  read_kind e = form_kind f t (form_cases (has_form f t) (S.permits (top t) w) e)
+  read_kind : may_read S p f t w ≡ accepted tt → former_kind f ≡ kind_of t
+  read_kind e = eqb-true _ _ (sym (form_is f t) ∙ form_cases (has_form f t) (S.permits (top t) w) e)
 
   pub read_two : may_read S p f t w ≡ accepted tt → kind_of t ≡ 0 → ⊥
-  read_two e z = former_not_unit f (sym (read_kind e) ∙ z)
+  read_two e z = former_not_unit f (read_kind e ∙ z)
 
 pub meets_of : {o o' : Answer Ty} {b : ℕ} {w : Bytes} {x : Result ℕ Refusal} {v : Bytes} → o ≡ o' → Meets o' b w x v → Meets o b w x v
 meets_of {b = b} {w = w} {x = x} {v = v} e m = subst (λ y. Meets y b w x v) (sym e) m
@@ -134,18 +85,18 @@ node_front f k s t w w₂ w₃ l e₂ e₃ =
     let m : length (encode_type s ++ encode_type t) ≡ type_width * size_t s + type_width * size_t t = length-append (encode_type s) (encode_type t) ∙ omega (arith, type_length s, type_length t) in
     e₃ ∙ ap (splice 0 (type_record (former_kind f) k)) e₂ ∙ join_before 0 (type_record (former_kind f) k) (encode_type s ++ encode_type t) w (omega (arith, m))
 
-module _ (k : Property) (m n : ℕ) (s t : Ty) {b : ℕ} {w y x : Bytes} (f : size_t s + size_t t < type_limit) (em : m ≡ size_t s) (en : n ≡ size_t t)
-    (ex : x ≡ encode_type s) (ey : y ≡ encode_type t) (l : answer_length * (b + 1) ≤ length w) where
+module _ (k : Property) (m n : ℕ) (s t : Ty) {w y x : Bytes} (f : size_t s + size_t t < type_limit) (em : m ≡ size_t s) (en : n ≡ size_t t)
+    (ex : x ≡ encode_type s) (ey : y ≡ encode_type t) (l : answer_length ≤ length w) where
   placed : {w₂ w₃ : Bytes} (c : Former) → w₂ ≡ splice type_width (encode_type s ++ encode_type t) w → w₃ ≡ splice 0 (type_record (former_kind c) k) w₂
-      → Wrote (node c k s t) b w (m + n + 1) w₃
+      → Gives (accepted (node c k s t)) w (Ok (m + n + 1)) w₃
   placed {w₂} {w₃} c z₂ e₃ =
       let ns = node_size c k s t in
-      wrote_first (omega (arith, ns)) (omega (arith, ns)) refl l (node_front c k s t w w₂ w₃ (omega arith) z₂ e₃)
+      written (omega (arith, ns)) (omega (arith, ns)) refl (node_front c k s t w w₂ w₃ (omega arith) z₂ e₃)
 
   -- the second type is moved first
-  pub function_meets : {w₁ w₂ w₃ : Bytes} → w₁ ≡ splice (type_width + type_width * m) y w → w₂ ≡ splice type_width x w₁ → w₃ ≡ splice 0 (type_record (former_kind function) k) w₂
-      → Meets (accepted (node function k s t)) b w (Ok (m + n + 1)) w₃
-  function_meets {w₁} {w₂} {w₃} e₁ e₂ e₃ =
+  pub function_given : {w₁ w₂ w₃ : Bytes} → w₁ ≡ splice (type_width + type_width * m) y w → w₂ ≡ splice type_width x w₁ → w₃ ≡ splice 0 (type_record (former_kind function) k) w₂
+      → Gives (accepted (node function k s t)) w (Ok (m + n + 1)) w₃
+  function_given {w₁} {w₂} {w₃} e₁ e₂ e₃ =
       let ls : length (encode_type s) ≡ type_width * size_t s = type_length s in
       let lt : length (encode_type t) ≡ type_width * size_t t = type_length t in
       let a : type_width + type_width * m ≡ type_width + length (encode_type s) = omega arith in
@@ -153,12 +104,12 @@ module _ (k : Property) (m n : ℕ) (s t : Ty) {b : ℕ} {w y x : Bytes} (f : si
       e₂ ∙ ap (λ u. splice type_width u w₁) ex
       ∙ ap (splice type_width (encode_type s)) (e₁ ∙ ap (λ u. splice (type_width + type_width * m) u w) ey ∙ ap (λ j. splice j (encode_type t) w) a)
       ∙ join_before type_width (encode_type s) (encode_type t) w (omega arith) in
-      finds (placed function z₂ e₃)
+      placed function z₂ e₃
 
   -- the first one is
-  pub pair_meets : {w₁ w₂ w₃ : Bytes} → w₁ ≡ splice type_width x w → w₂ ≡ splice (type_width + type_width * m) y w₁ → w₃ ≡ splice 0 (type_record (former_kind product) k) w₂
-      → Meets (accepted (node product k s t)) b w (Ok (m + n + 1)) w₃
-  pair_meets {w₁} {w₂} {w₃} e₁ e₂ e₃ =
+  pub pair_given : {w₁ w₂ w₃ : Bytes} → w₁ ≡ splice type_width x w → w₂ ≡ splice (type_width + type_width * m) y w₁ → w₃ ≡ splice 0 (type_record (former_kind product) k) w₂
+      → Gives (accepted (node product k s t)) w (Ok (m + n + 1)) w₃
+  pair_given {w₁} {w₂} {w₃} e₁ e₂ e₃ =
       let ls : length (encode_type s) ≡ type_width * size_t s = type_length s in
       let lt : length (encode_type t) ≡ type_width * size_t t = type_length t in
       let a : type_width + type_width * m ≡ type_width + length (encode_type s) = omega arith in
@@ -166,7 +117,7 @@ module _ (k : Property) (m n : ℕ) (s t : Ty) {b : ℕ} {w y x : Bytes} (f : si
       e₂ ∙ ap (λ u. splice (type_width + type_width * m) u w₁) ey ∙ ap (λ j. splice j (encode_type t) w₁) a
       ∙ ap (splice (type_width + length (encode_type s)) (encode_type t)) (e₁ ∙ ap (λ u. splice type_width u w) ex)
       ∙ join_after type_width (type_width + length (encode_type s)) (encode_type s) (encode_type t) w refl (omega arith) in
-      finds (placed product z₂ e₃)
+      placed product z₂ e₃
 
 -- another record before the sides of a type
 pub other_record : (u : Ty) (k : Property) (w : Bytes) → (kind_of u ≡ 0 → ⊥)
@@ -214,18 +165,20 @@ refused_as refuses = refl
 
 -- what `?` returns then
 pub refused_meets : {o : Answer Ty} {b : ℕ} {w v : Bytes} {x : Result ℕ Refusal} (e : Refusal) → o ≡ refused (number e.question) e.place → IsErrAnd x (λ y. y ≡ e) → Meets o b w x v
-refused_meets {x = Ok n} e h p = absurd p
-refused_meets {b = b} {w = w} {v = v} {x = Err y} e h p = subst (λ z. Meets z b w (Err y) v) (sym (h ∙ ap (λ (z : Refusal). refused (number z.question) z.place) (sym p))) refuses
+refused_meets e h p = meets_of h (rw (returned _ p) refuses)
 
--- ---- questions
+-- ---- a type given under any count of binders
 
--- one answered yes, and what is found then
-pub passed : {a : Answer (Unit {0})} {o : Answer Ty} {b : ℕ} {w : Bytes} {x : Result ℕ Refusal} {v : Bytes} → accepted tt ≡ a → Meets o b w x v → Meets (◌>>◌ a o) b w x v
-passed {o = o} {b = b} {w = w} {x = x} {v = v} e m = subst (λ y. Meets (◌>>◌ y o) b w x v) e m
+pub gives_of : {o o' : Answer Ty} {w : Bytes} {x : Result ℕ Refusal} {v : Bytes} → o ≡ o' → Gives o' w x v → Gives o w x v
+gives_of e m b l = meets_of e (m b l)
 
--- one answered no
-pub stopped : {a : Answer (Unit {0})} (o : Answer Ty) {b : ℕ} {w v : Bytes} {x : Result ℕ Refusal} (e : Refusal) → said {A = Unit {0}} (Err e) ≡ a → IsErrAnd x (λ y. y ≡ e) → Meets (◌>>◌ a o) b w x v
-stopped o e h p = refused_meets e (ap (λ y. ◌>>◌ y o) (sym h)) p
+-- after a question answered yes
+pub passed : {a : Answer (Unit {0})} {o : Answer Ty} {w : Bytes} {x : Result ℕ Refusal} {v : Bytes} → accepted tt ≡ a → Gives o w x v → Gives (◌>>◌ a o) w x v
+passed {a} {o} e m = gives_of {o = ◌>>◌ a o} {o' = o} (ap (λ (y : Answer (Unit {0})). ◌>>◌ y o) (sym e)) m
+
+-- after one answered no
+pub stopped : {a : Answer (Unit {0})} (o : Answer Ty) {w v : Bytes} {x : Result ℕ Refusal} (e : Refusal) → said {A = Unit {0}} (Err e) ≡ a → IsErrAnd x (λ y. y ≡ e) → Gives (◌>>◌ a o) w x v
+stopped o e h p b l = refused_meets e (ap (λ y. ◌>>◌ y o) (sym h)) p
 
 module _ {A : Answer (Unit {0})} {Γ Γ' : List Ty} {b : ℕ} {w : Bytes} {x : Result (Unit {0}) Refusal} {w' : Bytes} where
   -- the next operand's context is there

@@ -1,8 +1,8 @@
 -- A node's record tells its kind, its fields and its operands.
-use Rattle.std.proofs.Common.{◌≡◌, refl, sym, ap, ◌∙◌, cond, List, [], append-nil, ℕ, ◌≤◌, length, arith}
+use Rattle.std.proofs.Common.{◌≡◌, refl, sym, ap, ◌∙◌, cond, List, [], append-nil, ◌⊎◌, inl, inr, ℕ, ◌≤◌, length, arith}
 use Rattle.calculus.specs.Security.{Property, Indirect, Security}
 use Rattle.calculus.specs.Types.{Ty}
-use Rattle.calculus.specs.Terms.{first, second, Term, var, unit, lam, pair, inj, app, proj, case, protect, mu}
+use Rattle.calculus.specs.Terms.{Side, first, second, Term, var, unit, lam, pair, inj, app, proj, case, protect, mu}
 use Rattle.rules.specs.Limits.{script_width, type_width}
 use Rattle.rules.specs.Answer.{Bytes, accepted}
 use Rattle.rules.specs.Script.{kind, r, ir, number, c, ic, arity, encode, depth, make}
@@ -20,6 +20,7 @@ use Rattle.records.specs.Operands.{first_operand, second_operand, third_operand}
 use Rattle.records.proofs.Weights.{weights}
 use Rattle.records.proofs.Stands.{stands_kind, here}
 use Rattle.records.proofs.Made.{form, by_kind, number_of, number_at, property_stands}
+use Rattle.inference.specs.Sides.{named_side}
 use Rattle.inference.specs.Stages.{before_first, first_context, kept_front}
 
 pub at_front : {s : Bytes} (e : Term) → s ≡ encode e → At s 0 e
@@ -54,6 +55,15 @@ read_by s w = record { r = w; ir = ir s 0; c = c s 0; ic = ic s 0 }
 
 abbrev pub left_by : Bytes → Indirect → Property
 left_by s m = record { r = r s 0; ir = m.ir; c = c s 0; ic = m.ic }
+
+-- an injection and a projection, by the side that its kind names
+pub injected : {k : Kind} {d : Side} (p : Property) (n : ℕ) (e : Term) → (k ≡ FirstInjection) ⊎ (k ≡ SecondInjection) → d ≡ named_side k → labelled (kind_number k) p n e ≡ inj d p n (first_operand e)
+injected p n e (inl q) y = rw (y, q)
+injected p n e (inr q) y = rw (y, q)
+
+pub projected : {k : Kind} {d : Side} (p : Property) (n : ℕ) (e : Term) → (k ≡ FirstProjection) ⊎ (k ≡ SecondProjection) → d ≡ named_side k → labelled (kind_number k) p n e ≡ proj d p.r (first_operand e)
+projected p n e (inl q) y = rw (y, q)
+projected p n e (inr q) y = rw (y, q)
 
 pub counted : (e : Term) → arity (kind (encode e) 0) ≡ operand_count e
 unfolding arity encode operand_count

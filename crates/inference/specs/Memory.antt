@@ -47,6 +47,10 @@ pub data Meets : Answer Ty → ℕ → Bytes → Result ℕ Refusal → Bytes �
   finds : {t : Ty} {b : ℕ} {w : Bytes} {n : ℕ} {w' : Bytes} → Wrote t b w n w' → Meets (accepted t) b w (Ok n) w'
   refuses : {e : Refusal} {b : ℕ} {w w' : Bytes} → Meets (refused (number e.question) e.place) b w (Err e) w'
 
+-- the same under any count of binders that the buffer has slots for
+abbrev pub Gives : Answer Ty → Bytes → Result ℕ Refusal → Bytes → Type 0
+Gives a w x w' = (b : ℕ) → answer_length * (b + 1) ≤ length w → Meets a b w x w'
+
 -- What a call of the checker is given: the context in b slots, the script part of one formed node, and a slot's room for each
 -- level below it.
 pub record Ready (types s : Bytes) (place b : ℕ) (w : Bytes) : Type 0 where

@@ -20,8 +20,8 @@ ghost use Rattle.memory.specs.Splice.{splice};
 ghost use Rattle.lattice.specs.Said.{said_property, said_influence};
 ghost use Rattle.types.specs.Held.{Held, Starts, Sided};
 ghost use Rattle.types.specs.Kinds.{kind_number};
-ghost use Rattle.inference.specs.Sides.{said_side};
-ghost use Rattle.inference.specs.Memory.{high, Slot, Sized, Holds, Meets, Ready, Enters, SlotType, SlotSided, Beside};
+ghost use Rattle.inference.specs.Sides.{said_side, named_side};
+ghost use Rattle.inference.specs.Memory.{high, Slot, Sized, Holds, Meets, Gives, Ready, Enters, SlotType, SlotSided, Beside};
 ghost use Rattle.inference.specs.Memory.{InScope, TypedFront, Both, Entered};
 ghost use Rattle.inference.specs.Stages.{leaf_type, may_recur, before_first, first_context, kept_front, function_type, pair_type};
 ghost use Rattle.inference.specs.Stages.{injection_type, may_read, after_one, between, second_context, after_two, Leaf, One, Aside};
@@ -39,6 +39,18 @@ use types::{TYPE_LIMIT, TYPE_WIDTH};
 enum Side {
     First,
     Second,
+}
+
+impl Side {
+    // The one that an injection or a projection of this kind names.
+    fn of(kind: Kind) -> Self
+        ensures { said_side result ≡ named_side kind }
+    {
+        match kind {
+            Kind::FirstInjection | Kind::FirstProjection => Side::First,
+            _ => Side::Second,
+        }
+    }
 }
 
 // A slot holds any type. Question 1 asks for one for each level of a script.
@@ -83,7 +95,7 @@ fn copy_type(t: &[u8], w: &mut [u8], at: usize) -> usize
         → (result ≡ size_t u) × (w.new ≡ splice at (encode_type u) w.old) }
 {
     let n = types::type_records(t);
-    memory::copy(t, TYPE_WIDTH * n, w, at);
+    memory::put(&t[..TYPE_WIDTH * n], w, at);
     n
 }
 
@@ -124,12 +136,7 @@ fn may_read(groups: &[u8], former: types::Kind, r: Reader, place: usize, w: &[u8
     ensures { (f : Former) (t : Ty) → kind_number former ≡ former_kind f → Held w.now t
         → said result ≡ may_read (properties_of groups.now) place f t r.0 }
 {
-    if types::kind_of(w) != former {
-        return Err(Refusal {
-            question: Question::Former,
-            place,
-        });
-    }
+    answer::ask(Question::Former, place, types::kind_of(w) == former)?;
     let own = types::reader(w);
     answer::ask(Question::Reader, place, own.at_or_below(groups, r))
 }
@@ -137,9 +144,8 @@ fn may_read(groups: &[u8], former: types::Kind, r: Reader, place: usize, w: &[u8
 // What reading the object in front as r gives: a side of its type, raised by what the reading leaves.
 fn read_side(groups: &[u8], r: Reader, side: Side, w: &mut [u8]) -> Result<usize, Refusal>
     requires { Sided w.old × (answer_length ≤ length w.old) }
-    ensures { (t : Ty) (b : ℕ) → Slot w.old t → answer_length * (b + 1) ≤ length w.old
-        → Meets (accepted (reads (properties_of groups.now) t r.0 (side_of (said_side side) t))) b
-        w.old result w.new }
+    ensures { (t : Ty) → Slot w.old t
+        → Gives (accepted (reads (properties_of groups.now) t r.0 (side_of (said_side side) t))) w.old result w.new }
 {
     let by = types::property(w).influence(groups, r);
     let from = side_at(w, side);
@@ -203,12 +209,7 @@ fn may_recur(groups: &[u8], t: &[u8], caller: Reader, place: usize) -> Checked
 {
     let called = types::reader(t).at_or_below(groups, caller);
     let absorbed = absorbs(groups, t, caller);
-    if !called {
-        return Err(Refusal {
-            question: Question::Reader,
-            place,
-        });
-    }
+    answer::ask(Question::Reader, place, called)?;
     answer::ask(Question::Recursion, place, absorbed)
 }
 
@@ -263,16 +264,15 @@ fn function(
     n: usize,
 ) -> Result<usize, Refusal>
     requires { SlotType t.now × (TypedFront w.old n × (answer_length ≤ length w.old)) }
-    ensures { (u v : Ty) (b : ℕ) → Slot t.now u → Sized w.old n v
-        → answer_length * (b + 1) ≤ length w.old
-        → Meets (function_type place (said_property property) u v) b w.old result w.new }
+    ensures { (u v : Ty) → Slot t.now u → Sized w.old n v
+        → Gives (function_type place (said_property property) u v) w.old result w.new }
 {
     let m = types::type_records(t);
     let count = m + n + 1;
     answer::ask(Question::FoundLength, place, count <= TYPE_LIMIT)?;
     let at = TYPE_WIDTH + TYPE_WIDTH * m;
     memory::shift(w, 0, at, TYPE_WIDTH * n);
-    memory::copy(t, TYPE_WIDTH * m, w, TYPE_WIDTH);
+    memory::put(&t[..TYPE_WIDTH * m], w, TYPE_WIDTH);
     put(w, types::Kind::Function, property);
     Ok(count)
 }
@@ -287,10 +287,8 @@ fn inject(
     w: &mut [u8],
 ) -> Result<usize, Refusal>
     requires { SlotSided t.now × (Starts (drop type_width w.old) × (answer_length ≤ length w.old)) }
-    ensures { (u v : Ty) (b : ℕ) → Slot t.now u
-        → Held (drop type_width w.old) v
-        → answer_length * (b + 1) ≤ length w.old
-        → Meets (injection_type (properties_of groups.now) place (said_property property) u (side_of (said_side side) u) v) b
+    ensures { (u v : Ty) → Slot t.now u → Held (drop type_width w.old) v
+        → Gives (injection_type (properties_of groups.now) place (said_property property) u (side_of (said_side side) u) v)
         w.old result w.new }
 {
     let fits = subtyping::is_subtype(groups, &w[TYPE_WIDTH..], side_of(t, side));
@@ -309,8 +307,8 @@ fn project(
     w: &mut [u8],
 ) -> Result<usize, Refusal>
     requires { Starts w.old × (answer_length ≤ length w.old) }
-    ensures { (t : Ty) (b : ℕ) → Slot w.old t → answer_length * (b + 1) ≤ length w.old
-        → Meets (projection_type (properties_of groups.now) place r.0 (said_side side) t) b w.old result w.new }
+    ensures { (t : Ty) → Slot w.old t
+        → Gives (projection_type (properties_of groups.now) place r.0 (said_side side) t) w.old result w.new }
 {
     may_read(groups, types::Kind::Pair, r, place, w)?;
     read_side(groups, r, side, w)
@@ -319,8 +317,8 @@ fn project(
 // A protect: the type in front, raised.
 fn protect(groups: &[u8], by: Influence, w: &mut [u8], n: usize) -> Result<usize, Refusal>
     requires { TypedFront w.old n }
-    ensures { (t : Ty) (b : ℕ) → Sized w.old n t → answer_length * (b + 1) ≤ length w.old
-        → Meets (accepted (raise_t (properties_of groups.now) t (said_influence by))) b w.old result w.new }
+    ensures { (t : Ty) → Sized w.old n t
+        → Gives (accepted (raise_t (properties_of groups.now) t (said_influence by))) w.old result w.new }
 {
     types::raise(groups, w, by);
     Ok(n)
@@ -329,9 +327,8 @@ fn protect(groups: &[u8], by: Influence, w: &mut [u8], n: usize) -> Result<usize
 // Question 22 against the type that t starts with, which is then the node's: a recursion's, or that of a case that names its type.
 fn adopt(groups: &[u8], t: &[u8], place: usize, w: &mut [u8]) -> Result<usize, Refusal>
     requires { SlotType t.now × (Starts w.old × (answer_length ≤ length w.old)) }
-    ensures { (v u : Ty) (b : ℕ) → Held w.old v → Slot t.now u
-        → answer_length * (b + 1) ≤ length w.old
-        → Meets (wanting (properties_of groups.now) place v u u) b w.old result w.new }
+    ensures { (v u : Ty) → Held w.old v → Slot t.now u
+        → Gives (wanting (properties_of groups.now) place v u u) w.old result w.new }
 {
     answer::ask(Question::Wanted, place, subtyping::is_subtype(groups, w, t))?;
     Ok(copy_type(t, w, 0))
@@ -348,35 +345,19 @@ pub fn after_one(
     n: usize,
 ) -> Result<usize, Refusal>
     requires { One types.now s.now w.old n }
-    ensures { (v : One types.now s.now w.old n) (b : ℕ)
-        → answer_length * (b + 1) ≤ length w.old
-        → Meets (after_one (properties_of groups.now) (type_at types.now) place v.tree v.type) b
-        w.old result w.new }
+    ensures { (v : One types.now s.now w.old n)
+        → Gives (after_one (properties_of groups.now) (type_at types.now) place v.tree v.type) w.old result w.new }
 {
-    match records::kind_of(s, 0) {
+    let kind = records::kind_of(s, 0);
+    match kind {
         Kind::Function => function(named(types, s), records::property(s, 0), place, w, n),
-        Kind::FirstInjection => {
-            inject(
-                groups,
-                named(types, s),
-                Side::First,
-                records::property(s, 0),
-                place,
-                w,
-            )
+        Kind::FirstInjection | Kind::SecondInjection => {
+            let t = named(types, s);
+            inject(groups, t, Side::of(kind), records::property(s, 0), place, w)
         }
-        Kind::SecondInjection => {
-            inject(
-                groups,
-                named(types, s),
-                Side::Second,
-                records::property(s, 0),
-                place,
-                w,
-            )
+        Kind::FirstProjection | Kind::SecondProjection => {
+            project(groups, Side::of(kind), records::reader(s, 0), place, w)
         }
-        Kind::FirstProjection => project(groups, Side::First, records::reader(s, 0), place, w),
-        Kind::SecondProjection => project(groups, Side::Second, records::reader(s, 0), place, w),
         Kind::Protect => protect(groups, records::influence(s, 0), w, n),
         _ => adopt(groups, named(types, s), place, w),
     }
@@ -433,9 +414,8 @@ fn pair(
     m: usize,
 ) -> Result<usize, Refusal>
     requires { TypedFront w.old n × (TypedFront (drop answer_length w.old) m × (answer_length * 2 ≤ length w.old)) }
-    ensures { (s t : Ty) (b : ℕ) → Sized w.old n s → Sized (drop answer_length w.old) m t
-        → answer_length * (b + 1) ≤ length w.old
-        → Meets (pair_type place (said_property property) s t) b w.old result w.new }
+    ensures { (s t : Ty) → Sized w.old n s → Sized (drop answer_length w.old) m t
+        → Gives (pair_type place (said_property property) s t) w.old result w.new }
 {
     let count = n + m + 1;
     answer::ask(Question::FoundLength, place, count <= TYPE_LIMIT)?;
@@ -458,10 +438,9 @@ fn argument_fits(groups: &[u8], w: &[u8]) -> bool
 // An application: the function's type is in front, the argument's from the next slot's length on. Question 22, and the result.
 fn apply(groups: &[u8], r: Reader, place: usize, w: &mut [u8]) -> Result<usize, Refusal>
     requires { Sided w.old × (Starts (drop answer_length w.old) × (answer_length * 2 ≤ length w.old)) }
-    ensures { (s t : Ty) (b : ℕ) → Slot w.old s
-        → Held (drop answer_length w.old) t → answer_length * (b + 1) ≤ length w.old
-        → Meets (wanting (properties_of groups.now) place t (left s)
-        (reads (properties_of groups.now) s r.0 (right s))) b w.old result w.new }
+    ensures { (s t : Ty) → Slot w.old s → Held (drop answer_length w.old) t
+        → Gives (wanting (properties_of groups.now) place t (left s)
+        (reads (properties_of groups.now) s r.0 (right s))) w.old result w.new }
 {
     answer::ask(Question::Wanted, place, argument_fits(groups, w))?;
     read_side(groups, r, Side::Second, w)
@@ -478,10 +457,8 @@ pub fn after_two(
     m: usize,
 ) -> Result<usize, Refusal>
     requires { Two groups.now s.now place w.old n m }
-    ensures { (v : Two groups.now s.now place w.old n m) (b : ℕ)
-        → answer_length * (b + 1) ≤ length w.old
-        → Meets (after_two (properties_of groups.now) place v.tree v.first v.second) b w.old result
-        w.new }
+    ensures { (v : Two groups.now s.now place w.old n m)
+        → Gives (after_two (properties_of groups.now) place v.tree v.first v.second) w.old result w.new }
 {
     match records::kind_of(s, 0) {
         Kind::Pair => pair(records::property(s, 0), place, w, n, m),
@@ -536,9 +513,8 @@ pub fn kept_branch(s: &[u8]) -> usize
 // The lowest type at or above the two found ones, written over the first. Question 31.
 fn common_type(groups: &[u8], place: usize, w: &mut [u8]) -> Result<usize, Refusal>
     requires { Both w.old }
-    ensures { (v : Both w.old) (b : ℕ) → answer_length * (b + 1) ≤ length w.old
-        → Meets (found_or place (common (properties_of groups.now) below v.first v.second)) b
-        w.old result w.new }
+    ensures { (v : Both w.old)
+        → Gives (found_or place (common (properties_of groups.now) below v.first v.second)) w.old result w.new }
 {
     common_types::common(groups, Direction::Below, w, 0, SECOND_RECORD).ok_or(Refusal {
         question: Question::CommonType,
@@ -555,10 +531,9 @@ fn result_type(
     w: &mut [u8],
 ) -> Result<usize, Refusal>
     requires { Branches types.now s.now w.old }
-    ensures { (v : Branches types.now s.now w.old) (b : ℕ)
-        → answer_length * (b + 1) ≤ length w.old
-        → Meets (result_type (properties_of groups.now) (type_at types.now) place (number s.now 0)
-        v.first v.second) b w.old result w.new }
+    ensures { (v : Branches types.now s.now w.old)
+        → Gives (result_type (properties_of groups.now) (type_at types.now) place (number s.now 0)
+        v.first v.second) w.old result w.new }
 {
     if records::finds_own(s, 0) {
         common_type(groups, place, w)
@@ -577,10 +552,9 @@ pub fn after_second_branch(
     w: &mut [u8],
 ) -> Result<usize, Refusal>
     requires { Branches types.now s.now w.old }
-    ensures { (v : Branches types.now s.now w.old) (b : ℕ)
-        → answer_length * (b + 1) ≤ length w.old
-        → Meets (case_type (properties_of groups.now) (type_at types.now) place (number s.now 0)
-        v.first v.second (said_influence by)) b w.old result w.new }
+    ensures { (v : Branches types.now s.now w.old)
+        → Gives (case_type (properties_of groups.now) (type_at types.now) place (number s.now 0)
+        v.first v.second (said_influence by)) w.old result w.new }
 {
     let n = result_type(groups, types, s, place, w)?;
     types::raise(groups, w, by);

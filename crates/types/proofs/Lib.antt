@@ -1,2 +1,4 @@
+pub mod Formers
+pub mod Numbered
 pub mod Parts
 pub mod Counting

@@ -19,6 +19,12 @@ type_length t = encode_length type_code t
 pub type_positive : (t : Ty) → 1 ≤ size_t t
 type_positive t = size_positive type_code t
 
+-- a type's own record and its sides
+pub sides_size : (t : Ty) → (kind_of t ≡ 0 → ⊥) → size_t t ≡ 1 + (size_t (left_of t) + size_t (right_of t))
+unfolding size_t
+sides_size (one k) two = absurd (two refl)
+sides_size (node f k a b) two = refl
+
 abbrev pub starts_of : {s : Bytes} {t : Ty} → Held s t → Starts s
 starts_of {s} {t} h = record { type = t; held = h }
 

@@ -129,7 +129,7 @@ fn hand_over(x: Result<usize, Refusal>, work: &[u8], answer: &mut [u8])
         → answer.new ≡ answer_after v.answer answer.old }
 {
     if let Ok(n) = x {
-        memory::copy(work, TYPE_WIDTH * n, answer, 0);
+        memory::put(&work[..TYPE_WIDTH * n], answer, 0);
     }
 }
 

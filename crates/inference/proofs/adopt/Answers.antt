@@ -1,16 +1,15 @@
 -- Where question 22 is answered yes, the type of t is copied to the front.
 use Rattle.std.proofs.Common.{refl, ap, ◌∙◌}
 use Rattle.rules.specs.Answer.{ask, accepted}
-use Rattle.inference.specs.Memory.{finds}
-use Rattle.inference.proofs.Regions.{wrote_first}
+use Rattle.inference.proofs.Regions.{written}
 use Rattle.inference.proofs.Rules.{passed, stopped}
 use Rattle.inference.proofs.adopt.Goals as goal
 
 pub returns-in_err-ask : goal.returns-in_err-ask
-returns-in_err-ask c v u b h p l =
+returns-in_err-ask c v u h p =
     stopped (accepted u) _ (c.in_err-ask.ensures ∙ ap (ask 22 c.args.place) (c.is_subtype.ensures v u h p.held)) c.from_residual.ensures.1
 
 pub returns : goal.returns
-returns c v u b h p l =
+returns c v u h p =
     let m = c.copy_type.ensures u p.held in
-    passed (c.in_ok-ask.ensures ∙ ap (ask 22 c.args.place) (c.is_subtype.ensures v u h p.held)) (finds (wrote_first m.0 p.small refl l m.1))
+    passed (c.in_ok-ask.ensures ∙ ap (ask 22 c.args.place) (c.is_subtype.ensures v u h p.held)) (written m.0 p.small refl m.1)

@@ -13,7 +13,7 @@ use Rattle.records.specs.Operands.{first_operand, second_operand}
 use Rattle.inference.specs.Stages.{between, after_two, Two}
 use Rattle.inference.proofs.Regions.{slot_of}
 use Rattle.inference.proofs.Shapes.{arity_of, application_left, of_fields, read_by}
-use Rattle.inference.proofs.Rules.{read_two, meets_of}
+use Rattle.inference.proofs.Rules.{read_two, gives_of}
 use Rattle.inference.proofs.after_two.Goals as goal
 
 module _ {g s : Bytes} {place : ℕ} {w : Bytes} {n m : ℕ} (v : Two g s place w n m) where
@@ -36,10 +36,10 @@ module _ {g s : Bytes} {place : ℕ} {w : Bytes} {n m : ℕ} (v : Two g s place 
 
 pub returns-in-Pair : goal.returns-in-Pair
 unfolding after_two
-returns-in-Pair c v b l =
+returns-in-Pair c v =
     let s = c.args.s.now in
     let e = of_fields s v.tree _ {n = number s 0} v.is c.in-Pair.ensures c.property.ensures refl in
-    meets_of (rule v e) (c.pair.ensures v.first v.second b v.sized v.other l)
+    gives_of (rule v e) (c.pair.ensures v.first v.second v.sized v.other)
 
 pub apply-requires : goal.apply-requires
 apply-requires c =
@@ -50,6 +50,6 @@ apply-requires c =
 
 pub returns-in_default : goal.returns-in_default
 unfolding after_two
-returns-in_default c v b l =
+returns-in_default c v =
     let e = is_app v c.kind_of.ensures c.in_default.not-Pair c.reader.result.0 c.reader.ensures in
-    meets_of (rule v e) (c.apply.ensures v.first v.second b (slot_of v.sized) v.other.held l)
+    gives_of (rule v e) (c.apply.ensures v.first v.second (slot_of v.sized) v.other.held)

@@ -8,6 +8,6 @@ use Rattle.inference.proofs.Rules.{stopped}
 use Rattle.inference.proofs.apply.Goals as goal
 
 pub returns-in_err-ask : goal.returns-in_err-ask
-returns-in_err-ask c s t b h k l =
+returns-in_err-ask c s t h k =
     stopped (accepted (reads (properties_of c.args.groups.now) s c.args.r.0 (right s))) _
     (c.in_err-ask.ensures ∙ ap (ask 22 c.args.place) (c.argument_fits.ensures s t h.held k)) c.from_residual.ensures.1

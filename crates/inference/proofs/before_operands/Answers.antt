@@ -15,7 +15,7 @@ use Rattle.inference.specs.Stages.{may_recur, before_first, first_context}
 use Rattle.inference.proofs.Regions.{stayed}
 use Rattle.inference.proofs.Shapes.{long, Plain, plain, labelled, of_kind, depth_positive}
 use Rattle.inference.proofs.Rules.{enters_as}
-use Rattle.inference.proofs.Names.{within, named_slot, named, named_sided, lam_index, mu_index}
+use Rattle.inference.proofs.Names.{within, named_slot, named, named_sided, function_index, recursion_index}
 use Rattle.inference.proofs.before_operands.Goals as goal
 
 module _ {types s : Bytes} {place b : ℕ} {w : Bytes} (v : Ready types s place b w) where
@@ -36,52 +36,52 @@ module _ {types s : Bytes} {place b : ℕ} {w : Bytes} (v : Ready types s place 
   shape {k} f = of_kind s v.tree k v.is f
 
   -- the number of a function's or a recursion's record
-  function_index : kinds.function ≡ kind s 0 → number s 0 < type_count types
-  function_index f = lam_index types b _ v.tree v.formed (shape f)
+  function_named : kinds.function ≡ kind s 0 → number s 0 < type_count types
+  function_named = function_index types s b v.tree v.is v.formed
 
-  recursion_index : kinds.recursion ≡ kind s 0 → (number s 0 < type_count types) × (type_kind types (number s 0) ≡ former_kind function)
-  recursion_index f = mu_index types b _ v.tree v.formed (shape f)
+  recursion_named : kinds.recursion ≡ kind s 0 → (number s 0 < type_count types) × (type_kind types (number s 0) ≡ former_kind function)
+  recursion_named = recursion_index types s b v.tree v.is v.formed
 
 pub named-requires : goal.named-requires
 named-requires c =
     let v = c.requires in
-    (long v.tree v.is, within _ _ (function_index v c.in-Function.ensures))
+    (long v.tree v.is, within _ _ (function_named v c.in-Function.ensures))
 
 pub bind-requires : goal.bind-requires
 bind-requires c =
     let v = c.requires in
-    (named v.table (function_index v c.in-Function.ensures) c.named.ensures, level v)
+    (named v.table (function_named v c.in-Function.ensures) c.named.ensures, level v)
 
 pub returns-in-Function : goal.returns-in-Function
 unfolding before_first first_context
 returns-in-Function c v =
     let e = shape v c.in-Function.ensures in
     enters_as (sym (asks v e (properties_of c.args.groups.now))) (context v e)
-    (c.bind.ensures v.ctx _ (named_slot v.table (function_index v c.in-Function.ensures) c.named.ensures) v.binders v.holds)
+    (c.bind.ensures v.ctx _ (named_slot v.table (function_named v c.in-Function.ensures) c.named.ensures) v.binders v.holds)
 
 pub named-t-requires : goal.named-t-requires
 named-t-requires c =
     let v = c.requires in
-    (long v.tree v.is, within _ _ (recursion_index v c.in-Recursion.ensures).0)
+    (long v.tree v.is, within _ _ (recursion_named v c.in-Recursion.ensures).0)
 
 pub may_recur-asked-requires : goal.may_recur-asked-requires
 may_recur-asked-requires c =
     let v = c.requires in
-    let m = recursion_index v c.in-Recursion.ensures in
+    let m = recursion_named v c.in-Recursion.ensures in
     let p = named_sided v.table m.0 m.1 c.named-t.ensures in
     record { type = p.type; held = p.slot.held; two = p.two }
 
 pub bind-requires-in-Recursion : goal.bind-requires-in-Recursion
 bind-requires-in-Recursion c =
     let v = c.requires in
-    (named v.table (recursion_index v c.in-Recursion.ensures).0 c.named-t.ensures, level v)
+    (named v.table (recursion_named v c.in-Recursion.ensures).0 c.named-t.ensures, level v)
 
 pub returns-in-Recursion : goal.returns-in-Recursion
 unfolding first_context before_first
 returns-in-Recursion c v =
     let e = shape v c.in-Recursion.ensures in
     let t = type_at c.args.types.now (number c.args.s.now 0) in
-    let h = named_slot v.table (recursion_index v c.in-Recursion.ensures).0 c.named-t.ensures in
+    let h = named_slot v.table (recursion_named v c.in-Recursion.ensures).0 c.named-t.ensures in
     let S = properties_of c.args.groups.now in
     enters_as
     (c.may_recur-asked.ensures t h.held ∙ ap (may_recur S c.args.place t) c.reader.ensures ∙ sym (asks v e S)) (context v e)

@@ -1,15 +1,14 @@
 -- The walk writes the common type over the first, or the two are apart.
-use Rattle.std.proofs.Common.{ℕ, ◌+◌, ◌*◌, ◌≤◌, Option, length, ok_or, refl, ap, arith}
+use Rattle.std.proofs.Common.{ℕ, ◌≤◌, Option, length, ok_or, refl, ap, arith}
 use Rattle.std.proofs.Math.Option as math
 use Rattle.calculus.specs.Types.{Ty, size_t, type_limit}
 use Rattle.rules.specs.Answer.{Bytes}
-use Rattle.rules.specs.Limits.{answer_length}
 use Rattle.rules.specs.Typing.{found_or}
 use Rattle.answer.specs.declared.Question.TheVariants.{CommonType}
 use Rattle.common_types.specs.Walks.{TwoTypes, Walked}
 use Rattle.types.proofs.Parts.{type_length}
-use Rattle.inference.specs.Memory.{Both, Meets, finds, refuses}
-use Rattle.inference.proofs.Regions.{wrote_first}
+use Rattle.inference.specs.Memory.{Both, Gives, refuses}
+use Rattle.inference.proofs.Regions.{written}
 use Rattle.inference.proofs.common_type.Goals as goal
 
 abbrev two_types : {w : Bytes} → Both w → TwoTypes w 0 type_limit
@@ -23,10 +22,10 @@ two_types v =
     }
 
 -- what is found, by whether there is a common type
-found : (o : math.Option Ty) (place : ℕ) {s : Ty} {b : ℕ} {w w' : Bytes} {x : Option ℕ} → Walked o s 0 w x w' → answer_length * (b + 1) ≤ length w → size_t s ≤ type_limit
-    → Meets (found_or place o) b w (ok_or x (record { question = CommonType; place = place })) w'
-found math.none place h l m = rw h.says refuses
-found (math.some u) place h l m = rw h.says (finds (wrote_first refl (omega (arith, ap length (h.is u refl), type_length u, h.within)) (h.is u refl) l h.wrote))
+found : (o : math.Option Ty) (place : ℕ) {s : Ty} {w w' : Bytes} {x : Option ℕ} → Walked o s 0 w x w' → size_t s ≤ type_limit
+    → Gives (found_or place o) w (ok_or x (record { question = CommonType; place = place })) w'
+found math.none place h m = λ b l. rw h.says refuses
+found (math.some u) place h m = rw h.says (written refl (omega (arith, ap length (h.is u refl), type_length u, h.within)) (h.is u refl) h.wrote)
 
 pub returns : goal.returns
-returns c v b l = rw c.ok_or.ensures.value (found _ _ (c.common.ensures (two_types v)) l v.slot.small)
+returns c v = rw c.ok_or.ensures.value (found _ _ (c.common.ensures (two_types v)) v.slot.small)

@@ -7,9 +7,8 @@ use Rattle.rules.specs.Answer.{Bytes}
 use Rattle.rules.specs.Types.{type_record, encode_type}
 use Rattle.lattice.specs.Said.{said_property}
 use Rattle.inference.specs.Operands.{Formed}
-use Rattle.inference.specs.Memory.{finds}
 use Rattle.inference.specs.Stages.{leaf_type}
-use Rattle.inference.proofs.Regions.{wrote_first}
+use Rattle.inference.proofs.Regions.{written}
 use Rattle.inference.proofs.Shapes.{arity_of, unit_left, of_fields}
 use Rattle.inference.proofs.Rules.{meets_of}
 use Rattle.inference.proofs.leaf.Goals as goal
@@ -52,4 +51,4 @@ returns-in_default c v =
     let z = unit_left _ (arity_of v.tree v.is f ∙ v.leaf) c.in_default.not-Variable in
     let e = of_fields c.args.s.now v.tree _ v.is (sym z ∙ f) c.property.ensures refl in
     meets_of (ap (leaf_type v.ctx) e)
-    (finds (wrote_first (unit_size k) (omega (arith, unit_size k)) (sym (unit_bytes k)) v.room c.put.ensures))
+    (written (unit_size k) (omega (arith, unit_size k)) (sym (unit_bytes k)) c.put.ensures c.args.b v.room)

@@ -1,30 +1,32 @@
 -- Question 20 by the first record's kind, question 21 by its readers.
-use Rattle.std.proofs.Common.{◌≡◌, refl, sym, ap, ◌∙◌, rules, arith}
+use Rattle.std.proofs.Common.{◌≡◌, sym, ap, ap₂, ◌∙◌, eqb}
+use Rattle.calculus.specs.Types.{Former, Ty}
 use Rattle.rules.specs.Answer.{ask}
 use Rattle.rules.specs.Groups.{properties_of, leq}
+use Rattle.rules.specs.Types.{former_kind}
+use Rattle.rules.specs.Typing.{q20, q21}
+use Rattle.answer.proofs.Passed.{then_asked, left_by}
 use Rattle.types.specs.Kinds.{kind_number}
-use Rattle.types.specs.declared.Kind.{Kind}
-use Rattle.types.specs.declared.Kind.TheVariants.{Unit, Sum, Pair, Function}
-use Rattle.types.specs.contracts.Kind.{the_type}
-use Rattle.inference.proofs.Rules.{reads_20, reads_21}
+use Rattle.types.specs.Held.{Held}
+use Rattle.types.proofs.Numbered.{tests_numbers, eqb_comm}
+use Rattle.inference.proofs.Rules.{form_is}
 use Rattle.inference.proofs.may_read.Goals as goal
-use denote.Enum.Bare.{differs_true, differs_false}
+use Rattle.inference.proofs.may_read.Goals.{After-ask}
 
--- kinds of one number are the same
-one_kind : (j k : Kind) → kind_number j ≡ kind_number k → j ≡ k
-one_kind Unit Unit e = refl
-one_kind Sum Sum e = refl
-one_kind Pair Pair e = refl
-one_kind Function Function e = refl
-one_kind j k e = absurd (omega arith)
+-- question 20, as the code asks it
+asked_20 : (c : After-ask) (f : Former) (t : Ty) → kind_number c.args.former ≡ former_kind f → Held c.args.w.now t
+    → ask 20 c.args.place c.eq.result ≡ q20 c.args.place f t
+asked_20 c f t e h =
+    ap (ask 20 c.args.place)
+    (c.eq.ensures ∙ tests_numbers _ _ ∙ ap₂ eqb (c.kind_of.ensures t h) e ∙ eqb_comm _ _ ∙ sym (form_is f t))
 
-pub returns-then-ne : goal.returns-then-ne
-returns-then-ne c f t e h =
-    let differ = differs_true the_type _ _ (sym c.ne.ensures ∙ c.if-ne.true) in
-    sym (reads_20 (properties_of c.args.groups.now) c.args.place f t c.args.r.0 (λ z. differ (one_kind _ _ (c.kind_of.ensures t h ∙ z ∙ sym e))))
+pub returns-in_err-ask : goal.returns-in_err-ask
+returns-in_err-ask c f t e h =
+    left_by (q20 c.args.place f t) (q21 (properties_of c.args.groups.now) c.args.place t c.args.r.0) _ _
+    (c.in_err-ask.ensures ∙ asked_20 (goal.at.returns-in_err-ask c).After-ask f t e h) c.from_residual.ensures.1
 
 pub returns : goal.returns
 returns c f t e h =
-    let same = differs_false the_type (search rules) _ _ (sym c.ne.ensures ∙ c.if-ne.false) in
-    c.ask.ensures ∙ ap (ask 21 c.args.place) (c.at_or_below.ensures ∙ ap (λ r. leq c.args.groups.now r c.args.r.0) (c.reader-own.ensures t h))
-    ∙ sym (reads_21 (properties_of c.args.groups.now) c.args.place f t c.args.r.0 (sym (c.kind_of.ensures t h) ∙ ap kind_number same ∙ e))
+    then_asked (q20 c.args.place f t) (q21 (properties_of c.args.groups.now) c.args.place t c.args.r.0)
+    (c.in_ok-ask.ensures ∙ asked_20 (goal.at.returns c).After-ask f t e h)
+    (c.ask-2.ensures ∙ ap (ask 21 c.args.place) (c.at_or_below.ensures ∙ ap (λ r. leq c.args.groups.now r c.args.r.0) (c.reader-own.ensures t h)))

@@ -9,7 +9,7 @@ use Rattle.inference.proofs.Rules.{read_two, passed, stopped}
 use Rattle.inference.proofs.project.Goals as goal
 
 pub returns-in_err-may_read : goal.returns-in_err-may_read
-returns-in_err-may_read c t b h l =
+returns-in_err-may_read c t h =
     stopped (accepted (reads (properties_of c.args.groups.now) t c.args.r.0 (side_of (said_side c.args.side) t))) _ (c.in_err-may_read.ensures product t refl h.held) c.from_residual.ensures.1
 
 pub read_side-requires : goal.read_side-requires
@@ -19,4 +19,4 @@ read_side-requires c =
     (record { type = p.type; held = p.held; two = two }, c.requires.1)
 
 pub returns : goal.returns
-returns c t b h l = passed (c.in_ok-may_read.ensures product t refl h.held) (c.read_side.ensures t b h l)
+returns c t h = passed (c.in_ok-may_read.ensures product t refl h.held) (c.read_side.ensures t h)

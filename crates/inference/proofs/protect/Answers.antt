@@ -5,7 +5,7 @@ use Rattle.inference.proofs.Rules.{raise_wrote, unchanged}
 use Rattle.inference.proofs.protect.Goals as goal
 
 pub returns : goal.returns
-returns c = λ t b h l.
+returns c = λ t h b l.
     let a = c.args in
     let raised = c.raise.ensures in
     finds (raise_wrote (properties_of a.groups.now) (said_influence a.by) (unchanged h) (raised.0 t h.held) raised.1 l)

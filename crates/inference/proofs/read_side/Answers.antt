@@ -8,8 +8,9 @@ use Rattle.lattice.specs.Said.{said_influence}
 use Rattle.inference.specs.Memory.{Slot, Wrote, finds}
 use Rattle.inference.specs.Sides.{said_side}
 use Rattle.inference.specs.Stages.{side_of}
-use Rattle.inference.proofs.Front.{side_small, two_of}
+use Rattle.inference.proofs.Front.{side_small}
 use Rattle.inference.proofs.Regions.{front_held, wrote_first}
+use Rattle.types.proofs.Parts.{two_of}
 use Rattle.inference.proofs.Rules.{raise_wrote}
 use Rattle.inference.proofs.read_side.Goals as goal
 
@@ -34,9 +35,9 @@ returns c =
     let slot : (t : Ty) → Slot W t → Slot (drop c.side_at-from.result W) (side t) = λ t h. let p = c.requires.0 in
     record {
       held = c.side_at-from.ensures t h.held;
-      small = omega (arith, h.small, side_small (said_side c.args.side) t (two_of p.held p.two h.held));
+      small = omega (arith, h.small, side_small (said_side c.args.side) t (two_of p t h.held));
     } in
-    λ t b h l.
+    λ t h b l.
     let S = properties_of c.args.groups.now in
     let u = side t in
     let k = slot t h in

@@ -10,7 +10,7 @@ use Rattle.types.specs.Held.{Held}
 use Rattle.inference.specs.Memory.{Both}
 use Rattle.inference.specs.Stages.{Branches}
 use Rattle.inference.proofs.Names.{within, named, owns}
-use Rattle.inference.proofs.Rules.{result_own, meets_of}
+use Rattle.inference.proofs.Rules.{result_own, gives_of}
 use Rattle.inference.proofs.result_type.Goals as goal
 
 module _ {types s w : Bytes} (v : Branches types s w) where
@@ -32,12 +32,12 @@ module _ {types s w : Bytes} (v : Branches types s w) where
   own_is f e = sym (owns v.node) ∙ sym f ∙ e
 
 pub returns-then-finds_own : goal.returns-then-finds_own
-returns-then-finds_own c v b l =
+returns-then-finds_own c v =
     let f = c.finds_own.ensures in
     let q = c.if-finds_own.true in
-    meets_of
+    gives_of
     (result_own (properties_of c.args.groups.now) c.args.place (type_at c.args.types.now) (number c.args.s.now 0) v.first v.second (own_is v f q))
-    (c.common_type.ensures (both v (sym f ∙ q)) b l)
+    (c.common_type.ensures (both v (sym f ∙ q)))
 
 pub named-requires : goal.named-requires
 named-requires c =

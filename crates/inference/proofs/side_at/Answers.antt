@@ -4,7 +4,8 @@ use Rattle.calculus.specs.Types.{size_t}
 use Rattle.rules.specs.Answer.{Bytes}
 use Rattle.rules.specs.Limits.{type_width}
 use Rattle.types.specs.Held.{Sided, left_of}
-use Rattle.inference.proofs.Front.{held_within, held_left, held_right, two_of}
+use Rattle.inference.proofs.Front.{held_within, held_left, held_right}
+use Rattle.types.proofs.Parts.{two_of}
 use Rattle.inference.proofs.side_at.Goals as goal
 
 fits : {l : Bytes} {n : ℕ} (p : Sided l) → n ≡ size_t (left_of p.type) → type_width + type_width * n ≤ length l
@@ -25,7 +26,7 @@ overflow_add-result c =
 
 pub returns-in-Second : goal.returns-in-Second
 returns-in-Second c t h =
-    rw c.in-Second.is (held_right t (two_of c.requires.held c.requires.two h) h c.type_records.result (c.type_records.ensures _ (c.left_side.ensures.0 t h)))
+    rw c.in-Second.is (held_right t (two_of c.requires t h) h c.type_records.result (c.type_records.ensures _ (c.left_side.ensures.0 t h)))
 
 pub returns-in-First : goal.returns-in-First
-returns-in-First c t h = rw c.in-First.is (held_left t (two_of c.requires.held c.requires.two h) h)
+returns-in-First c t h = rw c.in-First.is (held_left t (two_of c.requires t h) h)

@@ -1,8 +1,7 @@
 -- The type in the variable's slot is moved to the front.
 use Rattle.std.proofs.Common.{refl, arith, get_or}
 use Rattle.rules.specs.Types.{no_type}
-use Rattle.inference.specs.Memory.{finds}
-use Rattle.inference.proofs.Regions.{slot_at, wrote_first}
+use Rattle.inference.proofs.Regions.{slot_at, written}
 use Rattle.inference.proofs.variable.Goals as goal
 
 pub move_type-requires : goal.move_type-requires
@@ -17,4 +16,4 @@ returns c Γ l h =
     let a = c.args in
     let q = slot_at a.i a.b a.w.now Γ l h c.requires.below (omega (arith, c.requires.room)) in
     let m = c.move_type.ensures (get_or Γ a.i no_type) q.held in
-    finds (wrote_first m.0 q.small refl c.requires.room m.1)
+    written m.0 q.small refl m.1 a.b c.requires.room
