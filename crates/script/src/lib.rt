@@ -3,7 +3,7 @@
 #![tactic(auto)]
 
 ghost use Rattle.std.specs.Prelude.{◌≡◌, ◌<◌, ltb};
-ghost use Rattle.rules.specs.Script.{records, kind, is_object, ok14, ok15, ok36_object, ok16, q13, q14, q15, q36_objects, q16, q17};
+ghost use Rattle.rules.specs.Script.{records, kind, is_object, ok14, ok15, ok36_object, ok16, q13_of, q13, q14, q15, q36_objects, q16, q17};
 ghost use Rattle.rules.specs.Types.{type_count};
 ghost use Rattle.answer.specs.Said.{said};
 
@@ -12,13 +12,21 @@ use records::{Kind, SCRIPT_WIDTH};
 
 pub const SCRIPT_LIMIT: usize = 8192;
 
-// 13. Whole records, 1 to 8,192, and within the buffers of these lengths? A run has two, other calls none.
+// 13. Whole records, 1 to 8,192, and within the buffers of these lengths? A run has two, other calls none. Records of an earlier form
+// have another width.
+pub fn question_13_of(script: &[u8], width: usize, buffers: &[usize]) -> Checked
+    requires { 0 < width }
+    ensures { said result ≡ q13_of width buffers.now script.now }
+{
+    let whole = answer::whole(script.len(), width, SCRIPT_LIMIT);
+    let fits = buffers.iter().all(|room| script.len() <= *room);
+    answer::ask(Question::ScriptLength, 0, whole & fits)
+}
+
 pub fn question_13(script: &[u8], buffers: &[usize]) -> Checked
     ensures { said result ≡ q13 buffers.now script.now }
 {
-    let whole = answer::whole(script.len(), SCRIPT_WIDTH, SCRIPT_LIMIT);
-    let fits = buffers.iter().all(|room| script.len() <= *room);
-    answer::ask(Question::ScriptLength, 0, whole & fits)
+    question_13_of(script, SCRIPT_WIDTH, buffers)
 }
 
 // Is the kind of record i at most 11, and are its unnamed fields 0?

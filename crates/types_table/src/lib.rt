@@ -5,7 +5,7 @@
 ghost use Rattle.std.specs.Prelude.{◌≡◌, cond, ◌&&◌, ◌+◌, ◌-◌, ◌≤◌, ◌<◌, eqb, leb, ltb};
 ghost use Rattle.calculus.specs.Types.{type_limit};
 ghost use Rattle.rules.specs.Answer.{◌⇒◌};
-ghost use Rattle.rules.specs.Types.{type_count, type_kind, sides, ok9, q8, q9, q10, q36_types, q11, q12};
+ghost use Rattle.rules.specs.Types.{type_count, type_kind, sides, ok9, q8_of, q8, q9, q10, q36_types, q11, q12};
 ghost use Rattle.rules.specs.Comparison.{comparison_number};
 ghost use Rattle.rules.specs.Calls.{types_check, comparing};
 ghost use Rattle.answer.specs.Said.{said};
@@ -34,15 +34,22 @@ impl Comparison {
     }
 }
 
-// 8. Whole records, 1 to 4,096?
-pub fn question_8(types: &[u8]) -> Checked
-    ensures { said result ≡ q8 types.now }
+// 8. Whole records, 1 to 4,096? Records of an earlier form have another width.
+pub fn question_8_of(types: &[u8], width: usize) -> Checked
+    requires { 0 < width }
+    ensures { said result ≡ q8_of width types.now }
 {
     answer::ask(
         Question::TypesLength,
         0,
-        answer::whole(types.len(), TYPE_WIDTH, TABLE_LIMIT),
+        answer::whole(types.len(), width, TABLE_LIMIT),
     )
+}
+
+pub fn question_8(types: &[u8]) -> Checked
+    ensures { said result ≡ q8 types.now }
+{
+    question_8_of(types, TYPE_WIDTH)
 }
 
 // Are the groups of a property in the table, which has n?
