@@ -82,9 +82,6 @@ module _ (t : Bytes) where
     pub script : write_callers t s₀ ≡ take (old_script_width * i) s ++ write_callers t (drop (old_script_width * i) s)
     pub count : callers_written t s₀ ≡ n + callers_written t (drop (old_script_width * i) s)
 
-  pub none_passed : (s : Bytes) → Passed s s 0 0
-  none_passed s = record { script = refl; count = omega arith }
-
   pub one_more : {s₀ s s' : Bytes} {i n : ℕ} {b : Bool} → i < old_records s → WrittenAt t s i b s' → Passed s₀ s i n → Passed s₀ s' (i + 1) (n + bool_byte b)
   one_more {s₀} {s} {s'} {i} {n} {b} l w p =
       let rest = drop (old_script_width * i) s in

@@ -84,11 +84,6 @@ module _ {width : ℕ} {old w₀ : Bytes} where
   unfolding widened
   none_widened = record { length_kept = refl; bytes = sym (splice_none 0 w₀) }
 
-  -- the next record is there, and so is its room
-  pub next_fits : {i n : ℕ} {w : Bytes} → i < n → width * n ≤ length old → (width + 2) * n ≤ length w₀ → Widens width old w₀ i w
-      → (width * i + width ≤ length old) × ((width + 2) * i + width + 2 ≤ length w)
-  next_fits {i} {n} l long room x = (omega (arith, within width i n l), omega (arith, within (width + 2) i n l, x.length_kept))
-
   -- a record and the two zeros after it
   pub one_widened : {i n : ℕ} {w w1 w2 : Bytes} → i < n → width * n ≤ length old → (width + 2) * n ≤ length w₀ → Widens width old w₀ i w
       → w1 ≡ splice ((width + 2) * i) (take width (drop (width * i) old)) w → w2 ≡ splice ((width + 2) * i + width) (0 ∷ 0 ∷ []) w1 → Widens width old w₀ (i + 1) w2
@@ -111,6 +106,3 @@ module _ {width : ℕ} {old w₀ : Bytes} where
         length_kept = ap length whole ∙ length_splice 0 (widened width i old ++ (own ++ (0 ∷ 0 ∷ []))) w₀ (omega (arith, ap length all, widened_length width (i + 1) old (omega (arith, next width i, ap (λ m. width * m) p)), next (width + 2) i, ap (λ m. (width + 2) * m) p));
         bytes = whole ∙ ap (λ b. splice 0 b w₀) all;
       }
-
-  pub all_widened : {i n : ℕ} {w : Bytes} → i ≤ n → n ≤ i → Widens width old w₀ i w → w ≡ splice 0 (widened width n old) w₀
-  all_widened {i} {n} l m x = let e : i ≡ n = omega arith in x.bytes ∙ ap (λ k. splice 0 (widened width k old) w₀) e

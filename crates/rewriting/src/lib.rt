@@ -49,8 +49,11 @@ fn number(script: &[u8], i: usize) -> usize
     requires { i < old_records script.now }
     ensures { result ≡ old_number script.now i }
 {
-    usize::from(script[OLD_SCRIPT_WIDTH * i + 4])
-        + 256 * usize::from(script[OLD_SCRIPT_WIDTH * i + 5])
+    let bytes = [
+        script[OLD_SCRIPT_WIDTH * i + 4],
+        script[OLD_SCRIPT_WIDTH * i + 5],
+    ];
+    usize::from(u16::from_le_bytes(bytes))
 }
 
 fn reader(types: &[u8], i: usize) -> Reader
@@ -101,9 +104,10 @@ fn widen(old: &[u8], width: usize, count: usize, wide: &mut [u8])
 {
     let creators = [0u8; CREATORS];
     for i in 0..count {
+        let from = width * i;
         let to = (width + CREATORS) * i;
-        memory::copy_part(old, width * i, width, wide, to);
-        memory::copy_part(&creators, 0, CREATORS, wide, to + width);
+        memory::put(&old[from..from + width], wide, to);
+        memory::put(&creators, wide, to + width);
     }
 }
 
@@ -120,11 +124,7 @@ fn old_types_check(groups: &[u8], types: &[u8], wide: &mut [u8]) -> Checked
     let Ok(()) = a7 else {
         return a7;
     };
-    let a8 = answer::ask(
-        Question::TypesLength,
-        0,
-        answer::whole(types.len(), OLD_TYPE_WIDTH, TABLE_LIMIT),
-    );
+    let a8 = types_table::question_8_of(types, OLD_TYPE_WIDTH);
     let Ok(()) = a8 else {
         return a8;
     };
@@ -153,11 +153,7 @@ fn old_script_check(
     let Ok(()) = a12 else {
         return a12;
     };
-    let a13 = answer::ask(
-        Question::ScriptLength,
-        0,
-        answer::whole(script.len(), OLD_SCRIPT_WIDTH, SCRIPT_LIMIT),
-    );
+    let a13 = script::question_13_of(script, OLD_SCRIPT_WIDTH, &[]);
     let Ok(()) = a13 else {
         return a13;
     };
@@ -182,13 +178,8 @@ fn hand_over(
         ≡ rewritten_after (fitting (take (width * count) wide.now) (length rewritten.old)) rewritten.old) }
 {
     let n = width * count;
-    if rewritten.len() < n {
-        return Err(Refusal {
-            question: Question::Room,
-            place: 0,
-        });
-    }
-    memory::copy(wide, n, rewritten, 0);
+    answer::ask(Question::Room, 0, n <= rewritten.len())?;
+    memory::put(&wide[..n], rewritten, 0);
     Ok(count)
 }
 

@@ -1,7 +1,7 @@
 -- A scan of numbers: what a walk over a term needs, whichever the question.
 use Rattle.std.proofs.Common.{◌≡◌, refl, ap, sym, ◌∙◌, Bool, true, false, not, List, [], ◌∷◌, ◌++◌, ℕ, suc, ◌+◌, length, get_or, arith}
 use Rattle.std.proofs.Math.Nat.{add-zero, zero-add}
-use Rattle.rules.specs.Answer.{Answer, accepted, refused, ◌>>=◌, first_from, refused_at, each}
+use Rattle.rules.specs.Answer.{Answer, accepted, refused, ask, ◌>>=◌, ◌>>◌, first_from, refused_at, each}
 use Rattle.scope.specs.Walk.{scan}
 
 abbrev pub then : Answer ℕ → (ℕ → Answer ℕ) → Answer ℕ
@@ -16,13 +16,22 @@ pub past_then : (a : Answer ℕ) (j : ℕ) (k : ℕ → Answer ℕ) → a ≡ ac
 past_then a j k e = ap (λ x. then x k) e
 
 module _ (q : ℕ) (ok : ℕ → ℕ → Bool) where
-  pub scan_yes : (i n : ℕ) (ns : List ℕ) → ok i n ≡ true → scan q ok i (n ∷ ns) ≡ scan q ok (suc i) ns
+  scan_yes : (i n : ℕ) (ns : List ℕ) → ok i n ≡ true → scan q ok i (n ∷ ns) ≡ scan q ok (suc i) ns
   unfolding scan
   scan_yes i n ns p = rw (p, scan)
 
-  pub scan_no : (i n : ℕ) (ns : List ℕ) → ok i n ≡ false → scan q ok i (n ∷ ns) ≡ refused q i
+  scan_no : (i n : ℕ) (ns : List ℕ) → ok i n ≡ false → scan q ok i (n ∷ ns) ≡ refused q i
   unfolding scan
   scan_no i n ns p = rw (p, scan)
+
+  -- the first record is asked, and then those after it
+  pub scan_first : (i n : ℕ) (ns : List ℕ) → scan q ok i (n ∷ ns) ≡ ◌>>◌ (ask q i (ok i n)) (scan q ok (suc i) ns)
+  unfolding scan
+  scan_first i n ns = go (ok i n)
+    where
+      go : (b : Bool) → elim b [ true ↦ scan q ok (suc i) ns | false ↦ refused q i ] ≡ ◌>>◌ (ask q i b) (scan q ok (suc i) ns)
+      go true = refl
+      go false = refl
 
   pub scan_nothing : (i : ℕ) → scan q ok i [] ≡ accepted i
   unfolding scan

@@ -1,18 +1,19 @@
 -- A walk over a term, operand by operand: what is scanned, and what is left.
-use Rattle.std.proofs.Common.{◌≡◌, refl, ap, sym, ◌∙◌, Bool, true, false, cond, List, [], ◌∷◌, ◌++◌, ℕ, suc, ◌+◌, get_or, add-one, arith}
+use Rattle.std.proofs.Common.{◌≡◌, refl, ap, sym, ◌∙◌, Bool, true, false, cond, List, [], ◌∷◌, ◌++◌, ℕ, suc, ◌+◌, add-one, arith}
 use Rattle.std.proofs.Math.Nat.{add-zero}
 use Rattle.std.proofs.lemmas.List.{append-nil}
 use Rattle.calculus.specs.Terms.{first, second, Term, var, unit, lam, pair, inj, app, proj, case, protect, mu}
-use Rattle.rules.specs.Answer.{Bytes, Answer, accepted, refused, each}
+use Rattle.rules.specs.Answer.{Bytes, Answer, accepted, refused, ask, ◌>>◌}
 use Rattle.rules.specs.Script.{records, term, encode, size, counts}
 use Rattle.rules.proofs.TermCode.{term_operands}
 use Rattle.rules.proofs.Counts.{counts_length}
+use Rattle.answer.proofs.Passed.{then_asked}
 use Rattle.records.specs.Binders.{binds}
 use Rattle.records.specs.Weight.{weight_of}
 use Rattle.records.proofs.Passing.{Passed, Ahead, started, passed_more, none_left}
 use Rattle.records.proofs.Stands.{kind_of, operands, start_records}
-use Rattle.scope.specs.Walk.{Counted, depth, binders, question, scan, passes, deeper, bound, wide, increment}
-use Rattle.scope.proofs.Scans.{then, past_then, scan_yes, scan_no, scan_nothing, scan_append, scan_end, scan_each, finish}
+use Rattle.scope.specs.Walk.{Counted, depth, binders, question, root, scan, passes, deeper, bound, wide, increment, asked}
+use Rattle.scope.proofs.Scans.{then, past_then, scan_first, scan_nothing, scan_append, scan_end, scan_each, finish}
 
 -- the numbers of the records of `es`, the operands from the j-th on of a record of weight m, kind k and number n
 abbrev numbers : (q : Counted) (m k n j : ℕ) → List Term → List ℕ
@@ -53,23 +54,22 @@ counts_are binders n (mu w i e) = simp (add-one, append-nil)
 abbrev pub scanned : (q : Counted) (s : Bytes) (i n : ℕ) (u : Term) → Answer ℕ
 scanned q s i n u = scan (question q) (passes q s) i (counts (wide q) (deeper q) bound n u)
 
--- the record itself is refused, or passes
-pub refuse : (q : Counted) (s : Bytes) (i n : ℕ) (u : Term) → passes q s i n ≡ false → refused (question q) i ≡ scanned q s i n u
-refuse q s i n u h = sym (ap (scan (question q) (passes q s) i) (counts_are q n u) ∙ scan_no (question q) (passes q s) i n _ h)
+-- the record itself is asked, and then its operands
+pub asked_first : (q : Counted) (s : Bytes) (i n : ℕ) (u : Term)
+    → scanned q s i n u ≡ ◌>>◌ (ask (question q) i (passes q s i n)) (scan (question q) (passes q s) (i + 1) (numbers q (weight_of u) (kind_of u) n 0 (term_operands u)))
+asked_first q s i n u =
+    let p : suc i ≡ i + 1 = omega arith in
+    let ns = numbers q (weight_of u) (kind_of u) n 0 (term_operands u) in
+    ap (scan (question q) (passes q s) i) (counts_are q n u) ∙ scan_first (question q) (passes q s) i n ns
+    ∙ ap (λ x. ◌>>◌ (ask (question q) i (passes q s i n)) (scan (question q) (passes q s) x ns)) p
 
 -- the first j operands of u are scanned, and the next one stands at record `next`
 pub record Reached (q : Counted) (s : Bytes) (i n : ℕ) (u : Term) (j next : ℕ) : Type 0 where
   pub passed : Passed i u j next
   pub goes_on : scanned q s i n u ≡ scan (question q) (passes q s) next (numbers q (weight_of u) (kind_of u) n j passed.after)
 
-pub reach : (q : Counted) (s : Bytes) (i n : ℕ) (u : Term) → passes q s i n ≡ true → Reached q s i n u 0 (i + 1)
-reach q s i n u h =
-    let p : suc i ≡ i + 1 = omega arith in
-    let ns = numbers q (weight_of u) (kind_of u) n 0 (term_operands u) in
-    record {
-      passed = started i u;
-      goes_on = ap (scan (question q) (passes q s) i) (counts_are q n u) ∙ scan_yes (question q) (passes q s) i n ns h ∙ ap (λ x. scan (question q) (passes q s) x ns) p;
-    }
+pub reach : (q : Counted) (s : Bytes) (i n : ℕ) (u : Term) → accepted tt ≡ ask (question q) i (passes q s i n) → Reached q s i n u 0 (i + 1)
+reach q s i n u h = record { passed = started i u; goes_on = asked_first q s i n u ∙ sym (then_asked _ _ h refl) }
 
 module _ {q : Counted} {s : Bytes} {i n : ℕ} {u : Term} {j next : ℕ} (p : Reached q s i n u j next) where
   pub end : j ≡ operands u → accepted next ≡ scanned q s i n u
@@ -101,7 +101,6 @@ module _ {q : Counted} {s : Bytes} {i n : ℕ} {u : Term} {j next : ℕ} (p : Re
         }
 
 -- a walk over the whole script asks each record
-pub whole : (q : Counted) (s : Bytes) (n : ℕ) (o : Answer ℕ) → encode (term s) ≡ s → o ≡ scanned q s 0 n (term s)
-    → finish o ≡ each (question q) (records s) (λ k. passes q s k (get_or (counts (wide q) (deeper q) bound n (term s)) k 0))
-whole q s n o h w =
-    scan_each (question q) (passes q s) o _ (records s) w (start_records s h ∙ sym (counts_length (wide q) (deeper q) bound n (term s)))
+pub whole : (q : Counted) (s : Bytes) (n : ℕ) (o : Answer ℕ) → encode (term s) ≡ s → n ≡ root q → o ≡ scanned q s 0 n (term s) → finish o ≡ asked q s
+whole q s n o h f w =
+    rw (← f) (scan_each (question q) (passes q s) o _ (records s) w (start_records s h ∙ sym (counts_length (wide q) (deeper q) bound n (term s))))

@@ -1,8 +1,8 @@
 -- A walk over a term in script order that carries a number for each record and stops at the first whose number fails a test.
-use Rattle.std.specs.Prelude.{Bool, true, false, List, [], ◌∷◌, ℕ, suc, eqb, leb, ltb}
-use Rattle.rules.specs.Answer.{Bytes, Answer, accepted, refused, ◌⇒◌}
+use Rattle.std.specs.Prelude.{Bool, true, false, List, [], ◌∷◌, ℕ, suc, get_or, eqb, leb, ltb}
+use Rattle.rules.specs.Answer.{Bytes, Answer, accepted, refused, ◌⇒◌, each}
 use Rattle.rules.specs.Limits.{depth_limit}
-use Rattle.rules.specs.Script.{kind, number, widened, unwidened}
+use Rattle.rules.specs.Script.{records, kind, number, term, counts, widened, unwidened}
 use Rattle.records.specs.Kinds as kinds
 use Rattle.records.specs.Binders.{binds}
 
@@ -19,6 +19,11 @@ pub data Counted : Type 0 where
 abbrev pub question : Counted → ℕ
 question depth = 18
 question binders = 19
+
+-- the number of a script's first record
+abbrev pub root : Counted → ℕ
+root depth = 1
+root binders = 0
 
 -- question 18 of a record at depth n, and question 19 of record i under n binders
 abbrev pub passes : Counted → Bytes → ℕ → ℕ → Bool
@@ -43,3 +48,7 @@ wide binders i n = unwidened i n
 abbrev pub increment : Counted → ℕ → ℕ → ℕ → ℕ
 increment depth weight kind j = weight
 increment binders weight kind j = binds kind j
+
+-- the question of each record of the term that a script is
+abbrev pub asked : Counted → Bytes → Answer (Unit {0})
+asked q s = each (question q) (records s) (λ i. passes q s i (get_or (counts (wide q) (deeper q) bound (root q) (term s)) i 0))

@@ -9,7 +9,7 @@ ghost use Rattle.answer.specs.Numbers.{number};
 ghost use Rattle.answer.specs.Said.{said};
 ghost use Rattle.records.specs.Numbers.{kind_number};
 ghost use Rattle.records.specs.Place.{At, Here};
-ghost use Rattle.scope.specs.Walk.{Counted, depth, binders, scan, question, passes, deeper, bound, wide, increment};
+ghost use Rattle.scope.specs.Walk.{Counted, depth, binders, scan, question, root, passes, deeper, bound, wide, increment, asked};
 
 use answer::{Checked, Question, Refusal};
 use records::Kind;
@@ -22,6 +22,10 @@ trait Count {
 
     fn question() -> Question
         ensures { number result ≡ question counted };
+
+    // The number of a script's first record.
+    fn root() -> usize
+        ensures { (result ≡ root counted) × (result ≤ 1) };
 
     // The answer for record i, whose number is n.
     fn passes(script: &[u8], i: usize, n: usize) -> bool
@@ -44,6 +48,10 @@ impl Count for Depth {
         Question::Depth
     }
 
+    fn root() -> usize {
+        1
+    }
+
     fn passes(_script: &[u8], _i: usize, n: usize) -> bool {
         n <= DEPTH_LIMIT
     }
@@ -61,6 +69,10 @@ impl Count for Binders {
 
     fn question() -> Question {
         Question::Scope
+    }
+
+    fn root() -> usize {
+        0
     }
 
     fn passes(script: &[u8], i: usize, n: usize) -> bool {
@@ -83,12 +95,7 @@ fn walk<C: Count>(script: &[u8], i: usize, n: usize) -> Result<usize, Refusal>
     ensures { (e : Term) → At script.now i e
         → said result ≡ scan (question C.counted) (passes C.counted script.now) i (counts (wide C.counted) (deeper C.counted) bound n e) }
 {
-    if !C::passes(script, i, n) {
-        return Err(Refusal {
-            question: C::question(),
-            place: i,
-        });
-    }
+    answer::ask(C::question(), i, C::passes(script, i, n))?;
     let weight = records::weight(script, i);
     let kind = records::kind_of(script, i);
     let mut next = i + 1;
@@ -98,20 +105,29 @@ fn walk<C: Count>(script: &[u8], i: usize, n: usize) -> Result<usize, Refusal>
     Ok(next)
 }
 
+// The question of a count, asked of each record of the script.
+fn asked<C: Count>(script: &[u8]) -> Checked
+    requires { encode (term script.now) ≡ script.now }
+    ensures { said result ≡ asked C.counted script.now }
+{
+    walk::<C>(script, 0, C::root())?;
+    Ok(())
+}
+
 // 18. Depth at most 256?
+#[tactic(auto, unfolding(rules::specs::Script::ok18))]
 pub fn question_18(script: &[u8]) -> Checked
     requires { encode (term script.now) ≡ script.now }
     ensures { said result ≡ q18 script.now }
 {
-    walk::<Depth>(script, 0, 1)?;
-    Ok(())
+    asked::<Depth>(script)
 }
 
 // 19. Variable's number below its count of binders?
+#[tactic(auto, unfolding(rules::specs::Script::ok19))]
 pub fn question_19(script: &[u8]) -> Checked
     requires { encode (term script.now) ≡ script.now }
     ensures { said result ≡ q19 script.now }
 {
-    walk::<Binders>(script, 0, 0)?;
-    Ok(())
+    asked::<Binders>(script)
 }

@@ -1,10 +1,10 @@
 -- Question 13: the lengths of a run's buffers, and a script that fits them.
-use Rattle.std.proofs.Common.{◌≡◌, refl, ap, sym, ◌∙◌, ℕ, suc, ◌+◌, ◌%◌, Bool, true, false, not, ◌&&◌, List, [], ◌∷◌, length, get_or, eqb, leb, arith}
+use Rattle.std.proofs.Common.{◌≡◌, refl, ap, sym, ◌∙◌, ℕ, suc, ◌+◌, ◌/◌, ◌%◌, Bool, true, false, not, ◌&&◌, List, [], ◌∷◌, length, get_or, eqb, leb, arith}
 use Rattle.std.specs.List.{list_all}
 use Rattle.std.proofs.Math.Bool.{and_assoc}
 use Rattle.rules.specs.Answer.{Bytes, ask, accepted, first_from, is_none, all_below}
 use Rattle.rules.specs.Limits.{script_width, script_limit}
-use Rattle.rules.specs.Script.{records, q13}
+use Rattle.rules.specs.Script.{q13_of, q13}
 use Rattle.rules.proofs.Asked.{ask_true}
 
 -- a test of all elements is one of all indexes
@@ -25,13 +25,14 @@ from test (x ∷ xs) at i h = go (test x) refl (from test xs at (suc i) (λ k. l
 pub all_rooms : (rooms : List ℕ) (n : ℕ) → list_all (leb n) rooms ≡ all_below (λ i. leb n (get_or rooms i 0)) (length rooms)
 all_rooms rooms n = from (leb n) rooms (λ i. get_or rooms i 0) 0 (λ k. let p : 0 + k ≡ k = omega arith in ap (λ j. get_or rooms j 0) p)
 
--- whole records, 1 to 8,192
-abbrev pub whole_records : Bytes → Bool
-whole_records s = eqb (length s % script_width) 0 && (leb 1 (records s) && leb (records s) script_limit)
+-- whole records of this width, 1 to 8,192
+abbrev pub whole_records : ℕ → Bytes → Bool
+whole_records width s = eqb (length s % width) 0 && (leb 1 (length s / width) && leb (length s / width) script_limit)
 
-pub asked : (rooms : List ℕ) (s : Bytes) {w f : Bool} → w ≡ whole_records s → f ≡ list_all (leb (length s)) rooms → ask 13 0 (w && f) ≡ q13 rooms s
+pub asked : (width : ℕ) (rooms : List ℕ) (s : Bytes) {w f : Bool} → w ≡ whole_records width s → f ≡ list_all (leb (length s)) rooms
+    → ask 13 0 (w && f) ≡ q13_of width rooms s
 unfolding first_from
-asked rooms s ew ef = rw (ew, ef, all_rooms rooms (length s)) (ap (ask 13 0) (simp and_assoc))
+asked width rooms s ew ef = rw (ew, ef, all_rooms rooms (length s)) (ap (ask 13 0) (simp and_assoc))
 
 and_first : (a b : Bool) → (a && b) ≡ true → a ≡ true
 and_first true b e = refl
@@ -41,5 +42,5 @@ and_first false b e = e
 pub alone : (rooms : List ℕ) (s : Bytes) → q13 rooms s ≡ accepted tt → q13 [] s ≡ accepted tt
 alone rooms s e =
     let f = list_all (leb (length s)) rooms in
-    let w : whole_records s ≡ true = and_first (whole_records s) f (ask_true 13 0 _ (asked rooms s refl refl ∙ e)) in
-    sym (asked [] s refl refl) ∙ ap (λ b. ask 13 0 (b && true)) w
+    let w : whole_records script_width s ≡ true = and_first (whole_records script_width s) f (ask_true 13 0 _ (asked script_width rooms s refl refl ∙ e)) in
+    sym (asked script_width [] s refl refl) ∙ ap (λ b. ask 13 0 (b && true)) w

@@ -2,24 +2,31 @@
 
 #![tactic(auto)]
 
-ghost use Rattle.std.specs.Prelude.{◌≡◌, ◌&&◌, ◌<◌, eqb, ltb};
-ghost use Rattle.rules.specs.Script.{records, kind, is_object, ok14, ok15, ok36_object, ok16, q13, q14, q15, q36_objects, q16, q17};
-ghost use Rattle.rules.specs.Types.{type_count, type_kind};
+ghost use Rattle.std.specs.Prelude.{◌≡◌, ◌<◌, ltb};
+ghost use Rattle.rules.specs.Script.{records, kind, is_object, ok14, ok15, ok36_object, ok16, q13_of, q13, q14, q15, q36_objects, q16, q17};
+ghost use Rattle.rules.specs.Types.{type_count};
 ghost use Rattle.answer.specs.Said.{said};
-ghost use Rattle.types.specs.Kinds.{kind_number};
 
-use answer::{Checked, Question, Refusal};
+use answer::{Checked, Question};
 use records::{Kind, SCRIPT_WIDTH};
 
 pub const SCRIPT_LIMIT: usize = 8192;
 
-// 13. Whole records, 1 to 8,192, and within the buffers of these lengths? A run has two, other calls none.
+// 13. Whole records, 1 to 8,192, and within the buffers of these lengths? A run has two, other calls none. Records of an earlier form
+// have another width.
+pub fn question_13_of(script: &[u8], width: usize, buffers: &[usize]) -> Checked
+    requires { 0 < width }
+    ensures { said result ≡ q13_of width buffers.now script.now }
+{
+    let whole = answer::whole(script.len(), width, SCRIPT_LIMIT);
+    let fits = buffers.iter().all(|room| script.len() <= *room);
+    answer::ask(Question::ScriptLength, 0, whole & fits)
+}
+
 pub fn question_13(script: &[u8], buffers: &[usize]) -> Checked
     ensures { said result ≡ q13 buffers.now script.now }
 {
-    let whole = answer::whole(script.len(), SCRIPT_WIDTH, SCRIPT_LIMIT);
-    let fits = buffers.iter().all(|room| script.len() <= *room);
-    answer::ask(Question::ScriptLength, 0, whole & fits)
+    question_13_of(script, SCRIPT_WIDTH, buffers)
 }
 
 // Is the kind of record i at most 11, and are its unnamed fields 0?
@@ -118,13 +125,6 @@ fn exists(types: &[u8], n: usize) -> bool
     n < types::type_count(types)
 }
 
-// Is n a type of the table, and of this kind?
-fn is_of_kind(types: &[u8], n: usize, kind: types::Kind) -> bool
-    ensures { result ≡ (ltb n (type_count types.now) && eqb (type_kind types.now n) (kind_number kind)) }
-{
-    exists(types, n) && types::kind_at(types, n) == Some(kind)
-}
-
 // Does the type that record i names exist, a sum for 4 and 5, a function for 11? A case that finds its own type names none.
 #[tactic(auto, unfolding(rules::specs::Script::ok16, rules::specs::Script::signature_of, rules::specs::Script::signatures))]
 fn type_right(types: &[u8], script: &[u8], i: usize) -> bool
@@ -134,13 +134,13 @@ fn type_right(types: &[u8], script: &[u8], i: usize) -> bool
     let n = usize::from(records::number(script, i));
     match records::kind_at(script, i) {
         Some(Kind::Function) => exists(types, n),
-        Some(Kind::FirstInjection | Kind::SecondInjection) => is_of_kind(
+        Some(Kind::FirstInjection | Kind::SecondInjection) => types::is_of_kind(
             types,
             n,
             types::Kind::Sum,
         ),
         Some(Kind::Case) => records::finds_own(script, i) || exists(types, n),
-        Some(Kind::Recursion) => is_of_kind(types, n, types::Kind::Function),
+        Some(Kind::Recursion) => types::is_of_kind(types, n, types::Kind::Function),
         _ => true,
     }
 }
@@ -156,16 +156,11 @@ pub fn question_16(types: &[u8], script: &[u8]) -> Checked
     )
 }
 
-// 17. Exactly one whole term?
+// 17. Exactly one whole term? The place is where the first one ends, or the script where it is cut short.
 pub fn question_17(script: &[u8]) -> Checked
     ensures { said result ≡ q17 script.now }
 {
     let count = records::record_count(script);
-    match records::term_end(script, 0) {
-        None => Err(Refusal {
-            question: Question::OneTerm,
-            place: count,
-        }),
-        Some(end) => answer::ask(Question::OneTerm, end, end == count),
-    }
+    let end = records::term_end(script, 0);
+    answer::ask(Question::OneTerm, end.unwrap_or(count), end == Some(count))
 }

@@ -1,4 +1,4 @@
-pub mod Pass
+pub mod OnePass
 pub mod Questions
 pub mod Table
 pub mod Fields

@@ -1,6 +1,5 @@
 -- Questions 8 to 12, with 36 after 10, and 25 one after another.
 use Rattle.std.proofs.Common.{◌≡◌, refl, ap, sym, ◌∙◌, ltb-true, ℕ, ◌<◌, ltb, Bool, true, false, cond, Some, None, Result, Err, IsErrAnd}
-use Rattle.std.proofs.lemmas.Result.{err_from_is_err_and}
 use Rattle.calculus.specs.Security.{Security}
 use Rattle.calculus.specs.Types.{Ty, size_t}
 use Rattle.calculus.specs.Subtyping.{subtype}
@@ -12,6 +11,7 @@ use Rattle.rules.specs.Calls.{groups_check, types_check}
 use Rattle.subtyping.specs.Compared.{compared}
 use Rattle.answer.specs.declared.Refusal.{Refusal}
 use Rattle.answer.specs.Said.{said}
+use Rattle.answer.proofs.Passed.{returned, left_by}
 use Rattle.types_table.specs.declared.Comparison as declared
 use Rattle.types_table.specs.Answered.{said_comparison, answered, told}
 use Rattle.rules.proofs.Asked.{ask_true, and_then}
@@ -65,12 +65,10 @@ all_yes g t e =
     let h = and_then (q11 t) (q12 t) f.1 in
     record { to_7 = a.0; to_8 = b.0; to_9 = c.0; to_10 = d.0; to_36 = f.0; to_11 = h.0; to_12 = h.1 }
 
--- a refusal is the comparison's
-pub refused_by : (a : Answer (Unit {0})) (b : Answer Comparison) (e : Refusal) → said {A = Unit {0}} (Err e) ≡ a → answered (Err e) ≡ ◌>>◌ a b
-refused_by a b e h = ap (λ (o : Answer (Unit {0})). ◌>>◌ o b) h
-
-pub passed_on : (r : Result declared.Comparison Refusal) (e : Refusal) → IsErrAnd r (λ x. x ≡ e) → answered r ≡ answered (Err e)
-passed_on r e h = let p = err_from_is_err_and r h in ap answered (p.1 ∙ ap Err p.2)
+-- a refusal that `?` returns is the comparison's
+pub passed_on : (a : Answer (Unit {0})) (b : Answer Comparison) (r : Result declared.Comparison Refusal) (e : Refusal) → said {A = Unit {0}} (Err e) ≡ a → IsErrAnd r (λ x. x ≡ e)
+    → answered r ≡ ◌>>◌ a b
+passed_on a b r e h p = ap answered (returned r p) ∙ left_by a b (Err e) e h refl
 
 -- question 25 of a count that the code has read
 pub counted : {o : Answer (Unit {0})} {n m : ℕ} (place i : ℕ) → n ≡ m → o ≡ ask 25 place (ltb i n) → o ≡ ask 25 place (ltb i m)

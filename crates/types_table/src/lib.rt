@@ -2,9 +2,10 @@
 
 #![tactic(auto)]
 
-ghost use Rattle.std.specs.Prelude.{◌≡◌, cond, ◌&&◌, ◌-◌, ◌≤◌, ◌<◌, eqb, ltb};
+ghost use Rattle.std.specs.Prelude.{◌≡◌, cond, ◌&&◌, ◌+◌, ◌-◌, ◌≤◌, ◌<◌, eqb, leb, ltb};
 ghost use Rattle.calculus.specs.Types.{type_limit};
-ghost use Rattle.rules.specs.Types.{type_count, ok9, q8, q9, q10, q36_types, q11, q12};
+ghost use Rattle.rules.specs.Answer.{◌⇒◌};
+ghost use Rattle.rules.specs.Types.{type_count, type_kind, sides, ok9, q8_of, q8, q9, q10, q36_types, q11, q12};
 ghost use Rattle.rules.specs.Comparison.{comparison_number};
 ghost use Rattle.rules.specs.Calls.{types_check, comparing};
 ghost use Rattle.answer.specs.Said.{said};
@@ -33,15 +34,22 @@ impl Comparison {
     }
 }
 
-// 8. Whole records, 1 to 4,096?
-pub fn question_8(types: &[u8]) -> Checked
-    ensures { said result ≡ q8 types.now }
+// 8. Whole records, 1 to 4,096? Records of an earlier form have another width.
+pub fn question_8_of(types: &[u8], width: usize) -> Checked
+    requires { 0 < width }
+    ensures { said result ≡ q8_of width types.now }
 {
     answer::ask(
         Question::TypesLength,
         0,
-        answer::whole(types.len(), TYPE_WIDTH, TABLE_LIMIT),
+        answer::whole(types.len(), width, TABLE_LIMIT),
     )
+}
+
+pub fn question_8(types: &[u8]) -> Checked
+    ensures { said result ≡ q8 types.now }
+{
+    question_8_of(types, TYPE_WIDTH)
 }
 
 // Are the groups of a property in the table, which has n?
@@ -96,49 +104,53 @@ pub fn question_36(groups: &[u8], types: &[u8]) -> Checked
     })
 }
 
-// The start of the outermost type that record i belongs to.
-fn start_of(pending: usize, start: usize, i: usize) -> usize
-    ensures { result ≡ cond (eqb pending 0) i start }
-{
-    if pending == 0 { i } else { start }
+// One pass over a types table: where the outermost type that it is in starts, and how many of that one's sides are still to come.
+#[derive(Clone, Copy, Debug, Default, PartialEq, Eq)]
+struct Pass {
+    start: usize,
+    pending: usize,
+}
+
+impl Pass {
+    // What it is after record i. Where no side was to come, a new type starts there.
+    fn after(self, types: &[u8], i: usize) -> Self
+        requires { (i < type_count types.now) × (self.pending ≤ i + 1) }
+        ensures { (result.start ≡ cond (eqb self.pending 0) i self.start)
+            × (result.pending ≡ (self.pending - 1) + sides (type_kind types.now i)) }
+    {
+        let start = if self.pending == 0 { i } else { self.start };
+        let pending = types::pending_after(types, i, self.pending);
+        Pass { start, pending }
+    }
+
+    // Has the type at most 63 records, if it ends at record `end`?
+    fn is_short(self, end: usize) -> bool
+        requires { self.start ≤ end }
+        ensures { result ≡ (eqb self.pending 0 ⇒ leb (end - self.start) type_limit) }
+    {
+        self.pending != 0 || end - self.start <= TYPE_LIMIT
+    }
 }
 
 // 11. Does the last type end with the table? One pass: an unfinished type would await the records past the end, at any depth.
 pub fn question_11(types: &[u8]) -> Checked
     ensures { said result ≡ q11 types.now }
 {
-    let mut start = 0;
-    let mut pending = 0;
+    let mut pass = Pass::default();
     for i in 0..types::type_count(types) {
-        start = start_of(pending, start, i);
-        pending = types::pending_after(types, i, pending);
+        pass = pass.after(types, i);
     }
-    answer::ask(Question::WholeTypes, start, pending == 0)
-}
-
-// Does a type that starts at `start` end at `end`, having too many records?
-fn too_long(pending: usize, start: usize, end: usize) -> bool
-    requires { start ≤ end }
-    ensures { result ≡ (eqb pending 0 && ltb type_limit (end - start)) }
-{
-    pending == 0 && TYPE_LIMIT < end - start
+    answer::ask(Question::WholeTypes, pass.start, pass.pending == 0)
 }
 
 // 12. Has every type at most 63 records?
 pub fn question_12(types: &[u8]) -> Checked
     ensures { said result ≡ q12 types.now }
 {
-    let mut start = 0;
-    let mut pending = 0;
+    let mut pass = Pass::default();
     for i in 0..types::type_count(types) {
-        start = start_of(pending, start, i);
-        pending = types::pending_after(types, i, pending);
-        if too_long(pending, start, i + 1) {
-            return Err(Refusal {
-                question: Question::TypeLengths,
-                place: start,
-            });
-        }
+        pass = pass.after(types, i);
+        answer::ask(Question::TypeLengths, pass.start, pass.is_short(i + 1))?;
     }
     Ok(())
 }

@@ -1,5 +1,5 @@
 use Rattle.std.proofs.Common.{ap, ◌∙◌}
-use Rattle.rules.specs.Answer.{◌>>◌, ask}
+use Rattle.rules.specs.Answer.{◌>>◌}
 use Rattle.rules.specs.Limits.{old_type_width}
 use Rattle.rules.specs.Types.{q8_of}
 use Rattle.rules.specs.Calls.{groups_check, types_check}
@@ -16,7 +16,7 @@ returns-clause-asked c =
     let t = c.args.types.now in
     let w = c.args.wide.now in
     then_asked (groups_check g) (◌>>◌ (q8_of old_type_width t) (types_check g (widen_types t))) c.in-Ok.ensures
-    (then_asked (q8_of old_type_width t) (types_check g (widen_types t)) (c.in-Ok-a8.ensures ∙ ap (ask 8 0) c.whole.ensures)
+    (then_asked (q8_of old_type_width t) (types_check g (widen_types t)) c.in-Ok-a8.ensures
     (c.types_check.ensures ∙ ap (types_check g) (types_front t w (types_written t w c.widen.ensures))))
 
 pub returns-clause-written : goal.returns-clause-written

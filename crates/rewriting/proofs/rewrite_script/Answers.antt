@@ -1,9 +1,10 @@
 -- A refusal is the answer; after a yes the records are handed over.
 use Rattle.std.proofs.Common.{length, refl, sym, ap, arith}
-use Rattle.std.proofs.lemmas.Result.{err_from_is_err_and}
 use Rattle.rules.specs.Answer.{Bytes}
 use Rattle.rules.specs.Limits.{script_width}
 use Rattle.rules.specs.Rewriting.{widen_script, old_script_check}
+use Rattle.answer.specs.Said.{said}
+use Rattle.answer.proofs.Passed.{returned}
 use Rattle.rewriting.specs.Widened.{fitting}
 use Rattle.rewriting.proofs.Asked.{refused_delivered, delivered, rewriting_script_is, few_records, script_front}
 use Rattle.rewriting.proofs.rewrite_script.Goals as goal
@@ -14,9 +15,7 @@ returns-in_err-old_script_check c =
     let t = c.args.types.now in
     let s = c.args.script.now in
     let w = c.args.rewritten.now in
-    let e = err_from_is_err_and c.from_residual.result c.from_residual.ensures.1 in
-    rw (e.1, e.2)
-    (refused_delivered script_width (old_script_check g t s) (fitting (widen_script s) (length w)) w c.in_err-old_script_check.ensures.asked (rewriting_script_is g t s (length w)) refl)
+    refused_delivered script_width (old_script_check g t s) (fitting (widen_script s) (length w)) w c.in_err-old_script_check.ensures.asked (rewriting_script_is g t s (length w)) (ap said (returned _ c.from_residual.ensures.1))
 
 pub hand_over-requires : goal.hand_over-requires
 hand_over-requires c =

@@ -1,9 +1,10 @@
 -- A refusal is the answer; after a yes the records are handed over.
 use Rattle.std.proofs.Common.{length, refl, sym, ap, arith}
-use Rattle.std.proofs.lemmas.Result.{err_from_is_err_and}
 use Rattle.rules.specs.Answer.{Bytes}
 use Rattle.rules.specs.Limits.{type_width}
 use Rattle.rules.specs.Rewriting.{widen_types, old_types_check}
+use Rattle.answer.specs.Said.{said}
+use Rattle.answer.proofs.Passed.{returned}
 use Rattle.rewriting.specs.Widened.{fitting}
 use Rattle.rewriting.proofs.Asked.{refused_delivered, delivered, rewriting_types_is, few_types, types_front}
 use Rattle.rewriting.proofs.rewrite_types.Goals as goal
@@ -13,9 +14,7 @@ returns-in_err-old_types_check c =
     let g = c.args.groups.now in
     let t = c.args.types.now in
     let w = c.args.rewritten.now in
-    let e = err_from_is_err_and c.from_residual.result c.from_residual.ensures.1 in
-    rw (e.1, e.2)
-    (refused_delivered type_width (old_types_check g t) (fitting (widen_types t) (length w)) w c.in_err-old_types_check.ensures.asked (rewriting_types_is g t (length w)) refl)
+    refused_delivered type_width (old_types_check g t) (fitting (widen_types t) (length w)) w c.in_err-old_types_check.ensures.asked (rewriting_types_is g t (length w)) (ap said (returned _ c.from_residual.ensures.1))
 
 pub hand_over-requires : goal.hand_over-requires
 hand_over-requires c =

@@ -1,3 +1,4 @@
+use Rattle.std.proofs.Math.Nat.{add-sub_cancel_left}
 use Rattle.rewriting.proofs.Widened.{none_widened, one_widened}
 use Rattle.rewriting.proofs.widen.Goals as goal
 
@@ -5,4 +6,5 @@ pub loop-i-init : goal.loop-i-init
 loop-i-init c = none_widened
 
 pub loop-i-preserved : goal.loop-i-preserved
-loop-i-preserved c = one_widened c.loop-i-test.true c.requires.2 c.requires.3 c.loop-i.invariant c.copy_part.ensures c.copy_part-in-loop-i.ensures
+loop-i-preserved c =
+    one_widened c.loop-i-test.true c.requires.2 c.requires.3 c.loop-i.invariant (simp add-sub_cancel_left at c.put.ensures) c.put-in-loop-i.ensures

@@ -1,15 +1,16 @@
-use Rattle.std.proofs.Common.{◌≡◌, ℕ, ◌+◌, ◌<◌, sym, ap, ap₂, ◌∙◌, arith}
-use Rattle.std.proofs.lemmas.Result.{err_from_is_err_and}
+use Rattle.std.proofs.Common.{◌≡◌, ℕ, Bool, ◌+◌, ◌<◌, sym, ap, ap₂, ◌∙◌, arith}
 use Rattle.calculus.specs.Terms.{Term}
-use Rattle.rules.specs.Answer.{Bytes, refused}
+use Rattle.rules.specs.Answer.{Bytes, Answer, ask}
 use Rattle.rules.specs.Script.{arity, kind}
 use Rattle.records.specs.Place.{At}
 use Rattle.records.specs.Weight.{weight_at, weight_of}
 use Rattle.records.proofs.Weights.{stands_weight}
 use Rattle.records.proofs.Passing.{Ahead, ahead, operand_here}
 use Rattle.records.proofs.Stands.{operands, kind_of, here, there, stands_kind, stands_arity}
-use Rattle.scope.specs.Walk.{Counted, increment}
-use Rattle.scope.proofs.Walks.{refuse, Reached, reach, end, stop, pass}
+use Rattle.answer.specs.Said.{said}
+use Rattle.answer.proofs.Passed.{returned, left_by}
+use Rattle.scope.specs.Walk.{Counted, question, passes, increment}
+use Rattle.scope.proofs.Walks.{asked_first, Reached, reach, end, stop, pass}
 use Rattle.scope.proofs.+walk.Goals as goal
 
 arity_is : {s : Bytes} {i : ℕ} {u : Term} (w : At s i u) (k m : ℕ) → m ≡ arity k → k ≡ kind s i → m ≡ operands u
@@ -20,15 +21,18 @@ number_is : {s : Bytes} {i : ℕ} {u : Term} (w : At s i u) (q : Counted) (n m k
 number_is w q n m k j r hm hk hr =
     ap (λ b. n + b) (hr ∙ ap₂ (λ a b. increment q a b j) (hm ∙ stands_weight w) (hk ∙ stands_kind _ _ _ w))
 
+asked_is : (q : Counted) (s : Bytes) (i n : ℕ) {x : ℕ} {b : Bool} {o : Answer (Unit {0})} → x ≡ question q → b ≡ passes q s i n → o ≡ ask x i b → o ≡ ask (question q) i (passes q s i n)
+asked_is q s i n hx hb h = rw (← hx, ← hb) h
+
 ahead_of : {q : Counted} {s : Bytes} {i n : ℕ} {u : Term} {j next : ℕ} (p : Reached q s i n u j next) (m : ℕ) → m ≡ operands u → j < m → Ahead p.passed
 ahead_of p m h l = ahead p.passed (omega arith)
 
 pub passes-requires : goal.passes-requires
 passes-requires g t c = there _ _ _ c.requires.0.at
 
-pub returns-then-not-passes : goal.returns-then-not-passes
-returns-then-not-passes g t c u w =
-    ap (λ q. refused q c.args.i) c.question.ensures ∙ refuse _ _ _ _ u (sym c.passes.ensures ∙ c.if-not-passes.true)
+pub returns-in_err-ask : goal.returns-in_err-ask
+returns-in_err-ask g t c u w =
+    left_by _ _ _ _ (asked_is _ _ _ _ c.question.ensures c.passes.ensures c.in_err-ask.ensures) c.from_residual.ensures.1 ∙ sym (asked_first _ _ _ _ u)
 
 pub weight-weight-requires : goal.weight-weight-requires
 weight-weight-requires g t c = there _ _ _ c.requires.0.at
@@ -37,7 +41,7 @@ pub overflow_add-next : goal.overflow_add-next
 overflow_add-next g t c = omega (arith, there _ _ _ c.requires.0.at)
 
 pub loop-j-init : goal.loop-j-init
-loop-j-init g t c u w = reach _ _ _ _ u (sym c.passes.ensures ∙ c.if-not-passes.false)
+loop-j-init g t c u w = reach _ _ _ _ u (asked_is _ _ _ _ c.question.ensures c.passes.ensures c.in_ok-ask.ensures)
 
 pub overflow_add-n : goal.overflow_add-n
 overflow_add-n g t c = omega (arith, there _ _ _ c.requires.0.at)
@@ -56,10 +60,9 @@ returns-in_err-next g t c u w =
     let p = c.loop-j.invariant u w in
     let m = arity_is w _ _ c.arity-j-end.ensures.0 c.kind_of-kind.ensures in
     let a = ahead_of p _ m c.loop-j-test.true in
-    let e = err_from_is_err_and c.from_residual.result c.from_residual.ensures.1 in
-    rw (e.1, e.2)
-    (stop p a (c.args.n + c.increment.result) (number_is w _ _ _ _ _ _ c.weight-weight.ensures.0 c.kind_of-kind.ensures c.increment.ensures.0)
-    (c.in_err-next.ensures a.operand (operand_here p.passed a w)))
+    ap said (returned _ c.from_residual-in_err-next.ensures.1)
+    ∙ stop p a (c.args.n + c.increment.result) (number_is w _ _ _ _ _ _ c.weight-weight.ensures.0 c.kind_of-kind.ensures c.increment.ensures.0)
+    (c.in_err-next.ensures a.operand (operand_here p.passed a w))
 
 pub loop-j-preserved : goal.loop-j-preserved
 loop-j-preserved g t c u w =

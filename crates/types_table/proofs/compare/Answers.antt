@@ -7,27 +7,26 @@ use Rattle.rules.specs.Calls.{comparing}
 use Rattle.types_table.specs.Answered.{said_comparison, told}
 use Rattle.answer.proofs.Passed.{then_asked}
 use Rattle.types.proofs.Parts.{to_end, starts_of}
-use Rattle.types_table.proofs.Questions.{refused_by, passed_on, counted, inside, told_is}
+use Rattle.types_table.proofs.Questions.{passed_on, counted, inside, told_is}
 use Rattle.types_table.proofs.Table.{type_held}
 use Rattle.types_table.proofs.compare.Goals as goal
 
 pub returns-in_err-types_check : goal.returns-in_err-types_check
 unfolding comparing
-returns-in_err-types_check c =
-    passed_on _ _ c.from_residual.ensures.1 ∙ refused_by _ _ c.in_err-types_check.field-0.0 c.in_err-types_check.ensures
+returns-in_err-types_check c = passed_on _ _ _ _ c.in_err-types_check.ensures c.from_residual.ensures.1
 
 pub returns-in_err-ask : goal.returns-in_err-ask
 unfolding comparing
 returns-in_err-ask c =
-    passed_on _ _ c.from_residual-in_err-ask.ensures.1
-    ∙ then_asked _ _ c.in_ok-types_check.ensures (refused_by _ _ c.in_err-ask.field-0.0 (counted 0 c.args.i c.type_count-count.ensures c.in_err-ask.ensures))
+    then_asked _ _ c.in_ok-types_check.ensures
+    (passed_on _ _ _ _ (counted 0 c.args.i c.type_count-count.ensures c.in_err-ask.ensures) c.from_residual-in_err-ask.ensures.1)
 
 pub returns-in_err-ask-2 : goal.returns-in_err-ask-2
 unfolding comparing
 returns-in_err-ask-2 c =
-    passed_on _ _ c.from_residual-in_err-ask-2.ensures.1
-    ∙ then_asked _ _ c.in_ok-types_check.ensures
-    (then_asked _ _ (counted 0 c.args.i c.type_count-count.ensures c.in_ok-ask.ensures) (refused_by _ _ c.in_err-ask-2.field-0.0 (counted 1 c.args.j c.type_count-count.ensures c.in_err-ask-2.ensures)))
+    then_asked _ _ c.in_ok-types_check.ensures
+    (then_asked _ _ (counted 0 c.args.i c.type_count-count.ensures c.in_ok-ask.ensures)
+    (passed_on _ _ _ _ (counted 1 c.args.j c.type_count-count.ensures c.in_err-ask-2.ensures) c.from_residual-in_err-ask-2.ensures.1))
 
 pub at_or_below-requires : goal.at_or_below-requires
 at_or_below-requires c =

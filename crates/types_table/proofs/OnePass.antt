@@ -1,13 +1,12 @@
 -- One pass over a types table with a pending count: questions 11 and 12.
-use Rattle.std.proofs.Common.{◌≡◌, ℕ, ◌+◌, ◌-◌, ◌≤◌, ◌<◌, Bool, true, false, cond, ◌&&◌, eqb, ltb}
-use Rattle.std.proofs.Common.{refl, ap, sym, ◌∙◌, arith, add-one, eqb-true, ltb-true, ltb-false, eq-eqb, ne_eqb, le-leb}
-use borrow.Author.Tests.{lt-leb}
-use Rattle.std.proofs.Math.Bool.{and-eq-true_iff}
+use Rattle.std.proofs.Common.{◌≡◌, ℕ, ◌+◌, ◌-◌, ◌≤◌, ◌<◌, Bool, true, false, cond, eqb, leb}
+use Rattle.std.proofs.Common.{refl, ap, sym, ◌∙◌, arith, add-one, eq-eqb, ne_eqb}
 use Rattle.std.proofs.Math.Decide.{ℕ_discrete, dec_lt}
 use Rattle.std.proofs.Math.Option.{none, some}
 use Rattle.calculus.specs.Types.{type_limit}
-use Rattle.rules.specs.Answer.{Bytes, ask, each, refused}
+use Rattle.rules.specs.Answer.{Bytes, accepted, ask, each, ◌⇒◌, ◌>>◌}
 use Rattle.rules.specs.Types.{type_count, type_kind, type_end, pending, ok11, ok12}
+use Rattle.rules.proofs.Asked.{ask_true, implied}
 use Rattle.rules.proofs.Search.{each_accepted, each_refused}
 use Rattle.rules.proofs.PrefixLaws.{next_record, runs_out, comes_to_end}
 use Rattle.types.proofs.Counting.{ops, walk, at_most_two}
@@ -39,9 +38,9 @@ pending_next : (t : Bytes) (i : ℕ) → pending t (i + 1) ≡ (pending t i - 1)
 unfolding pending
 pending_next t i = ap (pending t) (add-one i)
 
-pub nothing_read : (ok : ℕ → Bool) (t : Bytes) → Passing ok t 0 0 0
+pub nothing_read : (ok : ℕ → Bool) (t : Bytes) (start : ℕ) {p : ℕ} → p ≡ 0 → Passing ok t start p 0
 unfolding pending
-nothing_read ok t = record { count = refl; small = omega arith; passed = λ e k l. absurd (omega arith); within = λ l. absurd (omega arith) }
+nothing_read ok t start e = record { count = e; small = omega arith; passed = λ e k l. absurd (omega arith); within = λ l. absurd (omega arith) }
 
 module _ (ok : ℕ → Bool) (t : Bytes) (start p i : ℕ) (l : i < type_count t) (h : Passing ok t start p i) where
   counted : next_pending t p i ≡ pending t (i + 1)
@@ -151,17 +150,28 @@ module _ (t : Bytes) where
   unfolding ok12
   skips_12 k n = rw (ne_eqb (pending t k) 0 n)
 
-  pub short_12 : (start p i : ℕ) → Inside (ok12 t) t start p i → i - start ≤ type_limit → p ≡ 0 → ok12 t start ≡ true
+  pub short_12 : (start p i : ℕ) → Inside (ok12 t) t start p i → accepted tt ≡ ask 12 start (eqb p 0 ⇒ leb (i - start) type_limit) → p ≡ 0 → ok12 t start ≡ true
   unfolding ok12
-  short_12 start p i w m e =
-      rw (eq-eqb (pending t start) 0 w.outer, ended (ok12 t) t start p i w e) (le-leb (i - start) type_limit m)
+  short_12 start p i w a e =
+      rw (eq-eqb (pending t start) 0 w.outer, ended (ok12 t) t start p i w e)
+      (implied (eqb p 0) (leb (i - start) type_limit) (ask_true 12 start _ (sym a)) (eq-eqb p 0 e))
 
-  pub refused_12 : (start p i : ℕ) → Inside (ok12 t) t start p i → i ≤ type_count t → p ≡ 0 → type_limit < i - start
-      → each 12 (type_count t) (ok12 t) ≡ refused 12 start
+  -- asked of the type that the pass is in, it gives the table's answer
+  pub asked_12 : (start p i : ℕ) → Inside (ok12 t) t start p i → i ≤ type_count t
+      → ◌>>◌ (ask 12 start (eqb p 0 ⇒ leb (i - start) type_limit)) (each 12 (type_count t) (ok12 t)) ≡ each 12 (type_count t) (ok12 t)
   unfolding ok12
-  refused_12 start p i w m e l =
-      each_refused 12 (type_count t) (ok12 t) start (omega (arith, w.started)) w.before
-      (rw (eq-eqb (pending t start) 0 w.outer, ended (ok12 t) t start p i w e) (lt-leb (i - start) type_limit l))
+  asked_12 start p i w m = by (ℕ_discrete p 0)
+    where
+      long : p ≡ 0 → (b : Bool) → leb (i - start) type_limit ≡ b → ◌>>◌ (ask 12 start b) (each 12 (type_count t) (ok12 t)) ≡ each 12 (type_count t) (ok12 t)
+      long e true l = refl
+      long e false l =
+          sym
+          (each_refused 12 (type_count t) (ok12 t) start (omega (arith, w.started)) w.before
+          (rw (eq-eqb (pending t start) 0 w.outer, ended (ok12 t) t start p i w e) l))
+
+      by : Dec (p ≡ 0) → ◌>>◌ (ask 12 start (eqb p 0 ⇒ leb (i - start) type_limit)) (each 12 (type_count t) (ok12 t)) ≡ each 12 (type_count t) (ok12 t)
+      by (yes e) = rw (eq-eqb p 0 e) (long e (leb (i - start) type_limit) refl)
+      by (no n) = rw (ne_eqb p 0 n)
 
   -- an unfinished last type is question 11's
   pub accepted_12 : (start p i : ℕ) → Passing (ok12 t) t start p i → type_count t ≤ i → (k : ℕ) → k < i → ok12 t k ≡ true
@@ -176,10 +186,3 @@ module _ (t : Bytes) where
       by (no n) =
           let q : 0 < p = omega arith in
           all_passed (ok12 t) t start p i skips_12 (h.within q) (last q)
-
--- what `too_long` says
-pub long_true : (p n : ℕ) → eqb p 0 && ltb type_limit n ≡ true → (p ≡ 0) × (type_limit < n)
-long_true p n e = let a = (and-eq-true_iff (eqb p 0) (ltb type_limit n)).0 e in (eqb-true p 0 a.0, ltb-true type_limit n a.1)
-
-pub long_false : (p n : ℕ) → eqb p 0 && ltb type_limit n ≡ false → p ≡ 0 → n ≤ type_limit
-long_false p n e z = ltb-false type_limit n (rw (eq-eqb p 0 z) at e)
