@@ -4,7 +4,7 @@ use Rattle.std.proofs.Common.{◌≡◌, ℕ, ◌+◌, ◌*◌, ◌≤◌, eqb, 
 use Rattle.std.proofs.lemmas.Bool.{eqb-true, eqb-false}
 use Rattle.records.specs.Numbers.{kind_number}
 use Rattle.records.specs.declared.Kind.{Kind}
-use Rattle.records.specs.declared.Kind.TheVariants.{Variable, Unit, Function, Pair, FirstInjection, SecondInjection, Application, FirstProjection, SecondProjection, Case, Protect, Recursion}
+use Rattle.records.specs.declared.Kind.TheVariants.{Variable}
 use Rattle.records.specs.contracts.Kind.{the_type}
 use Rattle.calculus.specs.Terms.{Term, var}
 use Rattle.rules.specs.Answer.{Bytes}
@@ -16,6 +16,7 @@ use Rattle.records.specs.Place.{At}
 use Rattle.records.specs.Kinds as kinds
 use Rattle.records.specs.Binders.{binds}
 use Rattle.records.proofs.Made.{number_at}
+use Rattle.records.proofs.Numbered.{tests_numbers}
 use Rattle.records.proofs.Stands.{kind_of, stands_kind, stands_arity}
 
 pub term_length : (e : Term) → length (encode e) ≡ script_width * size e
@@ -27,26 +28,11 @@ size_from e = size_positive term_code e
 pub variable_at : {s : Bytes} {i m : ℕ} → At s i (var m) → number s i ≡ m
 variable_at {m = m} a = number_at a ∙ two_bytes m
 
--- A kind is compared with a variable's by its number.
-same_number : (k : Kind) → sameb the_type k Variable ≡ eqb (kind_number k) kinds.variable
-same_number Variable = refl
-same_number Unit = refl
-same_number Function = refl
-same_number Pair = refl
-same_number FirstInjection = refl
-same_number SecondInjection = refl
-same_number Application = refl
-same_number FirstProjection = refl
-same_number SecondProjection = refl
-same_number Case = refl
-same_number Protect = refl
-same_number Recursion = refl
-
 pub variable_kind : (k : Kind) {n : ℕ} → true ≡ sameb the_type k Variable → kind_number k ≡ n → n ≡ kinds.variable
-variable_kind k same is = sym is ∙ eqb-true _ _ (sym (same_number k) ∙ sym same)
+variable_kind k same is = sym is ∙ eqb-true _ _ (sym (tests_numbers k Variable) ∙ sym same)
 
 pub other_kind : (k : Kind) {s : Bytes} {i : ℕ} {u : Term} → false ≡ sameb the_type k Variable → kind_number k ≡ kind s i → At s i u → kind_of u ≡ kinds.variable → ⊥
-other_kind k same is a h = eqb-false _ _ (sym (same_number k) ∙ sym same) (is ∙ stands_kind _ _ _ a ∙ h)
+other_kind k same is a h = eqb-false _ _ (sym (tests_numbers k Variable) ∙ sym same) (is ∙ stands_kind _ _ _ a ∙ h)
 
 -- What a loop over the operands of the node at record i knows of it, once its kind k is read: how many operands
 -- it has, and the level of a variable under the binders over operand j.
