@@ -3,21 +3,21 @@ use Rattle.std.proofs.Common.{◌≡◌, ◌<◌, [], ◌++◌, length, refl, sy
 use Rattle.rules.specs.Answer.{Bytes}
 use Rattle.rules.specs.Limits.{sheet_width}
 use Rattle.rules.specs.Report.{sheet_lines}
-use Rattle.text.specs.Written.{Room, Written}
-use Rattle.text.specs.declared.Text.{Text}
-use Rattle.text.proofs.Placed.{nothing, then, room_first, room_next}
+use Rattle.memory.specs.Written.{Room, Written}
+use Rattle.memory.specs.declared.Writer.{Writer}
+use Rattle.memory.proofs.Placed.{nothing, then, room_first, room_next}
 use Rattle.lines.proofs.Lines.{line, no_line, one_line}
 
 -- the lines so far, and that the others follow: those of what is left of the sheet
-pub record SoFar (w s left : Bytes) (x y : Text) : Type 0 where
+pub record SoFar (w s left : Bytes) (x y : Writer) : Type 0 where
   pub lines : Bytes
   pub splits : sheet_lines w s ≡ lines ++ sheet_lines w left
   pub wrote : Written lines x y
 
-pub begins : {w s left : Bytes} (x : Text) → left ≡ s → Room (sheet_lines w s) x → SoFar w s left x x
+pub begins : {w s left : Bytes} (x : Writer) → left ≡ s → Room (sheet_lines w s) x → SoFar w s left x x
 begins {w} {s} x e l = rw e (record { lines = []; splits = refl; wrote = nothing x (room_first [] (sheet_lines w s) x l) })
 
-module _ {w s left : Bytes} {x y : Text} (f : SoFar w s left x y) where
+module _ {w s left : Bytes} {x y : Writer} (f : SoFar w s left x y) where
   pub all : length left < sheet_width → Written (sheet_lines w s) x y
   all l = rw (f.splits, no_line w left l, append-nil f.lines) f.wrote
 
@@ -29,7 +29,7 @@ module _ {w s left : Bytes} {x y : Text} (f : SoFar w s left x y) where
     pub room : Room (sheet_lines w s) x → Room (line w b) y
     room r = room_first (line w b) (sheet_lines w rest) y (rw next_line at (room_next (sheet_lines w left) f.wrote (rw f.splits at r)))
 
-    pub goes_on : {z : Text} → Written (line w b) y z → SoFar w s rest x z
+    pub goes_on : {z : Writer} → Written (line w b) y z → SoFar w s rest x z
     goes_on g =
         record {
           lines = f.lines ++ line w b;

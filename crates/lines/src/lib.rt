@@ -2,28 +2,28 @@
 
 #![tactic(auto)]
 
-ghost use Rattle.std.specs.Prelude.{◌≡◌, ◌++◌, ◌+◌, ◌≤◌, length};
-ghost use Rattle.rules.specs.Limits.{words_length};
+ghost use Rattle.std.specs.Prelude.{◌++◌};
 ghost use Rattle.rules.specs.Report.{decimal, refusal_line, accepted_line, run_line, sheet_line, sheet_lines};
-ghost use Rattle.text.specs.Written.{Room, Written};
+ghost use Rattle.memory.specs.Written.{Room, Written};
 
 use lattice::{Indirect, Reader};
+use memory::Writer;
 use sheet::SHEET_WIDTH;
-use text::Text;
+use words::Table;
 
 // A word and a number.
-#[tactic(auto, using(text::proofs::Placed::room_first, text::proofs::Placed::room_next))]
-fn named(text: &mut Text, word: &[u8], n: u64)
+#[tactic(auto, using(memory::proofs::Placed::room_first, memory::proofs::Placed::room_next))]
+fn named(text: &mut Writer, word: &[u8], n: u64)
     requires { Room (word.now ++ decimal n) text.old }
     ensures { Written (word.now ++ decimal n) text.old text.new }
 {
     text.put(word);
-    text.decimal(n);
+    text::decimal(text, n);
 }
 
 // "refused 21 at 0"
-#[tactic(auto, unfolding(rules::specs::Report::refusal_line, rules::specs::Report::text), using(text::proofs::Placed::room_first, text::proofs::Placed::room_next))]
-pub fn refusal_line(text: &mut Text, question: u64, place: u64)
+#[tactic(auto, unfolding(rules::specs::Report::refusal_line, rules::specs::Report::text), using(memory::proofs::Placed::room_first, memory::proofs::Placed::room_next))]
+pub fn refusal_line(text: &mut Writer, question: u64, place: u64)
     requires { Room (refusal_line question place) text.old }
     ensures { Written (refusal_line question place) text.old text.new }
 {
@@ -33,8 +33,8 @@ pub fn refusal_line(text: &mut Text, question: u64, place: u64)
 }
 
 // "accepted 3"
-#[tactic(auto, unfolding(rules::specs::Report::accepted_line, rules::specs::Report::text), using(text::proofs::Placed::room_first, text::proofs::Placed::room_next))]
-pub fn accepted_line(text: &mut Text, records: u64)
+#[tactic(auto, unfolding(rules::specs::Report::accepted_line, rules::specs::Report::text), using(memory::proofs::Placed::room_first, memory::proofs::Placed::room_next))]
+pub fn accepted_line(text: &mut Writer, records: u64)
     requires { Room (accepted_line records) text.old }
     ensures { Written (accepted_line records) text.old text.new }
 {
@@ -43,8 +43,8 @@ pub fn accepted_line(text: &mut Text, records: u64)
 }
 
 // "end 0 steps 2 records 2"
-#[tactic(auto, unfolding(rules::specs::Report::run_line, rules::specs::Report::text), using(text::proofs::Placed::room_first, text::proofs::Placed::room_next))]
-pub fn run_line(text: &mut Text, end: u64, steps: u64, records: u64)
+#[tactic(auto, unfolding(rules::specs::Report::run_line, rules::specs::Report::text), using(memory::proofs::Placed::room_first, memory::proofs::Placed::room_next))]
+pub fn run_line(text: &mut Writer, end: u64, steps: u64, records: u64)
     requires { Room (run_line end steps records) text.old }
     ensures { Written (run_line end steps records) text.old text.new }
 {
@@ -55,20 +55,20 @@ pub fn run_line(text: &mut Text, end: u64, steps: u64, records: u64)
 }
 
 // "closed 0 0", in the words of a table
-#[tactic(auto, unfolding(rules::specs::Report::sheet_line, rules::specs::Report::text), using(text::proofs::Placed::room_first, text::proofs::Placed::room_next))]
-fn sheet_line(text: &mut Text, words: &[u8], kind: u8, r: Reader, ir: Indirect)
-    requires { (length words.now ≡ words_length) × Room (sheet_line words.now kind r.0 ir.0) text.old }
+#[tactic(auto, unfolding(rules::specs::Report::sheet_line, rules::specs::Report::text), using(memory::proofs::Placed::room_first, memory::proofs::Placed::room_next))]
+fn sheet_line(text: &mut Writer, words: &Table, kind: u8, r: Reader, ir: Indirect)
+    requires { Room (sheet_line words.now kind r.0 ir.0) text.old }
     ensures { Written (sheet_line words.now kind r.0 ir.0) text.old text.new }
 {
-    text.word(words, kind);
+    text::word(text, words, kind);
     named(text, b" ", u64::from(r.0));
     named(text, b" ", u64::from(ir.0));
     text.put(b"\n");
 }
 
 // A line for each whole record of a sheet, in the words of a table.
-pub fn sheet_lines(text: &mut Text, words: &[u8], sheet: &[u8])
-    requires { (length words.now ≡ words_length) × Room (sheet_lines words.now sheet.now) text.old }
+pub fn sheet_lines(text: &mut Writer, words: &Table, sheet: &[u8])
+    requires { Room (sheet_lines words.now sheet.now) text.old }
     ensures { Written (sheet_lines words.now sheet.now) text.old text.new }
 {
     for record in sheet.chunks_exact(SHEET_WIDTH) {

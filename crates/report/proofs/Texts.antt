@@ -1,11 +1,11 @@
 -- The report's texts from what the calls answer, and how long they can be.
 use Rattle.std.proofs.Common.{◌≡◌, ℕ, zero, suc, ◌+◌, ◌*◌, ◌-◌, ◌/◌, ◌≤◌, Bool, true, false, [], ◌∷◌, ◌++◌, length, take, drop, refl, sym, ap, ◌∙◌, arith, length-append, leb, eqb}
 use Rattle.std.proofs.Math.Option.{Option, none, some}
-use Rattle.std.proofs.lemmas.Bool.{leb-true, eqb-true, ne_eqb}
+use Rattle.std.proofs.lemmas.Bool.{leb-true, ne_eqb}
 use Rattle.std.proofs.lemmas.List.{take_at}
 use Rattle.calculus.specs.Types.{Ty, size_t}
 use Rattle.rules.specs.Answer.{Bytes, Octets, Answer, accepted, refused}
-use Rattle.rules.specs.Limits.{script_width, sheet_width, script_limit, words_length, report_budget, report_buffer, report_sheet}
+use Rattle.rules.specs.Limits.{script_width, sheet_width, script_limit, report_budget, report_buffer, report_sheet}
 use Rattle.rules.specs.Groups.{rows}
 use Rattle.rules.specs.Script.{encode, term, size}
 use Rattle.rules.specs.Sheet.{sheet}
@@ -13,14 +13,14 @@ use Rattle.rules.specs.Run.{Ran}
 use Rattle.rules.specs.Calls.{zeros, q25, q26, q27, script_check, type_records, running, Report, run_report, first_after, sheeting, sheet_records, sheet_after}
 use Rattle.rules.specs.Reach.{verdict}
 use Rattle.rules.specs.Report.{refusal_line, accepted_line, run_line, sheet_line, sheet_lines, sheet_text, value_text, run_text, checked_text, script_text, after_words, our_words, report}
-use Rattle.rules.specs.Words.{q32, words_check}
+use Rattle.rules.specs.Words.{words_check}
 use Rattle.demands.proofs.Answers.{accepted_inj}
 use Rattle.rules.proofs.Asked.{ask_true, and_then}
 use Rattle.substitution.proofs.Reading.{term_length}
 use Rattle.packing.proofs.Exported.{run_ends}
-use Rattle.text.specs.Written.{Written}
-use Rattle.text.specs.declared.Text.{Text}
-use Rattle.text.proofs.Placed.{keeps}
+use Rattle.memory.specs.Written.{Written}
+use Rattle.memory.specs.declared.Writer.{Writer}
+use Rattle.memory.proofs.Placed.{keeps}
 use Rattle.lines.proofs.Lines.{refusal_length, accepted_length, run_length, sheet_length, sheet_lines_first, no_line}
 use Rattle.report.specs.Room.{value_room, run_room, report_room}
 
@@ -168,11 +168,6 @@ pub words_refused : (w g t s : Bytes) (q p : ℕ) → words_check w ≡ refused 
 unfolding report
 words_refused w g t s q p e = sym (ap (λ (a : Answer (Unit {0})). after_words a (script_text w g t s)) e)
 
--- question 32 leaves 72 bytes
-pub words_whole : (w : Bytes) → words_check w ≡ accepted tt → length w ≡ words_length
-unfolding words_check
-words_whole w e = eqb-true (length w) words_length (ask_true 32 0 (eqb (length w) words_length) (and_then (q32 w) _ e).0)
-
 -- lengths: room for the longest line is room for each
 pub refusal_fits : (q p at room : ℕ) → at + 53 ≤ room → at + length (refusal_line q p) ≤ room
 refusal_fits q p at room l = omega (arith, refusal_length q p)
@@ -181,10 +176,10 @@ pub accepted_fits : (records at room : ℕ) → at + 30 ≤ room → at + length
 accepted_fits records at room l = omega (arith, accepted_length records)
 
 -- and what is left after the first line
-pub after_accepted : (records room : ℕ) {x y : Text} → Written (accepted_line records) x y → x.end + (30 + room) ≤ length x.out.now → y.end + room ≤ length y.out.now
+pub after_accepted : (records room : ℕ) {x y : Writer} → Written (accepted_line records) x y → x.end + (30 + room) ≤ length x.out.now → y.end + room ≤ length y.out.now
 after_accepted records room w l = omega (arith, w.ends, keeps w, accepted_length records)
 
-pub after_run : (end steps records room : ℕ) {x y : Text} → Written (run_line end steps records) x y → x.end + (81 + room) ≤ length x.out.now → y.end + room ≤ length y.out.now
+pub after_run : (end steps records room : ℕ) {x y : Writer} → Written (run_line end steps records) x y → x.end + (81 + room) ≤ length x.out.now → y.end + room ≤ length y.out.now
 after_run end steps records room w l = omega (arith, w.ends, keeps w, run_length end steps records)
 
 pub run_line_fits : (end steps records at room : ℕ) → at + 81 ≤ room → at + length (run_line end steps records) ≤ room

@@ -6,20 +6,21 @@
 #![tactic(auto)]
 
 ghost use Rattle.std.specs.Prelude.{◌≡◌, ◌+◌, ◌≤◌, length, IfOk, IfSome};
-ghost use Rattle.rules.specs.Limits.{words_length, report_budget, report_buffer};
+ghost use Rattle.rules.specs.Limits.{report_budget, report_buffer};
 ghost use Rattle.rules.specs.Script.{encode};
 ghost use Rattle.rules.specs.Run.{Ran};
 ghost use Rattle.rules.specs.Calls.{running};
 ghost use Rattle.rules.specs.Report.{refusal_line, value_text, run_text, script_text, report};
 ghost use Rattle.answer.specs.Numbers.{number};
 ghost use Rattle.reduction.specs.Steps.{end_number};
-ghost use Rattle.text.specs.Written.{Room, Written};
+ghost use Rattle.memory.specs.Written.{Room, Written};
 ghost use Rattle.report.specs.Supplied.{file};
 ghost use Rattle.report.specs.Room.{value_room, run_room, report_room};
 
 use answer::Refusal;
 use inference::SLOT;
 use lattice::{GROUP_LIMIT, ROW_WIDTH};
+use memory::Writer;
 use records::SCRIPT_WIDTH;
 use reduction::Stop;
 use script::SCRIPT_LIMIT;
@@ -27,11 +28,10 @@ use sheet::SHEET_WIDTH;
 use std::fs::Files;
 use std::io::Read;
 use std::{fs, io};
-use text::Text;
 use types::TYPE_WIDTH;
 use types_table::TABLE_LIMIT;
 use typing::WORK_LENGTH;
-use words::WORDS_LENGTH;
+use words::{Table, WORDS_LENGTH};
 
 const BUDGET: u64 = 1000;
 
@@ -55,7 +55,7 @@ const SHEET_LENGTH: usize = SCRIPT_LIMIT * SHEET_WIDTH;
 const REPORT_LENGTH: usize = 450671;
 
 // The line of a refusal.
-fn refused(text: &mut Text, refusal: Refusal)
+fn refused(text: &mut Writer, refusal: Refusal)
     requires { Room (refusal_line (number refusal.question) refusal.place) text.old }
     ensures { Written (refusal_line (number refusal.question) refusal.place) text.old text.new }
 {
@@ -68,19 +68,18 @@ fn refused(text: &mut Text, refusal: Refusal)
 
 // The value's text: the sheet of the run's last term for group 0, only when the end is 0.
 fn value_text(
-    text: &mut Text,
-    words: &[u8],
+    text: &mut Writer,
+    words: &Table,
     groups: &[u8],
     types: &[u8],
     value: &[u8],
     stop: Option<Stop>,
 )
-    requires { (length words.now ≡ words_length) × (text.old.end + value_room ≤ length text.old.out.now) }
+    requires { text.old.end + value_room ≤ length text.old.out.now }
     ensures { (x : Ran) → x.end ≡ end_number stop → encode x.last ≡ value.now
         → Written (value_text words.now groups.now types.now x) text.old text.new }
 {
-    let end = reduction::end_number(stop);
-    if end != 0 {
+    if stop != Some(Stop::Value) {
         return;
     }
     let mut sheet = [0u8; SHEET_LENGTH];
@@ -92,8 +91,8 @@ fn value_text(
 
 // The run's text: its line, and the value's text. An accepted script's run isn't refused; the definition has a text for every
 // answer, and so has this.
-fn run_text(text: &mut Text, words: &[u8], groups: &[u8], types: &[u8], script: &[u8])
-    requires { (length words.now ≡ words_length) × (text.old.end + run_room ≤ length text.old.out.now) }
+fn run_text(text: &mut Writer, words: &Table, groups: &[u8], types: &[u8], script: &[u8])
+    requires { text.old.end + run_room ≤ length text.old.out.now }
     ensures { Written (run_text words.now groups.now types.now
         (running groups.now types.now script.now report_budget report_buffer report_buffer))
         text.old text.new }
@@ -118,8 +117,8 @@ fn run_text(text: &mut Text, words: &[u8], groups: &[u8], types: &[u8], script: 
 }
 
 // The script's text, in the words of a table.
-fn script_text(text: &mut Text, words: &[u8], groups: &[u8], types: &[u8], script: &[u8])
-    requires { (length words.now ≡ words_length) × (text.old.end + report_room ≤ length text.old.out.now) }
+fn script_text(text: &mut Writer, words: &Table, groups: &[u8], types: &[u8], script: &[u8])
+    requires { text.old.end + report_room ≤ length text.old.out.now }
     ensures { Written (script_text words.now groups.now types.now script.now) text.old text.new }
 {
     let mut work = [0u8; WORK_LENGTH];
@@ -134,18 +133,16 @@ fn script_text(text: &mut Text, words: &[u8], groups: &[u8], types: &[u8], scrip
 }
 
 // The whole report. A studio's own words are asked questions 32 to 34 first; where none are supplied, ours are used.
-fn write_report(text: &mut Text, words: Option<&[u8]>, groups: &[u8], types: &[u8], script: &[u8])
+fn write_report(text: &mut Writer, words: Option<&[u8]>, groups: &[u8], types: &[u8], script: &[u8])
     requires { text.old.end + report_room ≤ length text.old.out.now }
     ensures { Written (report (file words.entry) groups.now types.now script.now) text.old text.new }
 {
     let Some(supplied) = words else {
-        let mut ours = [0u8; WORDS_LENGTH];
-        words::our_words(&mut ours);
-        script_text(text, &ours, groups, types, script);
+        script_text(text, &words::our_words(), groups, types, script);
         return;
     };
     match words::words_check(supplied) {
-        Ok(()) => script_text(text, supplied, groups, types, script),
+        Ok(table) => script_text(text, table, groups, types, script),
         Err(refusal) => refused(text, refusal),
     }
 }
@@ -203,10 +200,7 @@ fn print_report<R: Print>(
     script: &[u8],
 ) -> Result<(), Failure> {
     let mut out = [0u8; REPORT_LENGTH];
-    let mut text = Text {
-        out: &mut out,
-        end: 0,
-    };
+    let mut text = Writer::new(&mut out);
     write_report(&mut text, words, groups, types, script);
     rt.write_all(text.written()).map_err(|error| Failure {
         at: "standard output",

@@ -2,14 +2,16 @@
 
 #![tactic(auto)]
 
-ghost use Rattle.std.specs.Prelude.{◌≡◌, ◌*◌, ◌≤◌, ◌<◌, length, take, drop};
+ghost use Rattle.std.specs.Prelude.{◌≡◌, ◌*◌, ◌≤◌, ◌<◌, length, take, drop, MatchResult};
 ghost use Rattle.memory.specs.Splice.{splice};
 ghost use Rattle.rules.specs.Limits.{word_width, word_limit, words_length};
+ghost use Rattle.rules.specs.Answer.{accepted, refused};
 ghost use Rattle.rules.specs.Words.{is_letter, letters, same_word, ok33, ok34, q33, q34, words_check};
 ghost use Rattle.rules.specs.Report.{our_words};
+ghost use Rattle.answer.specs.Numbers.{number};
 ghost use Rattle.answer.specs.Said.{said};
 
-use answer::{Checked, Question};
+use answer::{Checked, Question, Refusal};
 
 pub const WORD_WIDTH: usize = 12;
 
@@ -18,7 +20,7 @@ pub const WORD_LIMIT: usize = 6;
 pub const WORDS_LENGTH: usize = WORD_LIMIT * WORD_WIDTH;
 
 // What passes question 32.
-type Table = [u8; WORDS_LENGTH];
+pub type Table = [u8; WORDS_LENGTH];
 
 fn is_letter(c: u8) -> bool
     ensures { result ≡ is_letter c }
@@ -27,8 +29,8 @@ fn is_letter(c: u8) -> bool
 }
 
 // The bytes of word i.
-fn word(words: &[u8], i: usize) -> &[u8]
-    requires { (length words.now ≡ words_length) × (i < word_limit) }
+fn word(words: &Table, i: usize) -> &[u8]
+    requires { i < word_limit }
     ensures { result.now ≡ take word_width (drop (word_width * i) words.now) }
 {
     let start = WORD_WIDTH * i;
@@ -36,8 +38,8 @@ fn word(words: &[u8], i: usize) -> &[u8]
 }
 
 // How many letters word i starts with.
-pub fn letters(words: &[u8], i: usize) -> usize
-    requires { (length words.now ≡ words_length) × (i < word_limit) }
+pub fn letters(words: &Table, i: usize) -> usize
+    requires { i < word_limit }
     ensures { (result ≡ letters words.now i) × (result ≤ word_width) }
 {
     let end = word(words, i).iter().position(|c| !is_letter(*c));
@@ -84,38 +86,40 @@ fn question_34(words: &Table) -> Checked
 }
 
 // Questions 32 to 34, in order: a table has 72 bytes, and the first refusal is passed on.
-pub fn words_check(words: &[u8]) -> Checked
-    ensures { said result ≡ words_check words.now }
+pub fn words_check(words: &[u8]) -> Result<&Table, Refusal>
+    ensures { MatchResult result
+        (λ table. (words_check words.now ≡ accepted tt) × (table.now ≡ words.now))
+        (λ refusal. words_check words.now ≡ refused (number refusal.question) refusal.place) }
 {
     let Ok(table) = <&Table>::try_from(words) else {
-        return answer::ask(Question::WordsLength, 0, false);
+        return Err(Refusal {
+            question: Question::WordsLength,
+            place: 0,
+        });
     };
-    let a33 = question_33(table);
-    let Ok(()) = a33 else {
-        return a33;
-    };
-    question_34(table)
+    question_33(table)?;
+    question_34(table)?;
+    Ok(table)
 }
 
 // Letters over the front of record i.
-fn put_letters(letters: &[u8], words: &mut [u8], i: usize)
-    requires { (length letters.now ≤ word_width) × ((length words.old ≡ words_length) × (i < word_limit)) }
+fn put_letters(letters: &[u8], words: &mut Table, i: usize)
+    requires { (length letters.now ≤ word_width) × (i < word_limit) }
     ensures { words.new ≡ splice (word_width * i) letters.now words.old }
 {
-    let start = WORD_WIDTH * i;
-    words[start..start + letters.len()].copy_from_slice(letters);
+    memory::put(letters, words, WORD_WIDTH * i);
 }
 
 // The table of our own words, from fixed byte strings.
-pub fn our_words(words: &mut [u8])
-    requires { length words.old ≡ words_length }
-    ensures { words.new ≡ our_words }
+pub fn our_words() -> Table
+    ensures { result ≡ our_words }
 {
-    memory::clear(words);
-    put_letters(b"unit", words, 0);
-    put_letters(b"first", words, 1);
-    put_letters(b"second", words, 2);
-    put_letters(b"pair", words, 3);
-    put_letters(b"function", words, 4);
-    put_letters(b"closed", words, 5);
+    let mut words = [0; WORDS_LENGTH];
+    put_letters(b"unit", &mut words, 0);
+    put_letters(b"first", &mut words, 1);
+    put_letters(b"second", &mut words, 2);
+    put_letters(b"pair", &mut words, 3);
+    put_letters(b"function", &mut words, 4);
+    put_letters(b"closed", &mut words, 5);
+    words
 }

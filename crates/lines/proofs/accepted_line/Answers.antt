@@ -1,5 +1,5 @@
 use Rattle.rules.specs.Report.{text, accepted_line}
-use Rattle.text.proofs.Placed.{then}
+use Rattle.memory.proofs.Placed.{then}
 use Rattle.lines.proofs.accepted_line.Goals as goal
 
 pub returns : goal.returns

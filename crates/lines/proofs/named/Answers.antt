@@ -1,4 +1,4 @@
-use Rattle.text.proofs.Placed.{then}
+use Rattle.memory.proofs.Placed.{then}
 use Rattle.lines.proofs.named.Goals as goal
 
 pub returns : goal.returns

@@ -6,13 +6,13 @@ pub loop-record-init : goal.loop-record-init
 loop-record-init c =
     let e = c.into_iter-record-iterator.ensures.into_iter_gives in
     let chunks = c.chunks_exact-record-items.ensures in
-    (ap (λ x. x.size) e ∙ chunks.size, begins c.args.text.now (ap (λ x. x.rest.now) e ∙ chunks.rest) c.requires.1)
+    (ap (λ x. x.size) e ∙ chunks.size, begins c.args.text.now (ap (λ x. x.rest.now) e ∙ chunks.rest) c.requires)
 
 pub sheet_line-requires : goal.sheet_line-requires
 sheet_line-requires c =
     let s = c.in-Some.ensures.steps in
     let i = c.loop-record.invariant in
-    (c.requires.0, room i.1 c.in-Some.record.now c.next.new.self.rest.now s.1.0 (s.1.1 ∙ i.0) c.requires.1)
+    (room i.1 c.in-Some.record.now c.next.new.self.rest.now s.1.0 (s.1.1 ∙ i.0) c.requires)
 
 pub loop-record-preserved : goal.loop-record-preserved
 loop-record-preserved c =

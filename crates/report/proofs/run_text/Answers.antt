@@ -5,7 +5,7 @@ use Rattle.rules.specs.Limits.{script_width, script_limit, report_budget, report
 use Rattle.rules.specs.Run.{Ran}
 use Rattle.rules.specs.Script.{encode}
 use Rattle.rules.specs.Calls.{running, run_report, first_after}
-use Rattle.text.proofs.Placed.{then}
+use Rattle.memory.proofs.Placed.{then}
 use Rattle.report.specs.Room.{value_room}
 use Rattle.report.proofs.Texts.{Ended, ended, last_in_front, few_records, run_accepted, run_refused, refusal_fits, run_line_fits, after_run}
 use Rattle.report.proofs.run_text.Goals as goal
@@ -26,7 +26,7 @@ module _ (g t s : Bytes) {end steps records : ℕ}
   last_of old {first} h = last_in_front answer end steps records old first run_of h
 
 pub run_line-requires : goal.run_line-requires
-run_line-requires c = run_line_fits _ _ _ _ _ (omega (arith, c.requires.1))
+run_line-requires c = run_line_fits _ _ _ _ _ (omega (arith, c.requires))
 
 pub overflow_mul-first : goal.overflow_mul-first
 overflow_mul-first c =
@@ -42,10 +42,10 @@ slice_bounds-value_text-end c =
     sym (length-take-le (script_width * c.in-Ok.halt.records) c.run.new.first (omega (arith, l)))
 
 pub value_text-requires : goal.value_text-requires
-value_text-requires c = (c.requires.0, after_run _ _ _ value_room c.run_line.ensures c.requires.1)
+value_text-requires c = after_run _ _ _ value_room c.run_line.ensures c.requires
 
 pub refused-requires : goal.refused-requires
-refused-requires c = refusal_fits _ _ _ _ (omega (arith, c.requires.1))
+refused-requires c = refusal_fits _ _ _ _ (omega (arith, c.requires))
 
 pub returns-in-Ok : goal.returns-in-Ok
 returns-in-Ok c =

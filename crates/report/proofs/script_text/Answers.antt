@@ -1,17 +1,17 @@
 use Rattle.std.proofs.Common.{arith}
-use Rattle.text.proofs.Placed.{then}
+use Rattle.memory.proofs.Placed.{then}
 use Rattle.report.specs.Room.{run_room}
 use Rattle.report.proofs.Texts.{script_accepted, script_refused, refusal_fits, accepted_fits, after_accepted}
 use Rattle.report.proofs.script_text.Goals as goal
 
 pub accepted_line-requires : goal.accepted_line-requires
-accepted_line-requires c = accepted_fits _ _ _ (omega (arith, c.requires.1))
+accepted_line-requires c = accepted_fits _ _ _ (omega (arith, c.requires))
 
 pub run_text-requires : goal.run_text-requires
-run_text-requires c = (c.requires.0, after_accepted _ run_room c.accepted_line.ensures c.requires.1)
+run_text-requires c = after_accepted _ run_room c.accepted_line.ensures c.requires
 
 pub refused-requires : goal.refused-requires
-refused-requires c = refusal_fits _ _ _ _ (omega (arith, c.requires.1))
+refused-requires c = refusal_fits _ _ _ _ (omega (arith, c.requires))
 
 pub returns-in-Ok : goal.returns-in-Ok
 returns-in-Ok c =

@@ -1,10 +1,15 @@
-use Rattle.std.proofs.Common.{◌≡◌, ℕ, ◌*◌, ◌≤◌, length, take, sym, ap, ◌∙◌, arith}
+use Rattle.std.proofs.Common.{Option, None, Some, not, true, false, true≢false, refl, ◌≡◌, ℕ, ◌*◌, ◌≤◌, length, take, sym, ap, arith}
 use Rattle.std.proofs.lemmas.List.{length-take-le}
 use Rattle.rules.specs.Answer.{Bytes, Answer, accepted}
 use Rattle.rules.specs.Limits.{sheet_width, report_sheet}
 use Rattle.rules.specs.Calls.{sheeting, sheet_records, sheet_after}
 use Rattle.rules.specs.Report.{sheet_lines, sheet_text}
-use Rattle.text.proofs.Placed.{nothing}
+use Rattle.memory.proofs.Placed.{nothing}
+use Rattle.std.specs.Option.{option_eq}
+use Rattle.reduction.specs.contracts.StopPartialEq.TheImpl.{eq-value}
+use Rattle.reduction.specs.declared.Stop.{Stop}
+use Rattle.reduction.specs.declared.Stop.TheVariants.{Value, MayNot, WrongKind, TooBig}
+use Rattle.reduction.specs.Steps.{end_number}
 use Rattle.report.specs.Room.{value_room}
 use Rattle.report.proofs.Texts.{page_fits, count_within, counted_lines, sheet_refusal, no_value, a_value, refusal_fits, sheet_room}
 use Rattle.report.proofs.value_text.Goals as goal
@@ -25,11 +30,26 @@ module _ (g t v : Bytes) {n : ℕ} (counted : accepted n ≡ sheet_records (shee
     lines_length : length (sheet_lines w (take (sheet_width * n) page)) ≤ value_room
     lines_length = omega (arith, ap length lines, sheet_room w answer (page_fits g t v 0 report_sheet))
 
-pub returns-then-end-ne0 : goal.returns-then-end-ne0
-returns-then-end-ne0 c x e h =
+-- the test of a stop is one of its number
+value_stop : (stop : Option Stop) → not (option_eq eq-value.it stop (Some Value)) ≡ false → end_number stop ≡ 0
+value_stop None e = absurd (true≢false e)
+value_stop (Some Value) e = refl
+value_stop (Some MayNot) e = absurd (true≢false e)
+value_stop (Some WrongKind) e = absurd (true≢false e)
+value_stop (Some TooBig) e = absurd (true≢false e)
+
+other_stop : (stop : Option Stop) → not (option_eq eq-value.it stop (Some Value)) ≡ true → end_number stop ≡ 0 → ⊥
+other_stop None e z = omega arith
+other_stop (Some Value) e z = true≢false (sym e)
+other_stop (Some MayNot) e z = omega arith
+other_stop (Some WrongKind) e z = omega arith
+other_stop (Some TooBig) e z = omega arith
+
+pub returns-then-ne : goal.returns-then-ne
+returns-then-ne c x e h =
     let a = c.args in
-    let none = no_value a.words.now a.groups.now a.types.now x _ e (λ z. c.if-end-ne0.true (c.end_number-end.ensures ∙ z)) in
-    rw none (nothing a.text.now (omega (arith, c.requires.1)))
+    let none = no_value a.words.now a.groups.now a.types.now x _ e (other_stop a.stop (sym c.if-ne.ensures)) in
+    rw none (nothing a.text.now (omega (arith, c.requires)))
 
 pub overflow_mul-sheet : goal.overflow_mul-sheet
 overflow_mul-sheet c = omega (arith, within c.args.groups.now c.args.types.now c.args.value.now c.in-Ok.ensures.0)
@@ -46,21 +66,21 @@ pub sheet_lines-requires : goal.sheet_lines-requires
 sheet_lines-requires c =
     let a = c.args in
     let l = lines_length a.groups.now a.types.now a.value.now c.in-Ok.ensures.0 a.words.now _ c.in-Ok.ensures.1 in
-    (c.requires.0, omega (arith, l, c.requires.1))
+    omega (arith, l, c.requires)
 
 pub refused-requires : goal.refused-requires
-refused-requires c = refusal_fits _ _ _ _ (omega (arith, c.requires.1))
+refused-requires c = refusal_fits _ _ _ _ (omega (arith, c.requires))
 
 pub returns-in-Ok : goal.returns-in-Ok
 returns-in-Ok c x e h =
     let a = c.args in
     let l = lines a.groups.now a.types.now a.value.now c.in-Ok.ensures.0 a.words.now _ c.in-Ok.ensures.1 in
-    let v = a_value a.words.now a.groups.now a.types.now a.value.now x _ e (sym c.end_number-end.ensures ∙ c.if-end-ne0.false) h in
+    let v = a_value a.words.now a.groups.now a.types.now a.value.now x _ e (value_stop a.stop (sym c.if-ne.ensures)) h in
     rw (v, ← l) c.sheet_lines.ensures
 
 pub returns-in-Err : goal.returns-in-Err
 returns-in-Err c x e h =
     let a = c.args in
     let l = sheet_refusal a.words.now _ _ _ c.in-Err.ensures.0 in
-    let v = a_value a.words.now a.groups.now a.types.now a.value.now x _ e (sym c.end_number-end.ensures ∙ c.if-end-ne0.false) h in
+    let v = a_value a.words.now a.groups.now a.types.now a.value.now x _ e (value_stop a.stop (sym c.if-ne.ensures)) h in
     rw (v, ← l) c.refused.ensures

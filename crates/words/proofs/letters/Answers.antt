@@ -7,5 +7,5 @@ use Rattle.words.proofs.letters.Goals as goal
 pub returns : goal.returns
 returns c =
     rw c.unwrap_or.ensures
-    (letters_are (record { whole = c.requires.0; there = c.requires.1; is = c.word.ensures }) _
+    (letters_are (record { whole = c.told-words; there = c.requires; is = c.word.ensures }) _
     (IsFirst-from_position _ _ _ (λ c. is_letter c ≡ false) (λ c. is_letter c ≡ true) c.position-end.ensures.ran (YieldsList-from_slice c.word.result.now cc) (λ x q k. search rules) (λ x q k. search rules)))

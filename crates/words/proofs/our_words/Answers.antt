@@ -1,15 +1,7 @@
-use Rattle.rules.specs.Report.{text}
-use Rattle.words.proofs.Ours.{ours}
+use Rattle.rules.specs.Report.{our_words}
 use Rattle.words.proofs.our_words.Goals as goal
 
 pub returns : goal.returns
-unfolding text
+unfolding our_words
 returns c =
-    ours c.args.words.now c.requires
-    c.clear.ensures
-    c.put_letters.ensures
-    c.put_letters-2.ensures
-    c.put_letters-3.ensures
-    c.put_letters-4.ensures
-    c.put_letters-5.ensures
-    c.put_letters-6.ensures
+    rw (c.put_letters-6.ensures, c.put_letters-5.ensures, c.put_letters-4.ensures, c.put_letters-3.ensures, c.put_letters-2.ensures, c.put_letters.ensures)
