@@ -1,6 +1,5 @@
 -- Zeros to the end of a buffer, and a script copied to its front.
 use Rattle.std.proofs.Common.{◌≡◌, sym, ap, ◌∙◌, ◌++◌, ℕ, ◌+◌, ◌-◌, ◌*◌, ◌≤◌, arith, length, take, drop, take_at, length-take-le}
-use Rattle.std.proofs.Math.Seq.{take-length}
 use Rattle.std.proofs.Common.{subst as transport}
 use Rattle.calculus.specs.Terms.{Term}
 use Rattle.rules.specs.Answer.{Bytes}
@@ -21,13 +20,13 @@ cleared e a a' k n h p l m =
     h ∙ ap (λ (b : Bytes). b ++ zeros (length a - k)) p ∙ ap (λ (j : ℕ). encode e ++ zeros j) z
 
 -- A whole script, copied to the front of a buffer.
-module _ {t : Bytes} (s a a' : Bytes) (st : Startable t s) (h : a' ≡ splice 0 (take (length s) (drop 0 s)) a) where
+module _ {t : Bytes} (s a a' : Bytes) (st : Startable t s) (h : a' ≡ splice 0 s a) where
   pub whole_bytes : script_width * records s ≡ length s
   whole_bytes = omega (arith, ap length st.encoded, term_length (term s), start_records s st.encoded)
 
   pub copied_script : take (script_width * records s) a' ≡ s
   copied_script =
-      ap (take (script_width * records s)) (h ∙ ap (λ (b : Bytes). splice 0 b a) (take-length s))
+      ap (take (script_width * records s)) h
       ∙ take_at s (drop (0 + length s) a) (script_width * records s) (sym whole_bytes)
 
   pub loaded : (room : ℕ) → length s ≤ room → Loaded t a' (records s) room

@@ -143,7 +143,7 @@ halted {t} {a} {n} {room} x k q b h e1 e2 e3 w l =
 
 -- The new term, copied back to the first buffer, is its front.
 module _ (S : Security) (tab : ℕ → Ty) (room : ℕ) (t a a' b b' : Bytes) (e e' : Term) (m : ℕ) where
-  pub copied : step_in S tab room e ≡ moves e' → m ≡ size e' → b' ≡ front_after (step_in S tab room e) b → a' ≡ splice 0 (take (script_width * m) (drop 0 b')) a
+  pub copied : step_in S tab room e ≡ moves e' → m ≡ size e' → b' ≡ front_after (step_in S tab room e) b → a' ≡ splice 0 (take (script_width * m) b') a
       → take (script_width * m) a' ≡ encode e'
   copied h c p q =
       let k : length (encode e') ≡ script_width * m = omega (arith, term_length e') in

@@ -36,7 +36,8 @@ fn spent_on(found: Found) -> Option<Stop>
     }
 }
 
-// Steps of the term at the front of `first`, each written to the scratch and copied back.
+// Steps of the term at the front of `first`, each written to the scratch and copied back. Too big is judged with the scratch, which
+// is not the longer one.
 fn walk(
     groups: &[u8],
     types: &[u8],
@@ -44,19 +45,18 @@ fn walk(
     budget: u64,
     first: &mut [u8],
     scratch: &mut [u8],
-    room: usize,
 ) -> Halt
-    requires { Loaded types.now first.old records room × (room ≤ length first.old) × (room ≤ length scratch.old) }
+    requires { Loaded types.now first.old records (length scratch.old) × (length scratch.old ≤ length first.old) }
     ensures { Halted
-        (run (properties_of groups.now) (type_at types.now) room budget (front first.old records))
-        room result first.new }
+        (run (properties_of groups.now) (type_at types.now) (length scratch.old) budget (front first.old records))
+        (length scratch.old) result first.new }
 {
     let mut n = records;
     for steps in 0..budget {
         let bytes = SCRIPT_WIDTH * n;
-        match reduction::step_term(groups, types, &first[..bytes], scratch, room) {
+        match reduction::step_term(groups, types, &first[..bytes], scratch) {
             Ok(moved) => {
-                memory::copy_part(scratch, 0, SCRIPT_WIDTH * moved, first, 0);
+                memory::put(&scratch[..SCRIPT_WIDTH * moved], first, 0);
                 n = moved;
             }
             Err(stop) => {
@@ -94,7 +94,7 @@ pub fn run_term(
         first.old scratch.old result first.new scratch.new }
 {
     let room = first.len().min(scratch.len());
-    let x = walk(groups, types, records, budget, first, scratch, room);
+    let x = walk(groups, types, records, budget, first, &mut scratch[..room]);
     let end = SCRIPT_WIDTH * x.records;
     memory::clear_from(first, end);
     memory::clear(scratch);
@@ -126,7 +126,7 @@ pub fn run(
         scratch.old result first.new scratch.new) }
 {
     syntax::script_check(groups, types, script, &[first.len(), scratch.len()])?;
-    memory::copy_part(script, 0, script.len(), first, 0);
+    memory::put(script, first, 0);
     let records = records::record_count(script);
     Ok(run_term(groups, types, records, budget, first, scratch))
 }

@@ -1,5 +1,5 @@
 -- A redex in its script, and the new term around its contractum.
-use Rattle.std.proofs.Common.{◌≡◌, sym, ap, ap₂, ◌∙◌, ◌||◌, ◌++◌, append_assoc, ℕ, ◌+◌, ◌*◌, ◌-◌, ◌/◌, ◌≤◌, ◌<◌, arith, ltb, length, take, drop, length-append, length-drop, take_all}
+use Rattle.std.proofs.Common.{◌≡◌, sym, ap, ap₂, ◌∙◌, ◌||◌, ℕ, ◌+◌, ◌*◌, ◌-◌, ◌/◌, ◌≤◌, ◌<◌, arith, ltb, length, take, drop, length-drop, take_all}
 use Rattle.std.proofs.Math.Decide.{dec_lt}
 use borrow.Author.Tests.{lt-ltb, le-ltb}
 use Rattle.calculus.specs.Security.{Security}
@@ -14,10 +14,8 @@ use Rattle.records.specs.Place.{At}
 use Rattle.records.proofs.Stands.{at_start, start_records}
 use Rattle.redex.specs.Contexts.{before, after, offset, beside}
 use Rattle.redex.specs.Found.{Site}
-use Rattle.redex.proofs.Plugs.{plug_bytes, plug_size, plug_depth, plug_within, plug_past, before_length, after_length, before_is, after_is}
+use Rattle.redex.proofs.Plugs.{plug_size, plug_depth, plug_within, plug_past, after_length, before_is, after_is}
 use Rattle.redex.proofs.Places.{site_at}
-use Rattle.memory.specs.Splice.{splice}
-use Rattle.memory.proofs.Laws.{join_next}
 use Rattle.substitution.proofs.Reading.{term_length}
 use Rattle.reduction.specs.Steps.{Startable}
 
@@ -43,7 +41,7 @@ module _ {S : Security} {tab : ℕ → Ty} {t s : Bytes} {at around : ℕ} (st :
   pub at_is : at ≡ offset x.context
   at_is = omega (arith, x.place_is)
 
-  pub front_is : take (script_width * at) (drop 0 s) ≡ before x.context
+  pub front_is : take (script_width * at) s ≡ before x.context
   front_is = ap₂ (λ n b. take (script_width * n) b) at_is script_is ∙ before_is x.context x.redex
 
   pub back_is : (end : ℕ) → end ≡ at + size x.redex → drop (script_width * end) s ≡ after x.context
@@ -59,23 +57,8 @@ module _ {S : Security} {tab : ℕ → Ty} {t s : Bytes} {at around : ℕ} (st :
   end_inside end h = omega (arith, count_is, at_is, after_length x.context)
 
   -- the bytes after the redex, as the code takes them
-  rest_is : (end : ℕ) → end ≡ at + size x.redex → take (length s - script_width * end) (drop (script_width * end) s) ≡ after x.context
+  pub rest_is : (end : ℕ) → end ≡ at + size x.redex → take (length s - script_width * end) (drop (script_width * end) s) ≡ after x.context
   rest_is end h = take_all (length s - script_width * end) (drop (script_width * end) s) (simp length-drop (omega arith)) ∙ back_is end h
-
-  -- the three pieces
-  pub new_term : (e' : Term) (end to : ℕ) (w w1 w2 w3 : Bytes) → end ≡ at + size x.redex → to ≡ script_width * at + script_width * size e'
-      → w1 ≡ splice 0 (take (script_width * at) (drop 0 s)) w → length w1 ≡ length w → w2 ≡ splice (script_width * at) (encode e') w1 → length w2 ≡ length w1
-      → w3 ≡ splice to (take (length s - script_width * end) (drop (script_width * end) s)) w2
-      → w3 ≡ splice 0 (encode (plug x.context e')) w
-  new_term e' end to w w1 w2 w3 h k e1 l1 e2 l2 e3 =
-      let b = before x.context in
-      let n : script_width * at ≡ 0 + length b = omega (arith, before_length x.context, at_is) in
-      let p : w2 ≡ splice 0 (b ++ encode e') w =
-      join_next 0 (script_width * at) b (encode e') w w1 w2 (omega arith) n (e1 ∙ ap (λ (y : Bytes). splice 0 y w) front_is) l1 e2 in
-      let m : to ≡ 0 + length (b ++ encode e') = omega (arith, length-append b (encode e'), term_length e') in
-      join_next 0 to (b ++ encode e') (after x.context) w w2 w3 (omega arith) m p (l2 ∙ l1)
-      (e3 ∙ ap (λ (y : Bytes). splice to y w2) (rest_is end h))
-      ∙ ap (λ (y : Bytes). splice 0 y w) (append_assoc b (encode e') (after x.context) ∙ sym (plug_bytes x.context e'))
 
   -- what stands beside the redex is within the limit of depth already
   deeper : (e' : Term) → ltb depth_limit (around + depth e') ≡ ltb depth_limit (depth (plug x.context e'))

@@ -26,15 +26,14 @@ pub record Startable (t s : Bytes) : Type 0 where
   pub shallow : depth (term s) ≤ depth_limit
   pub table : type_count t ≤ table_limit
 
--- The term can be stepped: its redex stands at record `at` with `around` records around it, and the buffer has `room` bytes.
-pub record Sited (g t s : Bytes) (at around : ℕ) (w : Bytes) (room : ℕ) : Type 0 where
+-- The term can be stepped: its redex stands at record `at` with `around` records around it.
+pub record Sited (g t s : Bytes) (at around : ℕ) : Type 0 where
   pub start : Startable t s
   pub site : Site (properties_of g) (type_at t) 0 0 (term s) at around
-  pub fits : room ≤ length w
 
--- The new term can be written: the redex at record `at` has this plan, ends before record `end`, its contractum has `count` records, and
--- the buffer has room for the whole.
-pub record Placing (g t s : Bytes) (at : ℕ) (p : Plan) (end count : ℕ) (w : Bytes) : Type 0 where
+-- The new term can be written: the redex at record `at` has this plan and ends before record `end`, and the buffer has room for the
+-- whole.
+pub record Placing (g t s : Bytes) (at : ℕ) (p : Plan) (end : ℕ) (w : Bytes) : Type 0 where
   pub start : Startable t s
   pub around : ℕ
   pub site : Site (properties_of g) (type_at t) 0 0 (term s) at around
@@ -42,7 +41,6 @@ pub record Placing (g t s : Bytes) (at : ℕ) (p : Plan) (end count : ℕ) (w : 
   pub end_is : end ≡ at + size site.redex
   pub whole : Term
   pub whole_is : whole ≡ plug site.context (contractum (properties_of g) (type_at t) site.redex)
-  pub count_is : count ≡ size (contractum (properties_of g) (type_at t) site.redex)
   pub fits : script_width * size whole ≤ length w
 
 -- the documents' number of an end: of a step that doesn't move the term, and 1 where nothing stops it

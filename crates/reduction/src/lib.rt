@@ -14,6 +14,7 @@ ghost use Rattle.reduction.specs.Steps.{end_number, told, Startable, Sited, Plac
 
 use answer::Refusal;
 use contraction::Plan;
+use memory::Writer;
 use records::SCRIPT_WIDTH;
 use redex::Found;
 
@@ -46,8 +47,7 @@ pub fn end_number(stop: Option<Stop>) -> u8
     }
 }
 
-// The new term, over the front of `written`: what stands before the redex, the contractum of this many records, what stands
-// after the redex's end.
+// The new term, over the front of `written`: what stands before the redex, the contractum, what stands after the redex's end.
 fn write_new(
     groups: &[u8],
     types: &[u8],
@@ -55,27 +55,24 @@ fn write_new(
     at: usize,
     plan: Plan,
     end: usize,
-    records: usize,
     written: &mut [u8],
 )
-    requires { Placing groups.now types.now script.now at plan end records written.old }
-    ensures { (q : Placing groups.now types.now script.now at plan end records
-        written.old) → written.new ≡ splice 0 (encode q.whole) written.old }
+    requires { Placing groups.now types.now script.now at plan end written.old }
+    ensures { (q : Placing groups.now types.now script.now at plan end written.old)
+        → written.new ≡ splice 0 (encode q.whole) written.old }
 {
-    let start = SCRIPT_WIDTH * at;
-    memory::copy_part(script, 0, start, written, 0);
-    contraction::write_contractum(groups, types, script, at, plan, written, start);
-    let from = SCRIPT_WIDTH * end;
-    let to = start + SCRIPT_WIDTH * records;
-    memory::copy_part(script, from, script.len() - from, written, to);
+    let mut out = Writer::new(written);
+    out.put(&script[..SCRIPT_WIDTH * at]);
+    contraction::write_contractum(groups, types, script, at, plan, &mut out);
+    out.put(&script[SCRIPT_WIDTH * end..]);
 }
 
-// Too big: more than 8,192 records, more than the room divided by 8, or depth over 256.
-fn exceeds(room: usize, records: usize, depth: usize) -> bool
-    ensures { result ≡ (ltb script_limit records || (ltb (room / script_width) records || ltb depth_limit depth)) }
+// Too big: more than 8,192 records, more than the room that is lent divided by 8, or depth over 256.
+fn exceeds(written: &[u8], records: usize, depth: usize) -> bool
+    ensures { result ≡ (ltb script_limit records || (ltb (length written.now / script_width) records || ltb depth_limit depth)) }
 {
     (script::SCRIPT_LIMIT < records)
-        | ((room / SCRIPT_WIDTH < records) | (scope::DEPTH_LIMIT < depth))
+        | ((written.len() / SCRIPT_WIDTH < records) | (scope::DEPTH_LIMIT < depth))
 }
 
 // The redex at record `at`, with `around` records around it, contracted. The new term is counted first. What stands beside the
@@ -87,46 +84,42 @@ fn contract(
     at: usize,
     around: usize,
     written: &mut [u8],
-    room: usize,
 ) -> Result<usize, Stop>
-    requires { Sited groups.now types.now script.now at around written.old room }
+    requires { Sited groups.now types.now script.now at around }
     ensures { (result ≡ told
-        (step_in (properties_of groups.now) (type_at types.now) room (term script.now)))
+        (step_in (properties_of groups.now) (type_at types.now) (length written.old) (term script.now)))
         × (written.new
-        ≡ front_after (step_in (properties_of groups.now) (type_at types.now) room
+        ≡ front_after (step_in (properties_of groups.now) (type_at types.now) (length written.old)
         (term script.now)) written.old) }
 {
     let plan = contraction::plan_of(script, at);
     let size = contraction::measure(script, at, plan);
     let end = records::end_of(script, at);
     let total = at + size.records + (records::record_count(script) - end);
-    if exceeds(room, total, around + size.depth) {
+    if exceeds(written, total, around + size.depth) {
         return Err(Stop::TooBig);
     }
-    write_new(groups, types, script, at, plan, end, size.records, written);
+    write_new(groups, types, script, at, plan, end, written);
     Ok(total)
 }
 
-// One step of a term that stands alone in `script`; the new term to the front of `written`, of which `room` bytes may be used.
+// One step of a term that stands alone in `script`; the new term to the front of `written`.
 pub fn step_term(
     groups: &[u8],
     types: &[u8],
     script: &[u8],
     written: &mut [u8],
-    room: usize,
 ) -> Result<usize, Stop>
-    requires { Startable types.now script.now × (room ≤ length written.old) }
+    requires { Startable types.now script.now }
     ensures { (result ≡ told
-        (step_in (properties_of groups.now) (type_at types.now) room (term script.now)))
+        (step_in (properties_of groups.now) (type_at types.now) (length written.old) (term script.now)))
         × (written.new
-        ≡ front_after (step_in (properties_of groups.now) (type_at types.now) room
+        ≡ front_after (step_in (properties_of groups.now) (type_at types.now) (length written.old)
         (term script.now)) written.old) }
 {
     match redex::find(groups, types, script, 0, 0) {
         Found::Value(_) => Err(Stop::Value),
-        Found::Redex { place, around } => contract(
-            groups, types, script, place, around, written, room,
-        ),
+        Found::Redex { place, around } => contract(groups, types, script, place, around, written),
         Found::Denied => Err(Stop::MayNot),
         Found::Stuck => Err(Stop::WrongKind),
     }
@@ -148,8 +141,7 @@ pub fn step(
 {
     syntax::script_check(groups, types, script, &[])?;
     let own = records::record_count(script);
-    let room = written.len();
-    match step_term(groups, types, script, written, room) {
+    match step_term(groups, types, script, written) {
         Ok(moved) => Ok(StepReport {
             stop: None,
             records: moved,

@@ -35,11 +35,11 @@ returns-in_err-script_check c =
           (λ k. omega (arith, c.type_inv.script k)) _ _ _ h,
     )
 
-pub copy_part-requires : goal.copy_part-requires
-copy_part-requires c =
+pub put-requires : goal.put-requires
+put-requires c =
     let a = c.args in
     let r = roomy a.groups.now a.types.now a.script.now a.first.now a.scratch.now (λ k. omega (arith, c.type_inv.script k)) c.in_ok-script_check.ensures in
-    (omega arith, omega (arith, r.0))
+    omega (arith, r.0)
 
 pub run_term-requires : goal.run_term-requires
 run_term-requires c =
@@ -47,20 +47,20 @@ run_term-requires c =
     let octets : Octets a.script.now = λ k. omega (arith, c.type_inv.script k) in
     let q = ready a.groups.now a.types.now a.script.now a.first.now a.scratch.now octets c.in_ok-script_check.ensures in
     let r = roomy a.groups.now a.types.now a.script.now a.first.now a.scratch.now octets c.in_ok-script_check.ensures in
-    let b = c.copy_part.new.to in
+    let b = c.put.new.to in
     let room = min (length b) (length a.scratch.now) in
     transport (λ (n : ℕ). Loaded a.types.now b n room) (sym c.record_count-records.ensures)
-    (loaded a.script.now a.first.now b q c.copy_part.ensures room (omega (arith, r.0, r.1, c.copy_part.auto.to)))
+    (loaded a.script.now a.first.now b q c.put.ensures room (omega (arith, r.0, r.1, c.put.auto.to)))
 
 pub returns : goal.returns
 returns c =
     let a = c.args in
     let octets : Octets a.script.now = λ k. omega (arith, c.type_inv.script k) in
     let q = ready a.groups.now a.types.now a.script.now a.first.now a.scratch.now octets c.in_ok-script_check.ensures in
-    let b = c.copy_part.new.to in
+    let b = c.put.new.to in
     let h = ran_so a.groups.now a.types.now a.script.now a.budget a.first.now a.scratch.now (sym c.in_ok-script_check.ensures) b _ _ (front b c.record_count-records.result)
-    c.run_term.result c.copy_part.auto.to
-    (ap (front b) c.record_count-records.ensures ∙ ap term (copied_script a.script.now a.first.now b q c.copy_part.ensures))
+    c.run_term.result c.put.auto.to
+    (ap (front b) c.record_count-records.ensures ∙ ap term (copied_script a.script.now a.first.now b q c.put.ensures))
     c.run_term.ensures in (
       h.0,
       h.1,

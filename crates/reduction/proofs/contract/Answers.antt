@@ -1,4 +1,4 @@
-use Rattle.std.proofs.Common.{◌≡◌, refl, sym, ap, ◌∙◌, false, Result, Ok, ℕ, ◌+◌, ◌-◌, ◌≤◌, arith}
+use Rattle.std.proofs.Common.{◌≡◌, refl, sym, ap, ◌∙◌, false, Result, Ok, ℕ, ◌+◌, ◌-◌, ◌≤◌, arith, length}
 use Rattle.calculus.specs.Terms.{Term}
 use Rattle.calculus.specs.Reduction.{plug}
 use Rattle.rules.specs.Answer.{Bytes}
@@ -29,7 +29,7 @@ use Rattle.reduction.proofs.contract.Goals as goal
 counts : {n m : ℕ} → n ≡ m → ◌≡◌ {A = Result ℕ Stop} (Ok n) (Ok m)
 counts h = rw h
 
-module _ {g t s w : Bytes} {at around room : ℕ} (q : Sited g t s at around w room) where
+module _ {g t s : Bytes} {at around : ℕ} (q : Sited g t s at around) where
   -- the contractum, and the new term
   abbrev part : Term
   part = contractum (properties_of g) (type_at t) q.site.redex
@@ -67,9 +67,9 @@ module _ {g t s w : Bytes} {at around room : ℕ} (q : Sited g t s at around w r
   total {end} e n m = omega (arith, new_size q.start q.site part end e, m.records, n)
 
   -- the place of the new term, where it isn't too big
-  placing : {p : Plan} {end : ℕ} {m : Size} → ((f : Fires s at) → Planned s f.tree p) → end ≡ at + size q.site.redex → Measures part m
-      → exceeds room whole ≡ false → Placing g t s at p end m.records w
-  placing plan e m small = record {
+  placing : (w : Bytes) {p : Plan} {end : ℕ} → ((f : Fires s at) → Planned s f.tree p) → end ≡ at + size q.site.redex
+      → exceeds (length w) whole ≡ false → Placing g t s at p end w
+  placing w plan e small = record {
     start = q.start;
     around = around;
     site = q.site;
@@ -77,8 +77,7 @@ module _ {g t s w : Bytes} {at around room : ℕ} (q : Sited g t s at around w r
     end_is = e;
     whole = whole;
     whole_is = refl;
-    count_is = m.records;
-    fits = omega (arith, (within_limits room whole small).1, q.fits);
+    fits = omega (arith, (within_limits (length w) whole small).1);
   }
 
 pub plan_of-plan-requires : goal.plan_of-plan-requires
@@ -125,8 +124,8 @@ returns-then-exceeds c =
     let q = c.requires in
     let m = c.measure-size.ensures (ready q c.plan_of-plan.ensures) S tab in
     let n = total q (c.end_of-end.ensures _ (redex_at q.start q.site)) c.record_count.ensures m in
-    let big = c.exceeds.ensures ∙ exceeds_is q.start q.site c.args.room _ _ (part q) n m.deep in
-    let h = ends_too_big S tab (term c.args.script.now) c.args.room (whole q) (site_moves S tab q.site) (sym big ∙ c.if-exceeds.true) in
+    let big = c.exceeds.ensures ∙ exceeds_is q.start q.site (length c.args.written.now) _ _ (part q) n m.deep in
+    let h = ends_too_big S tab (term c.args.script.now) (length c.args.written.now) (whole q) (site_moves S tab q.site) (sym big ∙ c.if-exceeds.true) in
     (sym (ap told h), sym (ap (λ (x : End). front_after x c.args.written.now) h))
 
 pub write_new-requires : goal.write_new-requires
@@ -135,8 +134,8 @@ write_new-requires c =
     let plan = c.plan_of-plan.ensures in
     let m = c.measure-size.ensures (ready q plan) (properties_of c.args.groups.now) (type_at c.args.types.now) in
     let e = c.end_of-end.ensures _ (redex_at q.start q.site) in
-    let big = c.exceeds.ensures ∙ exceeds_is q.start q.site c.args.room _ _ (part q) (total q e c.record_count.ensures m) m.deep in
-    placing q plan e m (sym big ∙ c.if-exceeds.false)
+    let big = c.exceeds.ensures ∙ exceeds_is q.start q.site (length c.args.written.now) _ _ (part q) (total q e c.record_count.ensures m) m.deep in
+    placing q c.args.written.now plan e (sym big ∙ c.if-exceeds.false)
 
 pub returns : goal.returns
 unfolding placing
@@ -148,10 +147,10 @@ returns c =
     let m = c.measure-size.ensures (ready q plan) S tab in
     let e = c.end_of-end.ensures _ (redex_at q.start q.site) in
     let n = total q e c.record_count.ensures m in
-    let small = sym (c.exceeds.ensures ∙ exceeds_is q.start q.site c.args.room _ _ (part q) n m.deep) ∙ c.if-exceeds.false in
-    let h = ends_moved S tab (term c.args.script.now) c.args.room (whole q) (site_moves S tab q.site) small in (
+    let small = sym (c.exceeds.ensures ∙ exceeds_is q.start q.site (length c.args.written.now) _ _ (part q) n m.deep) ∙ c.if-exceeds.false in
+    let h = ends_moved S tab (term c.args.script.now) (length c.args.written.now) (whole q) (site_moves S tab q.site) small in (
       counts n ∙ sym (ap told h),
-      c.write_new.ensures (placing q plan e m small)
+      c.write_new.ensures (placing q c.args.written.now plan e small)
           ∙ splice_front (encode (whole q)) c.args.written.now
           ∙ sym (ap (λ (x : End). front_after x c.args.written.now) h),
     )

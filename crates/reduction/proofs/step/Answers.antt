@@ -14,7 +14,7 @@ returns-in_err-script_check c =
 
 pub step_term-requires : goal.step_term-requires
 step_term-requires c =
-    (startable [] c.args.groups.now c.args.types.now c.args.script.now (λ k. omega (arith, c.type_inv.script k)) (sym c.in_ok-script_check.ensures), omega arith)
+    startable [] c.args.groups.now c.args.types.now c.args.script.now (λ k. omega (arith, c.type_inv.script k)) (sym c.in_ok-script_check.ensures)
 
 pub returns-in-Ok : goal.returns-in-Ok
 returns-in-Ok c =

@@ -1,4 +1,4 @@
-use Rattle.std.proofs.Common.{ℕ, ◌≡◌, sym, ap}
+use Rattle.std.proofs.Common.{ℕ, ◌≡◌, sym, ap, length}
 use Rattle.std.proofs.Common.{subst as transport}
 use Rattle.rules.specs.Answer.{Bytes}
 use Rattle.rules.specs.Step.{End}
@@ -23,22 +23,21 @@ stops w h = (sym (ap told h), sym (ap (λ (x : End). front_after x w) h))
 
 pub contract-requires : goal.contract-requires
 contract-requires c = record {
-  start = c.requires.0;
-  site = found_site (found c.in-Redex.is (c.find.ensures _ (at_start _ c.requires.0.encoded)));
-  fits = c.requires.1;
+  start = c.requires;
+  site = found_site (found c.in-Redex.is (c.find.ensures _ (at_start _ c.requires.encoded)));
 }
 
 pub returns-in-Value : goal.returns-in-Value
 returns-in-Value c =
-    stops c.args.written.now (ends_value c.args.room (found c.in-Value.is (c.find.ensures _ (at_start _ c.requires.0.encoded))))
+    stops c.args.written.now (ends_value (length c.args.written.now) (found c.in-Value.is (c.find.ensures _ (at_start _ c.requires.encoded))))
 
 pub returns-in-Redex : goal.returns-in-Redex
 returns-in-Redex c = c.contract.ensures
 
 pub returns-in-Denied : goal.returns-in-Denied
 returns-in-Denied c =
-    stops c.args.written.now (ends_denied c.args.room (found c.in-Denied.is (c.find.ensures _ (at_start _ c.requires.0.encoded))))
+    stops c.args.written.now (ends_denied (length c.args.written.now) (found c.in-Denied.is (c.find.ensures _ (at_start _ c.requires.encoded))))
 
 pub returns-in-Stuck : goal.returns-in-Stuck
 returns-in-Stuck c =
-    stops c.args.written.now (ends_stuck c.args.room (found c.in-Stuck.is (c.find.ensures _ (at_start _ c.requires.0.encoded))))
+    stops c.args.written.now (ends_stuck (length c.args.written.now) (found c.in-Stuck.is (c.find.ensures _ (at_start _ c.requires.encoded))))

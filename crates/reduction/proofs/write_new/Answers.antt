@@ -1,35 +1,57 @@
-use Rattle.std.proofs.Common.{◌≡◌, sym, ap, ◌∙◌, ℕ, ◌+◌, ◌*◌, ◌-◌, ◌≤◌, arith, length}
+use Rattle.std.proofs.Common.{rules}
+use Rattle.std.proofs.Common.{◌≡◌, refl, ap, ap₂, ◌∙◌, ◌++◌, ℕ, ◌*◌, ◌-◌, ◌≤◌, arith, length, take, drop, length-take-le}
+use Rattle.std.proofs.Common.{subst as transport}
 use Rattle.calculus.specs.Terms.{Term}
 use Rattle.rules.specs.Answer.{Bytes}
 use Rattle.rules.specs.Limits.{script_width}
 use Rattle.rules.specs.Groups.{properties_of}
 use Rattle.rules.specs.Types.{type_at}
-use Rattle.rules.specs.Script.{records, encode, size}
+use Rattle.rules.specs.Script.{encode}
+use Rattle.redex.specs.Contexts.{before, after}
 use Rattle.redex.specs.Fates.{contractum}
+use Rattle.redex.proofs.Plugs.{plug_bytes}
 use Rattle.memory.specs.Splice.{splice}
+use Rattle.memory.specs.Written.{Room, Written}
+use Rattle.memory.specs.declared.Writer.{Writer}
+use Rattle.memory.proofs.Placed.{then, room_first, room_next}
+use Rattle.substitution.proofs.Reading.{term_length}
 use Rattle.contraction.specs.declared.Plan.{Plan}
 use Rattle.contraction.specs.Plans.{Fit}
 use Rattle.reduction.specs.Steps.{Placing}
-use Rattle.reduction.proofs.Splices.{redex_at, redex_small, redex_shallow, length_is, new_size, end_inside, new_term}
+use Rattle.reduction.proofs.Splices.{redex_at, redex_small, redex_shallow, length_is, end_inside, front_is, rest_is}
 use Rattle.reduction.proofs.write_new.Goals as goal
+use Rattle.std.specs.Borrow.{MutBor}
 
-module _ {g t s w : Bytes} {at end count : ℕ} {p : Plan} (q : Placing g t s at p end count w) where
-  new : Term
+module _ {g t s w : Bytes} {at end : ℕ} {p : Plan} (q : Placing g t s at p end w) where
+  abbrev new : Term
   new = contractum (properties_of g) (type_at t) q.site.redex
 
-  total : size q.whole ≡ at + count + (records s - end)
-  unfolding new
-  total = ap size q.whole_is ∙ new_size q.start q.site new end q.end_is ∙ ap (λ n. at + n + (records s - end)) (sym q.count_is)
+  inside : script_width * end ≤ length s
+  inside = omega (arith, end_inside q.start q.site end q.end_is, length_is q.start q.site)
 
-  inside : end ≤ records s
-  inside = end_inside q.start q.site end q.end_is
+  at_before : at ≤ end
+  at_before = omega (arith, q.end_is)
 
-  bytes : length s ≡ script_width * records s
-  bytes = length_is q.start q.site
+  -- the new term's bytes: before the redex, the contractum, after it
+  whole_bytes : encode q.whole ≡ before q.site.context ++ (encode new ++ after q.site.context)
+  whole_bytes = ap encode q.whole_is ∙ plug_bytes q.site.context new
 
-  -- the contractum fits where the redex stood
-  fit : (w' : Bytes) → length w' ≡ length w → Fit g t s at p w' (script_width * at)
-  fit w' l = record {
+  begun_room : (out : Writer) {lent : MutBor Bytes} → (out.end ≡ 0) × (out.out ≡ lent) → lent.now ≡ w
+      → Room (before q.site.context ++ (encode new ++ after q.site.context)) out
+  begun_room out e l =
+      transport (λ (b : Bytes). Room b out) whole_bytes
+      (omega (arith, e.0, ap (λ (o : MutBor Bytes). length o.now) e.1, ap length l, q.fits, term_length q.whole))
+
+  front_written : {out out' : Writer} → Written (take (script_width * at) s) out out' → Written (before q.site.context) out out'
+  front_written {out} {out'} m = transport (λ (b : Bytes). Written b out out') (front_is q.start q.site) m
+
+  -- room for the contractum and what follows it, once the front is written
+  next_room : (out : Writer) {out' : Writer} {lent : MutBor Bytes} → (out.end ≡ 0) × (out.out ≡ lent) → lent.now ≡ w → Written (take (script_width * at) s) out out'
+      → Room (encode new ++ after q.site.context) out'
+  next_room out e l m = room_next (encode new ++ after q.site.context) (front_written m) (begun_room out e l)
+
+  abbrev fit : (out : Writer) → Room (encode new ++ after q.site.context) out → Fit g t s at p out
+  fit out r = record {
     ready = record {
       tree = q.site.redex;
       stands = redex_at q.start q.site;
@@ -39,45 +61,49 @@ module _ {g t s w : Bytes} {at end count : ℕ} {p : Plan} (q : Placing g t s at
     };
     contracts = q.site.goes;
     table = q.start.table;
-    fits = omega (arith, q.fits, total, q.count_is);
+    room = room_first (encode new) (after q.site.context) out r;
   }
 
-pub overflow_mul-start : goal.overflow_mul-start
-overflow_mul-start c = omega (arith, inside c.requires, bytes c.requires, c.requires.end_is)
+  whole_written : {o o₁ o₂ o₃ : Writer} → Written (take (script_width * at) s) o o₁ → Written (encode new) o₁ o₂
+      → Written (take (length s - script_width * end) (drop (script_width * end) s)) o₂ o₃ → Written (encode q.whole) o o₃
+  whole_written {o₂ = o₂} {o₃ = o₃} m n r =
+      rw whole_bytes (then (front_written m) (then n (transport (λ (b : Bytes). Written b o₂ o₃) (rest_is q.start q.site end q.end_is) r)))
 
-pub copy_part-requires : goal.copy_part-requires
-copy_part-requires c =
+pub overflow_mul-at : goal.overflow_mul-at
+overflow_mul-at c = omega (arith, inside c.requires, at_before c.requires)
+
+pub slice_bounds-put-end : goal.slice_bounds-put-end
+slice_bounds-put-end c =
+    let l : script_width * c.args.at ≤ length c.args.script.now = omega (arith, inside c.requires, at_before c.requires) in
+    omega (arith, length-take-le (script_width * c.args.at) c.args.script.now l)
+
+pub put-requires : goal.put-requires
+put-requires c =
     let q = c.requires in
-    (omega (arith, inside q, bytes q, q.end_is), omega (arith, q.fits, total q))
+    rw (front_is q.start q.site) (room_first (before q.site.context) _ c.new-out.result (begun_room q c.new-out.result c.new-out.ensures refl))
 
 pub write_contractum-requires : goal.write_contractum-requires
-write_contractum-requires c = fit c.requires _ c.copy_part.auto.to
+write_contractum-requires c = fit c.requires c.put.new.self (next_room c.requires c.new-out.result c.new-out.ensures refl c.put.ensures)
 
-pub overflow_mul-from : goal.overflow_mul-from
-overflow_mul-from c = omega (arith, inside c.requires, bytes c.requires)
+pub overflow_mul-end : goal.overflow_mul-end
+overflow_mul-end c = omega (arith, inside c.requires)
 
-pub overflow_mul-to : goal.overflow_mul-to
-overflow_mul-to c = omega (arith, c.requires.fits, total c.requires)
+pub slice_bounds-put-count : goal.slice_bounds-put-count
+slice_bounds-put-count c = omega (arith, inside c.requires)
 
-pub overflow_add-to : goal.overflow_add-to
-overflow_add-to c = omega (arith, c.requires.fits, total c.requires)
+pub slice_bounds-put-start : goal.slice_bounds-put-start
+slice_bounds-put-start c = omega (arith, inside c.requires)
 
-pub overflow_sub-script : goal.overflow_sub-script
-overflow_sub-script c = omega (arith, inside c.requires, bytes c.requires)
-
-pub copy_part-requires-2 : goal.copy_part-requires-2
-copy_part-requires-2 c =
+pub put-requires-2 : goal.put-requires-2
+put-requires-2 c =
     let q = c.requires in
-    (omega (arith, inside q, bytes q), omega (arith, inside q, bytes q, q.fits, total q, c.copy_part.auto.to, c.write_contractum.auto.written))
+    let r = next_room q c.new-out.result c.new-out.ensures refl c.put.ensures in
+    rw (rest_is q.start q.site c.args.end q.end_is) (room_next _ (c.write_contractum.ensures (fit q c.put.new.self r)) r)
 
 pub returns : goal.returns
-unfolding new fit
 returns c q =
-    let kept = c.copy_part.auto.to in
-    new_term q.start q.site (new q) c.args.end (script_width * c.args.at + script_width * c.args.records) c.args.written.now
-    c.copy_part.new.to c.write_contractum.new.written _ q.end_is
-    (ap (λ n. script_width * c.args.at + script_width * n) q.count_is)
-    c.copy_part.ensures kept
-    (c.write_contractum.ensures (fit q _ kept)) c.write_contractum.auto.written
-    c.copy_part-2.ensures
-    ∙ ap (λ (e : Term). splice 0 (encode e) c.args.written.now) (sym q.whole_is)
+    let r = next_room q c.new-out.result c.new-out.ensures refl c.put.ensures in
+    let m = whole_written q c.put.ensures (c.write_contractum.ensures (fit q c.put.new.self r)) c.put-2.ensures in
+    let h : c.put-2.new.self.out.now ≡ splice 0 (encode q.whole) c.args.written.now =
+    m.holds ∙ ap₂ (λ (n : ℕ) (o : MutBor Bytes). splice n (encode q.whole) o.now) c.new-out.ensures.0 c.new-out.ensures.1 in
+    search rules
