@@ -17,11 +17,12 @@ use Rattle.types.specs.declared.Kind.{Kind}
 use Rattle.types.specs.declared.Kind.TheVariants.{Unit, Function}
 use Rattle.types.specs.Kinds.{kind_number}
 use Rattle.types.specs.Held.{kind_of, left_of, right_of}
-use Rattle.types.proofs.Parts.{type_length, type_positive}
-use Rattle.subtyping.proofs.Order.{turned, turned_function, turned_other, only_unit, only_function}
+use Rattle.types.proofs.Numbered.{same_kind}
+use Rattle.types.proofs.Parts.{type_length, type_positive, sides_size}
+use Rattle.subtyping.proofs.Order.{turned, turned_round, straight_on}
 use Rattle.common_types.specs.Walks.{At, TwoTypes, common_record, answered, Walked}
 use Rattle.common_types.proofs.Answers.{found_is, apart_is}
-use Rattle.common_types.proofs.Trees.{remade, remade_size, remade_records, sides_size, with_sides, kinds_apart, of_units, of_sides, common_size}
+use Rattle.common_types.proofs.Trees.{remade, remade_size, remade_records, with_sides, kinds_apart, of_units, of_sides, common_size}
 use Rattle.common_types.proofs.Places.{at_same, room, left_at, right_at}
 
 -- no common type, whatever is written over the first
@@ -66,16 +67,11 @@ module _ (S : Security) (d : Direction) {w : Bytes} {at other : ℕ} (p : TwoTyp
     pub is : d' ≡ turned p.first d
 
   module _ {k : Kind} (kind_is : kind_number k ≡ kind_of p.first) {d' : Direction} where
-    pub turned_round : k ≡ Function → d' ≡ opposite d → Sided d'
-    turned_round f e =
-        let z : kind_of p.first ≡ 3 = sym kind_is ∙ ap kind_number f in
-        record { two = λ n. omega arith; is = e ∙ sym (turned_function p.first d z) }
+    pub at_function : k ≡ Function → d' ≡ opposite d → Sided d'
+    at_function f e = record { two = λ n. omega (arith, ap kind_number f); is = e ∙ turned_round d f p.first kind_is }
 
-    pub straight_on : (k ≡ Unit → ⊥) → (k ≡ Function → ⊥) → d' ≡ d → Sided d'
-    straight_on n m e = record {
-      two = λ z. n (only_unit k (kind_is ∙ z));
-      is = e ∙ sym (turned_other p.first d (λ z. m (only_function k (kind_is ∙ z))));
-    }
+    pub at_other : (k ≡ Unit → ⊥) → (k ≡ Function → ⊥) → d' ≡ d → Sided d'
+    at_other n m e = record { two = λ z. n (same_kind k Unit (kind_is ∙ z)); is = e ∙ straight_on d m p.first kind_is }
 
   -- the types are of one kind, and their common first record is written
   pub record First (w₁ : Bytes) : Type 0 where
@@ -93,10 +89,6 @@ abbrev pub firsts : {w : Bytes} {at other : ℕ} (p : TwoTypes w at other) (S : 
     → ((p : TwoTypes w at other) → w₁ ≡ splice (type_width * at) (common_record S d p) w)
     → First S d p w₁
 firsts p S d e f = record { same = eqb-true _ _ (sym e); wrote = f p }
-
--- the left sides' direction, in one way or the other
-abbrev pub sided : {w : Bytes} {at other : ℕ} (p : TwoTypes w at other) (S : Security) (d d' : Direction) → Sided S d p d' → Sided S d p d'
-sided p S d d' s = s
 
 abbrev pub walked_lefts : {S : Security} {d : Direction} {w : Bytes} {at other : ℕ} {p : TwoTypes w at other} {w₁ : Bytes} {d' : Direction}
     → First S d p w₁ → Sided S d p d' → {x : Option ℕ} {w₂ : Bytes}

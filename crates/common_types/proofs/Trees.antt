@@ -1,33 +1,15 @@
 -- The common type as a walk finds it: the kinds, the first records, the left sides, the right sides. Once for both directions.
-use Rattle.std.proofs.Common.{◌≡◌, ◌+◌, Bool, true, false, ◌++◌, refl, ap, sym, ◌∙◌, arith}
+use Rattle.std.proofs.Common.{◌≡◌, ◌+◌, Bool, false, ◌++◌, refl, ap, sym, ◌∙◌, arith, eq-eqb, ne_eqb}
 use Rattle.std.proofs.Math.Option.{Option, none, some, some-injective, none-ne-some}
 use Rattle.calculus.specs.Security.{Property, Security}
-use Rattle.calculus.specs.Types.{Former, sum, product, function, Ty, one, node, top, size_t, same, when, ◌>>=◌}
+use Rattle.calculus.specs.Types.{Ty, one, node, top, size_t, same, when, ◌>>=◌}
 use Rattle.calculus.specs.Subtyping.{Direction, leftward}
 use Rattle.calculus.specs.Common.{bound, common}
-use Rattle.calculus.proofs.Directed.{same_refl, same_eq}
 use Rattle.calculus.proofs.Answers.{bind_some, when_some}
-use Rattle.rules.specs.Types.{former_kind, type_record, encode_type, no_type, make_type}
+use Rattle.rules.specs.Types.{type_record, encode_type}
 use Rattle.types.specs.Held.{kind_of, left_of, right_of}
+use Rattle.types.proofs.Formers.{former_not_unit, same_former}
 use Rattle.subtyping.proofs.Order.{turned}
-
--- no former has the kind of a unit
-not_unit : (f : Former) → former_kind f ≡ 0 → ⊥
-not_unit sum e = omega arith
-not_unit product e = omega arith
-not_unit function e = omega arith
-
--- formers of one kind are the same
-former_same : (f g : Former) → former_kind f ≡ former_kind g → f ≡ g
-former_same f g e =
-    let h : node f (top no_type) no_type no_type ≡ node g (top no_type) no_type no_type =
-    sym (made f) ∙ ap (λ n. make_type n (top no_type) no_type no_type) e ∙ made g in
-    cc
-  where
-    made : (f : Former) → make_type (former_kind f) (top no_type) no_type no_type ≡ node f (top no_type) no_type no_type
-    made sum = refl
-    made product = refl
-    made function = refl
 
 -- a type with another first property and other sides
 abbrev pub remade : Ty → Property → Ty → Ty → Ty
@@ -45,11 +27,6 @@ unfolding encode_type
 remade_records (one k) l a b two = absurd (two refl)
 remade_records (node f k s t) l a b two = refl
 
-pub sides_size : (s : Ty) → (kind_of s ≡ 0 → ⊥) → size_t s ≡ 1 + (size_t (left_of s) + size_t (right_of s))
-unfolding size_t
-sides_size (one k) two = absurd (two refl)
-sides_size (node f k s t) two = refl
-
 -- the common types of both sides under the common first record
 abbrev pub with_sides : Ty → Property → Option Ty → Option Ty → Option Ty
 with_sides s k l r = ◌>>=◌ l (λ a. ◌>>=◌ r (λ b. some (remade s k a b)))
@@ -66,27 +43,23 @@ module _ (S : Security) (d : Direction) where
   kinds_apart (one k) (node g l t t') n = refl
   kinds_apart (node f k s s') (one l) n = refl
   kinds_apart (node f k s s') (node g l t t') n =
-      never (common S (leftward f d) s t) (common S d s' t') (same f g) (λ a b. node f (bound S d k l) a b) (differ (same f g) refl)
-    where
-      differ : (b : Bool) → same f g ≡ b → same f g ≡ false
-      differ true e = absurd (n (ap former_kind (same_eq f g e)))
-      differ false e = e
+      never (common S (leftward f d) s t) (common S d s' t') (same f g) (λ a b. node f (bound S d k l) a b) (same_former f g ∙ ne_eqb _ _ n)
 
   pub of_units : (s t : Ty) → kind_of s ≡ 0 → kind_of s ≡ kind_of t → common S d s t ≡ some (one (bound S d (top s) (top t)))
   unfolding common
   of_units (one k) (one l) z e = refl
-  of_units (one k) (node g l t t') z e = absurd (not_unit g (sym e))
-  of_units (node f k s s') t z e = absurd (not_unit f z)
+  of_units (one k) (node g l t t') z e = absurd (former_not_unit g (sym e))
+  of_units (node f k s s') t z e = absurd (former_not_unit f z)
 
   pub of_sides : (s t : Ty) → (kind_of s ≡ 0 → ⊥) → kind_of s ≡ kind_of t
       → common S d s t
       ≡ with_sides s (bound S d (top s) (top t)) (common S (turned s d) (left_of s) (left_of t)) (common S d (right_of s) (right_of t))
   unfolding common
   of_sides (one k) t two e = absurd (two refl)
-  of_sides (node f k s s') (one l) two e = absurd (not_unit f e)
+  of_sides (node f k s s') (one l) two e = absurd (former_not_unit f e)
   of_sides (node f k s s') (node g l t t') two e =
       ap (λ c. ◌>>=◌ (common S (leftward f d) s t) (λ a. ◌>>=◌ (common S d s' t') (λ b. when c (node f (bound S d k l) a b))))
-      (ap (same f) (sym (former_same f g e)) ∙ same_refl f)
+      (same_former f g ∙ eq-eqb _ _ e)
 
 -- types that have a common one have as many records as it
 pub common_size : (S : Security) (d : Direction) (s t : Ty) {u : Ty} → common S d s t ≡ some u → (size_t u ≡ size_t s) × (size_t u ≡ size_t t)

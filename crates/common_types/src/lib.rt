@@ -11,8 +11,7 @@ ghost use Rattle.rules.specs.Limits.{type_width};
 ghost use Rattle.rules.specs.Groups.{properties_of};
 ghost use Rattle.memory.specs.Splice.{splice};
 ghost use Rattle.common_types.specs.Directions.{said_direction};
-ghost use Rattle.types.specs.Kinds.{kind_number};
-ghost use Rattle.types.specs.Held.{kind_of};
+ghost use Rattle.types.specs.Held.{Held, kind_of};
 ghost use Rattle.common_types.specs.Walks.{At, TwoTypes, common_record, Walked};
 
 use types::Kind;
@@ -35,12 +34,12 @@ impl Direction {
     }
 }
 
-// The kind of the type at record i.
-fn kind_at(w: &[u8], i: usize) -> Kind
+// The part that starts with the type at record i.
+fn type_at(w: &[u8], i: usize) -> &[u8]
     requires { (t : Ty) × At w.now i t }
-    ensures { (t : Ty) → At w.now i t → kind_number result ≡ kind_of t }
+    ensures { (t : Ty) → At w.now i t → Held result.now t }
 {
-    types::kind_of(&w[types::TYPE_WIDTH * i..])
+    &w[types::TYPE_WIDTH * i..]
 }
 
 // Are the types at records `at` and `other` of one kind?
@@ -48,7 +47,7 @@ fn of_one_kind(w: &[u8], at: usize, other: usize) -> bool
     requires { TwoTypes w.now at other }
     ensures { (p : TwoTypes w.now at other) → result ≡ eqb (kind_of p.first) (kind_of p.second) }
 {
-    kind_at(w, at) == kind_at(w, other)
+    types::of_one_kind(type_at(w, at), type_at(w, other))
 }
 
 // The join or the meet of the properties, in the first record of the first type.
@@ -85,7 +84,7 @@ pub fn common(
     if !of_one_kind(w, at, other) {
         return None;
     }
-    let kind = kind_at(w, at);
+    let kind = types::kind_of(type_at(w, at));
     bound_first(groups, direction, w, at, other);
     let leftward = match kind {
         Kind::Unit => return Some(1),

@@ -1,10 +1,9 @@
 -- The order on types as a walk sees it: the first records, the left sides, the right sides. Once for both directions.
 use Rattle.std.proofs.Common.{◌≡◌, ℕ, ◌+◌, ◌*◌, ◌≤◌, ◌<◌, Bool, true, false, cond, ◌&&◌, Option, Some, None, eqb, length}
-use Rattle.std.proofs.Common.{refl, ap, ap₂, sym, ◌∙◌, arith, eqb-true, eq-eqb, ne_eqb}
+use Rattle.std.proofs.Common.{refl, ap, ap₂, sym, ◌∙◌, arith, eqb-true, eq-eqb, ne_eqb, true≢false}
 use Rattle.std.proofs.Math.Bool.{and-eq-true_iff}
-use Rattle.std.proofs.Math.Decide.{ℕ_discrete}
 use Rattle.calculus.specs.Security.{Security}
-use Rattle.calculus.specs.Types.{Former, sum, product, function, Ty, one, node, top, size_t, same}
+use Rattle.calculus.specs.Types.{sum, product, function, Ty, one, node, top, size_t}
 use Rattle.calculus.specs.Subtyping.{Direction, below, above, opposite, leftward, le_toward, subtype}
 use Rattle.calculus.proofs.Subtyping.{subtype_sound, subtype_opposite, subtype_size}
 use Rattle.rules.specs.Answer.{Bytes}
@@ -13,28 +12,33 @@ use Rattle.rules.specs.Types.{former_kind}
 use Rattle.rules.specs.Comparison.{equal_properties, equal_types}
 use Rattle.subtyping.specs.declared.Related.{Related}
 use Rattle.types.specs.declared.Kind.{Kind}
-use Rattle.types.specs.declared.Kind.TheVariants.{Unit, Sum, Pair, Function}
+use Rattle.types.specs.declared.Kind.TheVariants.{Unit, Function}
 use Rattle.types.specs.Kinds.{kind_number}
 use Rattle.types.specs.Held.{Held, Starts, Sided, Counted, kind_of, left_of, right_of}
 use Rattle.subtyping.specs.Compared.{compared}
+use Rattle.types.specs.contracts.Kind.{the_type}
+use Rattle.types.proofs.Formers.{former_not_unit, same_former}
+use Rattle.types.proofs.Numbered.{same_kind, tests_numbers, eqb_comm}
 use Rattle.types.proofs.Parts.{held_length, two_of}
+use denote.Enum.Bare.{sameb}
 
 -- the direction of the left sides
 abbrev pub turned : Ty → Direction → Direction
 turned (one k) d = d
 turned (node f k s t) d = leftward f d
 
-pub turned_function : (s : Ty) (d : Direction) → kind_of s ≡ 3 → turned s d ≡ opposite d
-turned_function (one k) d e = absurd (omega arith)
-turned_function (node sum k s t) d e = absurd (omega arith)
-turned_function (node product k s t) d e = absurd (omega arith)
-turned_function (node function k s t) d e = refl
+-- it turns round at a function, and nowhere else
+pub turned_round : (d : Direction) {k : Kind} → k ≡ Function → (s : Ty) → kind_number k ≡ kind_of s → opposite d ≡ turned s d
+turned_round d f (one k) e = absurd (omega (arith, ap kind_number f))
+turned_round d f (node sum k s t) e = absurd (omega (arith, ap kind_number f))
+turned_round d f (node product k s t) e = absurd (omega (arith, ap kind_number f))
+turned_round d f (node function k s t) e = refl
 
-pub turned_other : (s : Ty) (d : Direction) → (kind_of s ≡ 3 → ⊥) → turned s d ≡ d
-turned_other (one k) d n = refl
-turned_other (node sum k s t) d n = refl
-turned_other (node product k s t) d n = refl
-turned_other (node function k s t) d n = absurd (n refl)
+pub straight_on : (d : Direction) {k : Kind} → (k ≡ Function → ⊥) → (s : Ty) → kind_number k ≡ kind_of s → d ≡ turned s d
+straight_on d n (one k) e = refl
+straight_on d n (node sum k s t) e = refl
+straight_on d n (node product k s t) e = refl
+straight_on d {k} n (node function l s t) e = absurd (n (same_kind k Function e))
 
 abbrev pub walked : Bool → ℕ → Option Related
 walked b n = Some (record { same = b; records = n })
@@ -44,27 +48,6 @@ abbrev pub both : Bool → Option Related → Option Related → Option Related
 both b (Some p) (Some q) = walked (b && (p.same && q.same)) (1 + (p.records + q.records))
 both b (Some p) None = None
 both b None x = None
-
-same_kind : (f g : Former) → same f g ≡ eqb (former_kind f) (former_kind g)
-same_kind sum sum = refl
-same_kind sum product = refl
-same_kind sum function = refl
-same_kind product sum = refl
-same_kind product product = refl
-same_kind product function = refl
-same_kind function sum = refl
-same_kind function product = refl
-same_kind function function = refl
-
-not_unit : (f : Former) → eqb (former_kind f) 0 ≡ false
-not_unit sum = refl
-not_unit product = refl
-not_unit function = refl
-
-not_node : (f : Former) → eqb 0 (former_kind f) ≡ false
-not_node sum = refl
-not_node product = refl
-not_node function = refl
 
 module _ (S : Security) where
   -- what is left once the first records are compared
@@ -78,13 +61,6 @@ module _ (S : Security) where
 
   abbrev pub firsts : Direction → Ty → Ty → Bool
   firsts d s t = eqb (kind_of s) (kind_of t) && le_toward S d (top s) (top t)
-
-  eqb_comm : (m n : ℕ) → eqb m n ≡ eqb n m
-  eqb_comm m n = by (ℕ_discrete m n)
-    where
-      by : Dec (m ≡ n) → eqb m n ≡ eqb n m
-      by (yes e) = eq-eqb m n e ∙ sym (eq-eqb n m (sym e))
-      by (no d) = ne_eqb m n d ∙ sym (ne_eqb n m (λ e. d (sym e)))
 
   -- at or above is at or below of the two exchanged
   pub firsts_above : (s t : Ty) → firsts above s t ≡ firsts below t s
@@ -101,26 +77,26 @@ module _ (S : Security) where
   subtype_is : (d : Direction) (s t : Ty) → subtype S d s t ≡ firsts d s t && sides_below d s t
   unfolding subtype sides_below
   subtype_is d (one k) (one l) = and_true (le_toward S d k l)
-  subtype_is d (one k) (node g l t t') = rw (not_node g)
-  subtype_is d (node f k s s') (one l) = rw (not_unit f)
+  subtype_is d (one k) (node g l t t') = rw (ne_eqb _ _ (λ z. former_not_unit g (sym z)))
+  subtype_is d (node f k s s') (one l) = rw (ne_eqb _ _ (former_not_unit f))
   subtype_is d (node f k s s') (node g l t t') =
-      ap (λ b. b && (le_toward S d k l && (subtype S (leftward f d) s t && subtype S d s' t'))) (same_kind f g)
+      ap (λ b. b && (le_toward S d k l && (subtype S (leftward f d) s t && subtype S d s' t'))) (same_former f g)
       ∙ and_assoc (eqb (former_kind f) (former_kind g)) (le_toward S d k l) _
 
   equal_is : (s t : Ty) → equal_types s t ≡ eqb (kind_of s) (kind_of t) && (equal_properties (top s) (top t) && sides_equal s t)
   unfolding equal_types sides_equal
   equal_is (one k) (one l) = and_true (equal_properties k l)
-  equal_is (one k) (node g l t t') = rw (not_node g)
-  equal_is (node f k s s') (one l) = rw (not_unit f)
+  equal_is (one k) (node g l t t') = rw (ne_eqb _ _ (λ z. former_not_unit g (sym z)))
+  equal_is (node f k s s') (one l) = rw (ne_eqb _ _ (former_not_unit f))
   equal_is (node f k s s') (node g l t t') =
-      ap (λ b. b && (equal_properties k l && (equal_types s t && equal_types s' t'))) (same_kind f g)
+      ap (λ b. b && (equal_properties k l && (equal_types s t && equal_types s' t'))) (same_former f g)
 
   -- related types have as many records
   related_size : (d : Direction) (s t : Ty) → subtype S d s t ≡ true → size_t s ≡ size_t t
   related_size below s t h = subtype_size (subtype_sound s t h)
   related_size above s t h = sym (subtype_size (subtype_sound t s (subtype_opposite S above s t h)))
 
-  pub not_related : (d : Direction) (s t : Ty) → firsts d s t ≡ false → None ≡ compared S d s t
+  not_related : (d : Direction) (s t : Ty) → firsts d s t ≡ false → None ≡ compared S d s t
   not_related d s t e =
       ap (λ b. cond b (walked (equal_types s t) (size_t s)) None) (sym (subtype_is d s t ∙ ap (λ b. b && sides_below d s t) e))
 
@@ -177,22 +153,6 @@ second_decides b e g h = h ∙ g ∙ ap₂ (λ f v. f && (v && b)) (sym e) (sym 
 pub third_decides : {f v w z : Bool} → f ≡ true → v ≡ true → z ≡ w → z ≡ f && (v && w)
 third_decides {w = w} e g h = h ∙ ap₂ (λ f v. f && (v && w)) (sym e) (sym g)
 
--- one kind has the number of units, and one that of functions
-pub only_unit : (k : Kind) → kind_number k ≡ 0 → k ≡ Unit
-only_unit Unit e = refl
-only_unit Sum e = absurd (omega arith)
-only_unit Pair e = absurd (omega arith)
-only_unit Function e = absurd (omega arith)
-
-pub only_function : (k : Kind) → kind_number k ≡ 3 → k ≡ Function
-only_function Unit e = absurd (omega arith)
-only_function Sum e = absurd (omega arith)
-only_function Pair e = absurd (omega arith)
-only_function Function e = refl
-
-pub apart : {k : Kind} → k ≡ Function → k ≡ Unit → ⊥
-apart e f = cc
-
 -- The first records are compared: x says whether they are the same, and k is the kind of both.
 pub record Alike (S : Security) (d : Direction) (a b : Bytes) (x : Bool) (k : Kind) : Type 0 where
   pub sa : Starts a
@@ -201,23 +161,33 @@ pub record Alike (S : Security) (d : Direction) (a b : Bytes) (x : Bool) (k : Ki
   pub ok : (s t : Ty) → Held a s → Held b t → firsts S d s t ≡ true
   pub same_first : (s t : Ty) → Held a s → Held b t → x ≡ equal_properties (top s) (top t)
 
-module _ {S : Security} {d : Direction} {a b : Bytes} {x : Bool} {k : Kind} (h : Alike S d a b x k) where
-  pub at_unit : k ≡ Unit → (s t : Ty) → Held a s → Held b t → walked x 1 ≡ compared S d s t
-  at_unit z s t p q = of_unit S d s t x (sym (h.ka s p) ∙ ap kind_number z) (h.ok s t p q) (h.same_first s t p q)
+-- The code compares them the same way round for both directions.
+abbrev pub Asked : Security → Direction → Bytes → Bytes → Bool → Type 0
+Asked S below a b z = (s t : Ty) → Held a s → Held b t → z ≡ firsts S below s t
+Asked S above a b z = (s t : Ty) → Held b s → Held a t → z ≡ firsts S below s t
 
-  pub kb : (t : Ty) → Held b t → kind_number k ≡ kind_of t
-  kb t q =
-      h.ka h.sa.type h.sa.held
-      ∙ eqb-true _ _ ((and-eq-true_iff (eqb (kind_of h.sa.type) (kind_of t)) _).0 (h.ok h.sa.type t h.sa.held q)).0
+pub asked : (S : Security) (d : Direction) {a b : Bytes} {z : Bool} → Asked S d a b z → (s t : Ty) → Held a s → Held b t → firsts S d s t ≡ z
+asked S below o s t p q = sym (o s t p q)
+asked S above o s t p q = firsts_above S s t ∙ sym (o t s q p)
 
-  module _ (two : k ≡ Unit → ⊥) where
-    abbrev pub sided_a : Sided a
-    sided_a = record { type = h.sa.type; held = h.sa.held; two = λ e. two (only_unit k (h.ka h.sa.type h.sa.held ∙ e)) }
+pub apart : (S : Security) (d : Direction) {a b : Bytes} → Asked S d a b false → (s t : Ty) → Held a s → Held b t → None ≡ compared S d s t
+apart S d o s t p q = not_related S d s t (asked S d o s t p q)
 
-    abbrev pub sided_b : Sided b
-    sided_b = record { type = h.sb.type; held = h.sb.held; two = λ e. two (only_unit k (kb h.sb.type h.sb.held ∙ e)) }
+abbrev pub alike : (S : Security) (d : Direction) {a b : Bytes} {x : Bool} {k : Kind} → Starts a × Starts b → Asked S d a b true
+    → ((s t : Ty) → Held a s → Held b t → x ≡ equal_properties (top s) (top t))
+    → ((s : Ty) → Held a s → kind_number k ≡ kind_of s)
+    → Alike S d a b x k
+alike S d w o f k = record { sa = w.0; sb = w.1; ka = k; ok = asked S d o; same_first = f }
 
--- The left sides are compared too, with the answer x; then the right sides.
+-- Whether they are of units is asked next.
+module _ (k : Kind) {z : Bool} (e : z ≡ sameb the_type k Unit) where
+  unit_is : z ≡ true → kind_number k ≡ 0
+  unit_is f = eqb-true _ _ (sym (tests_numbers k Unit) ∙ sym e ∙ f)
+
+  pub two_sides : z ≡ false → kind_number k ≡ 0 → ⊥
+  two_sides f g = true≢false (sym (eq-eqb _ _ g) ∙ sym (tests_numbers k Unit) ∙ sym e ∙ f)
+
+-- Past that the left sides are compared too, with the answer x; then the right sides.
 pub record Lefts (S : Security) (d : Direction) (a b : Bytes) (f : Bool) (x : Option Related) : Type 0 where
   pub sided_l : Sided a
   pub sided_r : Sided b
@@ -225,57 +195,42 @@ pub record Lefts (S : Security) (d : Direction) (a b : Bytes) (f : Bool) (x : Op
   pub same_first : (s t : Ty) → Held a s → Held b t → f ≡ equal_properties (top s) (top t)
   pub said : (s t : Ty) → Held a s → Held b t → x ≡ compared S (turned s d) (left_of s) (left_of t)
 
--- past the first records, which the code compares the same way round for both directions
-abbrev pub below_alike : (S : Security) {a b : Bytes} {x : Bool} {k : Kind} → Starts a × Starts b
-    → ((s t : Ty) → Held a s → Held b t → true ≡ firsts S below s t)
-    → ((s t : Ty) → Held a s → Held b t → x ≡ equal_properties (top s) (top t))
-    → ((s : Ty) → Held a s → kind_number k ≡ kind_of s)
-    → Alike S below a b x k
-below_alike S w o f k = record { sa = w.0; sb = w.1; ka = k; ok = λ s t p q. sym (o s t p q); same_first = f }
+module _ {S : Security} {d : Direction} {a b : Bytes} {f : Bool} {k : Kind} (h : Alike S d a b f k) {z : Bool} (e : z ≡ sameb the_type k Unit) where
+  pub at_unit : z ≡ true → (s t : Ty) → Held a s → Held b t → walked f 1 ≡ compared S d s t
+  at_unit u s t p q = of_unit S d s t f (sym (h.ka s p) ∙ unit_is k e u) (h.ok s t p q) (h.same_first s t p q)
 
-abbrev pub above_alike : (S : Security) {a b : Bytes} {x : Bool} {k : Kind} → Starts a × Starts b
-    → ((s t : Ty) → Held b s → Held a t → true ≡ firsts S below s t)
-    → ((s t : Ty) → Held a s → Held b t → x ≡ equal_properties (top s) (top t))
-    → ((s : Ty) → Held a s → kind_number k ≡ kind_of s)
-    → Alike S above a b x k
-above_alike S w o f k =
-    record { sa = w.0; sb = w.1; ka = k; ok = λ s t p q. firsts_above S s t ∙ sym (o t s q p); same_first = f }
+  pub kb : (t : Ty) → Held b t → kind_number k ≡ kind_of t
+  kb t q =
+      h.ka h.sa.type h.sa.held
+      ∙ eqb-true _ _ ((and-eq-true_iff (eqb (kind_of h.sa.type) (kind_of t)) _).0 (h.ok h.sa.type t h.sa.held q)).0
 
--- what the left sides' walk says: at a function it is the other walk
-module _ {S : Security} {d : Direction} {a b : Bytes} {f : Bool} {k : Kind} (h : Alike S d a b f k) {l r : Bytes} {x y : Option Related} where
-  abbrev pub turned_round : k ≡ Function → y ≡ x → ((s t : Ty) → Held l s → Held r t → x ≡ compared S (opposite d) s t)
-      → ((t : Ty) → Held a t → Held l (left_of t)) × (length l < length a)
-      → ((t : Ty) → Held b t → Held r (left_of t)) × (length r < length b)
-      → Lefts S d a b f y
-  turned_round z g e u v = record {
-    sided_l = sided_a h (apart z);
-    sided_r = sided_b h (apart z);
-    ok = h.ok;
-    same_first = h.same_first;
-    said = λ s t p q.
-        g ∙ e (left_of s) (left_of t) (u.0 s p) (v.0 t q)
-        ∙ ap (λ (d' : Direction). compared S d' (left_of s) (left_of t)) (sym (turned_function s d (sym (h.ka s p) ∙ ap kind_number z)));
-  }
+  module _ (n : z ≡ false) where
+    abbrev pub sided_a : Sided a
+    sided_a = record { type = h.sa.type; held = h.sa.held; two = λ g. two_sides k e n (h.ka h.sa.type h.sa.held ∙ g) }
 
-  abbrev pub straight_on : (k ≡ Unit → ⊥) → (k ≡ Function → ⊥) → y ≡ x → ((s t : Ty) → Held l s → Held r t → x ≡ compared S d s t)
-      → ((t : Ty) → Held a t → Held l (left_of t)) × (length l < length a)
-      → ((t : Ty) → Held b t → Held r (left_of t)) × (length r < length b)
-      → Lefts S d a b f y
-  straight_on two n g e u v = record {
-    sided_l = sided_a h two;
-    sided_r = sided_b h two;
-    ok = h.ok;
-    same_first = h.same_first;
-    said = λ s t p q.
-        g ∙ e (left_of s) (left_of t) (u.0 s p) (v.0 t q)
-        ∙ ap (λ (d' : Direction). compared S d' (left_of s) (left_of t)) (sym (turned_other s d (λ z. n (only_function k (h.ka s p ∙ z)))));
-  }
+    abbrev pub sided_b : Sided b
+    sided_b = record { type = h.sb.type; held = h.sb.held; two = λ g. two_sides k e n (kb h.sb.type h.sb.held ∙ g) }
 
-abbrev pub lefts : {S : Security} {d : Direction} {a b : Bytes} {f : Bool} {k : Kind} → Alike S d a b f k → (x : Option Related)
-    → Lefts S d a b f x → Lefts S d a b f x
-lefts h x l = l
+    -- the answer, in one way or the other
+    abbrev pub lefts : (x : Option Related) → Lefts S d a b f x → Lefts S d a b f x
+    lefts x l = l
 
--- and what the right sides' walk says
+    abbrev pub walk : {l r : Bytes} {x y : Option Related} {d' : Direction} → ((s : Ty) → kind_number k ≡ kind_of s → d' ≡ turned s d) → y ≡ x
+        → ((s t : Ty) → Held l s → Held r t → x ≡ compared S d' s t)
+        → ((t : Ty) → Held a t → Held l (left_of t)) × (length l < length a)
+        → ((t : Ty) → Held b t → Held r (left_of t)) × (length r < length b)
+        → Lefts S d a b f y
+    walk turn g c u v = record {
+      sided_l = sided_a;
+      sided_r = sided_b;
+      ok = h.ok;
+      same_first = h.same_first;
+      said = λ s t p q.
+          g ∙ c (left_of s) (left_of t) (u.0 s p) (v.0 t q)
+          ∙ ap (λ (d' : Direction). compared S d' (left_of s) (left_of t)) (turn s (h.ka s p));
+    }
+
+-- what the right sides' walk says
 abbrev pub rights : (S : Security) (d : Direction) {a b l r : Bytes} {x : Option Related}
     → ((s t : Ty) → Held l s → Held r t → x ≡ compared S d s t)
     → ((t : Ty) → Held a t → Held l (right_of t)) × (length l < length a)
@@ -285,6 +240,11 @@ rights S d e u v s t p q = e (right_of s) (right_of t) (u.0 s p) (v.0 t q)
 
 abbrev pub Rights : Security → Direction → Bytes → Bytes → Option Related → Type 0
 Rights S d a b x = (s t : Ty) → Held a s → Held b t → x ≡ compared S d (right_of s) (right_of t)
+
+-- Both sides are walked, with the answers u and v.
+pub record Done (S : Security) (d : Direction) (a b : Bytes) (f : Bool) (u v : Related) : Type 0 where
+  pub room : type_width * (1 + (u.records + v.records)) ≤ length a
+  pub says : {z : Bool} → z ≡ f && (u.same && v.same) → (s t : Ty) → Held a s → Held b t → walked z (1 + (u.records + v.records)) ≡ compared S d s t
 
 module _ {S : Security} {d : Direction} {a b : Bytes} {f : Bool} {x : Option Related} (h : Lefts S d a b f x) where
   answer : {y : Option Related} (s t : Ty) → Held a s → Held b t → y ≡ compared S d (right_of s) (right_of t) → both f x y ≡ compared S d s t
@@ -314,12 +274,12 @@ module _ {S : Security} {d : Direction} {a b : Bytes} {f : Bool} {x : Option Rel
       no_right g s t p q = ap₂ (both f) (sym e) (sym g) ∙ answer s t p q (r s t p q)
 
       module _ {v : Related} (g : y ≡ Some v) where
-        pub all_related : {z : Bool} → z ≡ f && (u.same && v.same) → (s t : Ty) → Held a s → Held b t → walked z (1 + (u.records + v.records)) ≡ compared S d s t
-        all_related k s t p q = ap (λ b. walked b (1 + (u.records + v.records))) k ∙ ap₂ (both f) (sym e) (sym g) ∙ answer s t p q (r s t p q)
+        related : {z : Bool} → z ≡ f && (u.same && v.same) → (s t : Ty) → Held a s → Held b t → walked z (1 + (u.records + v.records)) ≡ compared S d s t
+        related k s t p q = ap (λ b. walked b (1 + (u.records + v.records))) k ∙ ap₂ (both f) (sym e) (sym g) ∙ answer s t p q (r s t p q)
 
-        pub bounded : type_width * (1 + (u.records + v.records)) ≤ length a
-        bounded =
+        pub done : Done S d a b f u v
+        done =
             let l = h.sided_l in
             let k = h.sided_r in
-            let c = counts S d l.type k.type (f && (u.same && v.same)) (1 + (u.records + v.records)) (all_related refl l.type k.type l.held k.held) in
-            omega (arith, c.0, held_length l.held)
+            let c = counts S d l.type k.type (f && (u.same && v.same)) (1 + (u.records + v.records)) (related refl l.type k.type l.held k.held) in
+            record { room = omega (arith, c.0, held_length l.held); says = related }

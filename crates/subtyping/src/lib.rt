@@ -26,7 +26,7 @@ fn first_below(groups: &[u8], lower: &[u8], upper: &[u8]) -> bool
     ensures { (s t : Ty) → Held lower.now s → Held upper.now t
         → result ≡ (eqb (kind_of s) (kind_of t) && (properties_of groups.now).le (top s) (top t)) }
 {
-    types::kind_of(lower) == types::kind_of(upper)
+    types::of_one_kind(lower, upper)
         && types::property(lower).at_or_below(groups, types::property(upper))
 }
 
@@ -52,11 +52,13 @@ pub fn at_or_below(groups: &[u8], lower: &[u8], upper: &[u8]) -> Option<Related>
     }
     let first = first_same(lower, upper);
     let lower_kind = types::kind_of(lower);
-    let left = match lower_kind {
-        Kind::Unit => return Some(Related {
+    if lower_kind == Kind::Unit {
+        return Some(Related {
             same: first,
             records: 1,
-        }),
+        });
+    }
+    let left = match lower_kind {
         Kind::Function => at_or_above(groups, types::left_side(lower), types::left_side(upper)),
         _ => at_or_below(groups, types::left_side(lower), types::left_side(upper)),
     }?;
@@ -81,11 +83,13 @@ pub fn at_or_above(groups: &[u8], upper: &[u8], lower: &[u8]) -> Option<Related>
     }
     let first = first_same(upper, lower);
     let upper_kind = types::kind_of(upper);
-    let left = match upper_kind {
-        Kind::Unit => return Some(Related {
+    if upper_kind == Kind::Unit {
+        return Some(Related {
             same: first,
             records: 1,
-        }),
+        });
+    }
+    let left = match upper_kind {
         Kind::Function => at_or_below(groups, types::left_side(upper), types::left_side(lower)),
         _ => at_or_above(groups, types::left_side(upper), types::left_side(lower)),
     }?;

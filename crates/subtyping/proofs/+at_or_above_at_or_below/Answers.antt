@@ -1,31 +1,28 @@
 -- Each walk calls both on shorter parts, and `Order` has the laws once for both directions.
-use Rattle.std.proofs.Common.{sym, ◌∙◌, arith}
+use Rattle.std.proofs.Common.{ℕ, ◌∙◌, arith}
 use Rattle.calculus.specs.Subtyping.{below, above}
 use Rattle.rules.specs.Groups.{properties_of}
 use Rattle.types.specs.Held.{left_of, right_of}
 use Rattle.types.proofs.Parts.{parts}
-use Rattle.subtyping.proofs.Order.{apart, firsts_above, not_related, below_alike, above_alike, at_unit, sided_b, turned_round, straight_on}
-use Rattle.subtyping.proofs.Order.{first_decides, second_decides, third_decides, lefts, rights, no_left, counted_a, counted_b, no_right, all_related, bounded}
+use Rattle.subtyping.proofs.Order.{turned_round, straight_on, apart, alike, at_unit, sided_b, lefts, walk}
+use Rattle.subtyping.proofs.Order.{first_decides, second_decides, third_decides, rights, no_left, counted_a, counted_b, no_right, Done, done}
 use Rattle.subtyping.proofs.+at_or_above_at_or_below.Goals as goal
 use Rattle.subtyping.proofs.+at_or_above_at_or_below.Goals.{at_or_above-in-Function, at_or_above-in_default, at_or_below-in-Function, at_or_below-in_default}
-use Rattle.subtyping.proofs.+at_or_above_at_or_below.Goals.{at_or_above-then-first+then-left, at_or_above-then-first+else-left, at_or_above-else-first}
-use Rattle.subtyping.proofs.+at_or_above_at_or_below.Goals.{at_or_below-then-first+then-left, at_or_below-then-first+else-left, at_or_below-else-first}
+use Rattle.subtyping.proofs.+at_or_above_at_or_below.Goals.{at_or_above-then-first+then-left, at_or_above-then-first+else-left, at_or_above-else-first, at_or_above-Joined-first}
+use Rattle.subtyping.proofs.+at_or_above_at_or_below.Goals.{at_or_below-then-first+then-left, at_or_below-then-first+else-left, at_or_below-else-first, at_or_below-Joined-first}
 
 pub at_or_above-returns-then-not-first_below : goal.at_or_above-returns-then-not-first_below
-at_or_above-returns-then-not-first_below t c =
-    λ v w p q.
-    let S = properties_of c.args.groups.now in
-    not_related S above v w (firsts_above S v w ∙ sym (c.if-not-first_below.ensures w v q p))
+at_or_above-returns-then-not-first_below t c = apart (properties_of c.args.groups.now) above c.if-not-first_below.ensures
 
-pub at_or_above-returns-in-Unit : goal.at_or_above-returns-in-Unit
-at_or_above-returns-in-Unit t c =
-    let h = above_alike (properties_of c.args.groups.now) c.requires c.if-not-first_below.ensures c.first_same-first.ensures c.kind_of-upper_kind.ensures in
-    at_unit h c.in-Unit.is
+pub at_or_above-returns-then-eq : goal.at_or_above-returns-then-eq
+at_or_above-returns-then-eq t c =
+    let h = alike (properties_of c.args.groups.now) above c.requires c.if-not-first_below.ensures c.first_same-first.ensures c.kind_of-upper_kind.ensures in
+    at_unit h c.eq.ensures c.if-eq.true
 
 pub at_or_above-left_side-requires-in-Function : goal.at_or_above-left_side-requires-in-Function
 at_or_above-left_side-requires-in-Function t c =
-    let h = above_alike (properties_of c.args.groups.now) c.requires c.if-not-first_below.ensures c.first_same-first.ensures c.kind_of-upper_kind.ensures in
-    sided_b h (apart c.in-Function.is)
+    let h = alike (properties_of c.args.groups.now) above c.requires c.if-not-first_below.ensures c.first_same-first.ensures c.kind_of-upper_kind.ensures in
+    sided_b h c.eq.ensures c.if-eq.false
 
 pub at_or_above-at_or_below-requires : goal.at_or_above-at_or_below-requires
 at_or_above-at_or_below-requires t c =
@@ -33,8 +30,8 @@ at_or_above-at_or_below-requires t c =
 
 pub at_or_above-left_side-requires-in_default-2 : goal.at_or_above-left_side-requires-in_default-2
 at_or_above-left_side-requires-in_default-2 t c =
-    let h = above_alike (properties_of c.args.groups.now) c.requires c.if-not-first_below.ensures c.first_same-first.ensures c.kind_of-upper_kind.ensures in
-    sided_b h c.in_default.not-Unit
+    let h = alike (properties_of c.args.groups.now) above c.requires c.if-not-first_below.ensures c.first_same-first.ensures c.kind_of-upper_kind.ensures in
+    sided_b h c.eq.ensures c.if-eq.false
 
 pub at_or_above-at_or_above-requires : goal.at_or_above-at_or_above-requires
 at_or_above-at_or_above-requires t c =
@@ -42,37 +39,37 @@ at_or_above-at_or_above-requires t c =
 
 pub at_or_above-returns-in_err-left : goal.at_or_above-returns-in_err-left
 at_or_above-returns-in_err-left t c =
-    let h = above_alike (properties_of c.args.groups.now) c.requires c.if-not-first_below.ensures c.first_same-first.ensures c.kind_of-upper_kind.ensures in
-    let l = lefts h c.match-upper_kind.branch'
+    let h = alike (properties_of c.args.groups.now) above c.requires c.if-not-first_below.ensures c.first_same-first.ensures c.kind_of-upper_kind.ensures in
+    let l = lefts h c.eq.ensures c.if-eq.false c.match-upper_kind.branch'
     (elim c.match-upper_kind.branch [
       | at_or_above-in-Function w ↦
-          turned_round h w.in-Function.is w.branch'-is w.at_or_below.ensures w.left_side.ensures w.left_side-in-Function.ensures
+          walk h c.eq.ensures c.if-eq.false (turned_round above w.in-Function.is) w.branch'-is w.at_or_below.ensures w.left_side.ensures w.left_side-in-Function.ensures
       | at_or_above-in_default w ↦
-          straight_on h w.in_default.not-Unit w.in_default.not-Function w.branch'-is w.at_or_above.ensures w.left_side-in_default.ensures w.left_side-in_default-2.ensures
+          walk h c.eq.ensures c.if-eq.false (straight_on above w.in_default.not-Function) w.branch'-is w.at_or_above.ensures w.left_side-in_default.ensures w.left_side-in_default-2.ensures
     ]) in
     λ v w p q. c.from_residual.ensures ∙ no_left l c.in_err-left.was v w p q
 
 pub at_or_above-right_side-upper_right-requires : goal.at_or_above-right_side-upper_right-requires
 at_or_above-right_side-upper_right-requires t c =
-    let h = above_alike (properties_of c.args.groups.now) c.requires c.if-not-first_below.ensures c.first_same-first.ensures c.kind_of-upper_kind.ensures in
-    let l = lefts h c.match-upper_kind.branch'
+    let h = alike (properties_of c.args.groups.now) above c.requires c.if-not-first_below.ensures c.first_same-first.ensures c.kind_of-upper_kind.ensures in
+    let l = lefts h c.eq.ensures c.if-eq.false c.match-upper_kind.branch'
     (elim c.match-upper_kind.branch [
       | at_or_above-in-Function w ↦
-          turned_round h w.in-Function.is w.branch'-is w.at_or_below.ensures w.left_side.ensures w.left_side-in-Function.ensures
+          walk h c.eq.ensures c.if-eq.false (turned_round above w.in-Function.is) w.branch'-is w.at_or_below.ensures w.left_side.ensures w.left_side-in-Function.ensures
       | at_or_above-in_default w ↦
-          straight_on h w.in_default.not-Unit w.in_default.not-Function w.branch'-is w.at_or_above.ensures w.left_side-in_default.ensures w.left_side-in_default-2.ensures
+          walk h c.eq.ensures c.if-eq.false (straight_on above w.in_default.not-Function) w.branch'-is w.at_or_above.ensures w.left_side-in_default.ensures w.left_side-in_default-2.ensures
     ]) in
     counted_a l c.in_ok-left.was
 
 pub at_or_above-right_side-lower_right-requires : goal.at_or_above-right_side-lower_right-requires
 at_or_above-right_side-lower_right-requires t c =
-    let h = above_alike (properties_of c.args.groups.now) c.requires c.if-not-first_below.ensures c.first_same-first.ensures c.kind_of-upper_kind.ensures in
-    let l = lefts h c.match-upper_kind.branch'
+    let h = alike (properties_of c.args.groups.now) above c.requires c.if-not-first_below.ensures c.first_same-first.ensures c.kind_of-upper_kind.ensures in
+    let l = lefts h c.eq.ensures c.if-eq.false c.match-upper_kind.branch'
     (elim c.match-upper_kind.branch [
       | at_or_above-in-Function w ↦
-          turned_round h w.in-Function.is w.branch'-is w.at_or_below.ensures w.left_side.ensures w.left_side-in-Function.ensures
+          walk h c.eq.ensures c.if-eq.false (turned_round above w.in-Function.is) w.branch'-is w.at_or_below.ensures w.left_side.ensures w.left_side-in-Function.ensures
       | at_or_above-in_default w ↦
-          straight_on h w.in_default.not-Unit w.in_default.not-Function w.branch'-is w.at_or_above.ensures w.left_side-in_default.ensures w.left_side-in_default-2.ensures
+          walk h c.eq.ensures c.if-eq.false (straight_on above w.in_default.not-Function) w.branch'-is w.at_or_above.ensures w.left_side-in_default.ensures w.left_side-in_default-2.ensures
     ]) in
     counted_b l c.in_ok-left.was
 
@@ -82,55 +79,39 @@ at_or_above-at_or_above-requires-2 t c =
 
 pub at_or_above-returns-in_err-right : goal.at_or_above-returns-in_err-right
 at_or_above-returns-in_err-right t c =
-    let h = above_alike (properties_of c.args.groups.now) c.requires c.if-not-first_below.ensures c.first_same-first.ensures c.kind_of-upper_kind.ensures in
-    let l = lefts h c.match-upper_kind.branch'
+    let h = alike (properties_of c.args.groups.now) above c.requires c.if-not-first_below.ensures c.first_same-first.ensures c.kind_of-upper_kind.ensures in
+    let l = lefts h c.eq.ensures c.if-eq.false c.match-upper_kind.branch'
     (elim c.match-upper_kind.branch [
       | at_or_above-in-Function w ↦
-          turned_round h w.in-Function.is w.branch'-is w.at_or_below.ensures w.left_side.ensures w.left_side-in-Function.ensures
+          walk h c.eq.ensures c.if-eq.false (turned_round above w.in-Function.is) w.branch'-is w.at_or_below.ensures w.left_side.ensures w.left_side-in-Function.ensures
       | at_or_above-in_default w ↦
-          straight_on h w.in_default.not-Unit w.in_default.not-Function w.branch'-is w.at_or_above.ensures w.left_side-in_default.ensures w.left_side-in_default-2.ensures
+          walk h c.eq.ensures c.if-eq.false (straight_on above w.in_default.not-Function) w.branch'-is w.at_or_above.ensures w.left_side-in_default.ensures w.left_side-in_default-2.ensures
     ]) in
     let r = rights (properties_of c.args.groups.now) above c.at_or_above-2.ensures c.right_side-upper_right.ensures c.right_side-lower_right.ensures in
     λ v w p q. c.from_residual-in_err-right.ensures ∙ no_right l c.in_ok-left.was r c.in_err-right.was v w p q
 
-pub at_or_above-overflow_add-result : goal.at_or_above-overflow_add-result
-at_or_above-overflow_add-result t c =
-    let h = above_alike (properties_of c.args.groups.now) c.requires c.if-not-first_below.ensures c.first_same-first.ensures c.kind_of-upper_kind.ensures in
-    let l = lefts h c.match-upper_kind.branch'
+above_done : (t : ℕ) (c : at_or_above-Joined-first t) → Done (properties_of c.args.groups.now) above c.args.upper.now c.args.lower.now c.first_same-first.result c.in_ok-left.left c.in_ok-right.right
+above_done t c =
+    let h = alike (properties_of c.args.groups.now) above c.requires c.if-not-first_below.ensures c.first_same-first.ensures c.kind_of-upper_kind.ensures in
+    let l = lefts h c.eq.ensures c.if-eq.false c.match-upper_kind.branch'
     (elim c.match-upper_kind.branch [
       | at_or_above-in-Function w ↦
-          turned_round h w.in-Function.is w.branch'-is w.at_or_below.ensures w.left_side.ensures w.left_side-in-Function.ensures
+          walk h c.eq.ensures c.if-eq.false (turned_round above w.in-Function.is) w.branch'-is w.at_or_below.ensures w.left_side.ensures w.left_side-in-Function.ensures
       | at_or_above-in_default w ↦
-          straight_on h w.in_default.not-Unit w.in_default.not-Function w.branch'-is w.at_or_above.ensures w.left_side-in_default.ensures w.left_side-in_default-2.ensures
+          walk h c.eq.ensures c.if-eq.false (straight_on above w.in_default.not-Function) w.branch'-is w.at_or_above.ensures w.left_side-in_default.ensures w.left_side-in_default-2.ensures
     ]) in
     let r = rights (properties_of c.args.groups.now) above c.at_or_above-2.ensures c.right_side-upper_right.ensures c.right_side-lower_right.ensures in
-    omega (arith, bounded l c.in_ok-left.was r c.in_ok-right.was)
+    done l c.in_ok-left.was r c.in_ok-right.was
+
+pub at_or_above-overflow_add-result : goal.at_or_above-overflow_add-result
+at_or_above-overflow_add-result t c = let q = above_done t c in omega arith
 
 pub at_or_above-overflow_add-result-2 : goal.at_or_above-overflow_add-result-2
-at_or_above-overflow_add-result-2 t c =
-    let h = above_alike (properties_of c.args.groups.now) c.requires c.if-not-first_below.ensures c.first_same-first.ensures c.kind_of-upper_kind.ensures in
-    let l = lefts h c.match-upper_kind.branch'
-    (elim c.match-upper_kind.branch [
-      | at_or_above-in-Function w ↦
-          turned_round h w.in-Function.is w.branch'-is w.at_or_below.ensures w.left_side.ensures w.left_side-in-Function.ensures
-      | at_or_above-in_default w ↦
-          straight_on h w.in_default.not-Unit w.in_default.not-Function w.branch'-is w.at_or_above.ensures w.left_side-in_default.ensures w.left_side-in_default-2.ensures
-    ]) in
-    let r = rights (properties_of c.args.groups.now) above c.at_or_above-2.ensures c.right_side-upper_right.ensures c.right_side-lower_right.ensures in
-    omega (arith, bounded l c.in_ok-left.was r c.in_ok-right.was)
+at_or_above-overflow_add-result-2 t c = let q = above_done t c in omega arith
 
 pub at_or_above-returns : goal.at_or_above-returns
 at_or_above-returns t c =
-    let h = above_alike (properties_of c.args.groups.now) c.requires c.if-not-first_below.ensures c.first_same-first.ensures c.kind_of-upper_kind.ensures in
-    let l = lefts h c.match-upper_kind.branch'
-    (elim c.match-upper_kind.branch [
-      | at_or_above-in-Function w ↦
-          turned_round h w.in-Function.is w.branch'-is w.at_or_below.ensures w.left_side.ensures w.left_side-in-Function.ensures
-      | at_or_above-in_default w ↦
-          straight_on h w.in_default.not-Unit w.in_default.not-Function w.branch'-is w.at_or_above.ensures w.left_side-in_default.ensures w.left_side-in_default-2.ensures
-    ]) in
-    let r = rights (properties_of c.args.groups.now) above c.at_or_above-2.ensures c.right_side-upper_right.ensures c.right_side-lower_right.ensures in
-    all_related l c.in_ok-left.was r c.in_ok-right.was
+    (above_done t c).says
     (elim c.if-first.branch [
       | at_or_above-then-first+then-left w ↦ third_decides w.if-first.true w.if-left.true w.result-is
       | at_or_above-then-first+else-left w ↦ second_decides _ w.if-first.true w.if-left.false w.result-is
@@ -138,28 +119,16 @@ at_or_above-returns t c =
     ])
 
 pub at_or_below-returns-then-not-first_below : goal.at_or_below-returns-then-not-first_below
-at_or_below-returns-then-not-first_below t c =
-    λ v w p q.
-    not_related (properties_of c.args.groups.now) below v w (sym (c.if-not-first_below.ensures v w p q))
+at_or_below-returns-then-not-first_below t c = apart (properties_of c.args.groups.now) below c.if-not-first_below.ensures
 
-pub at_or_below-returns-in-Unit : goal.at_or_below-returns-in-Unit
-at_or_below-returns-in-Unit t c =
-    let h = below_alike (properties_of c.args.groups.now) c.requires c.if-not-first_below.ensures c.first_same-first.ensures c.kind_of-lower_kind.ensures in
-    at_unit h c.in-Unit.is
-
-pub at_or_below-left_side-requires-in-Function : goal.at_or_below-left_side-requires-in-Function
-at_or_below-left_side-requires-in-Function t c =
-    let h = below_alike (properties_of c.args.groups.now) c.requires c.if-not-first_below.ensures c.first_same-first.ensures c.kind_of-lower_kind.ensures in
-    sided_b h (apart c.in-Function.is)
+pub at_or_below-returns-then-eq : goal.at_or_below-returns-then-eq
+at_or_below-returns-then-eq t c =
+    let h = alike (properties_of c.args.groups.now) below c.requires c.if-not-first_below.ensures c.first_same-first.ensures c.kind_of-lower_kind.ensures in
+    at_unit h c.eq.ensures c.if-eq.true
 
 pub at_or_below-at_or_above-requires : goal.at_or_below-at_or_above-requires
 at_or_below-at_or_above-requires t c =
     parts left_of (c.decreases, c.requires) c.left_side.ensures c.left_side-in-Function.ensures
-
-pub at_or_below-left_side-requires-in_default-2 : goal.at_or_below-left_side-requires-in_default-2
-at_or_below-left_side-requires-in_default-2 t c =
-    let h = below_alike (properties_of c.args.groups.now) c.requires c.if-not-first_below.ensures c.first_same-first.ensures c.kind_of-lower_kind.ensures in
-    sided_b h c.in_default.not-Unit
 
 pub at_or_below-at_or_below-requires : goal.at_or_below-at_or_below-requires
 at_or_below-at_or_below-requires t c =
@@ -167,37 +136,37 @@ at_or_below-at_or_below-requires t c =
 
 pub at_or_below-returns-in_err-left : goal.at_or_below-returns-in_err-left
 at_or_below-returns-in_err-left t c =
-    let h = below_alike (properties_of c.args.groups.now) c.requires c.if-not-first_below.ensures c.first_same-first.ensures c.kind_of-lower_kind.ensures in
-    let l = lefts h c.match-lower_kind.branch'
+    let h = alike (properties_of c.args.groups.now) below c.requires c.if-not-first_below.ensures c.first_same-first.ensures c.kind_of-lower_kind.ensures in
+    let l = lefts h c.eq.ensures c.if-eq.false c.match-lower_kind.branch'
     (elim c.match-lower_kind.branch [
       | at_or_below-in-Function w ↦
-          turned_round h w.in-Function.is w.branch'-is w.at_or_above.ensures w.left_side.ensures w.left_side-in-Function.ensures
+          walk h c.eq.ensures c.if-eq.false (turned_round below w.in-Function.is) w.branch'-is w.at_or_above.ensures w.left_side.ensures w.left_side-in-Function.ensures
       | at_or_below-in_default w ↦
-          straight_on h w.in_default.not-Unit w.in_default.not-Function w.branch'-is w.at_or_below.ensures w.left_side-in_default.ensures w.left_side-in_default-2.ensures
+          walk h c.eq.ensures c.if-eq.false (straight_on below w.in_default.not-Function) w.branch'-is w.at_or_below.ensures w.left_side-in_default.ensures w.left_side-in_default-2.ensures
     ]) in
     λ v w p q. c.from_residual.ensures ∙ no_left l c.in_err-left.was v w p q
 
 pub at_or_below-right_side-lower_right-requires : goal.at_or_below-right_side-lower_right-requires
 at_or_below-right_side-lower_right-requires t c =
-    let h = below_alike (properties_of c.args.groups.now) c.requires c.if-not-first_below.ensures c.first_same-first.ensures c.kind_of-lower_kind.ensures in
-    let l = lefts h c.match-lower_kind.branch'
+    let h = alike (properties_of c.args.groups.now) below c.requires c.if-not-first_below.ensures c.first_same-first.ensures c.kind_of-lower_kind.ensures in
+    let l = lefts h c.eq.ensures c.if-eq.false c.match-lower_kind.branch'
     (elim c.match-lower_kind.branch [
       | at_or_below-in-Function w ↦
-          turned_round h w.in-Function.is w.branch'-is w.at_or_above.ensures w.left_side.ensures w.left_side-in-Function.ensures
+          walk h c.eq.ensures c.if-eq.false (turned_round below w.in-Function.is) w.branch'-is w.at_or_above.ensures w.left_side.ensures w.left_side-in-Function.ensures
       | at_or_below-in_default w ↦
-          straight_on h w.in_default.not-Unit w.in_default.not-Function w.branch'-is w.at_or_below.ensures w.left_side-in_default.ensures w.left_side-in_default-2.ensures
+          walk h c.eq.ensures c.if-eq.false (straight_on below w.in_default.not-Function) w.branch'-is w.at_or_below.ensures w.left_side-in_default.ensures w.left_side-in_default-2.ensures
     ]) in
     counted_a l c.in_ok-left.was
 
 pub at_or_below-right_side-upper_right-requires : goal.at_or_below-right_side-upper_right-requires
 at_or_below-right_side-upper_right-requires t c =
-    let h = below_alike (properties_of c.args.groups.now) c.requires c.if-not-first_below.ensures c.first_same-first.ensures c.kind_of-lower_kind.ensures in
-    let l = lefts h c.match-lower_kind.branch'
+    let h = alike (properties_of c.args.groups.now) below c.requires c.if-not-first_below.ensures c.first_same-first.ensures c.kind_of-lower_kind.ensures in
+    let l = lefts h c.eq.ensures c.if-eq.false c.match-lower_kind.branch'
     (elim c.match-lower_kind.branch [
       | at_or_below-in-Function w ↦
-          turned_round h w.in-Function.is w.branch'-is w.at_or_above.ensures w.left_side.ensures w.left_side-in-Function.ensures
+          walk h c.eq.ensures c.if-eq.false (turned_round below w.in-Function.is) w.branch'-is w.at_or_above.ensures w.left_side.ensures w.left_side-in-Function.ensures
       | at_or_below-in_default w ↦
-          straight_on h w.in_default.not-Unit w.in_default.not-Function w.branch'-is w.at_or_below.ensures w.left_side-in_default.ensures w.left_side-in_default-2.ensures
+          walk h c.eq.ensures c.if-eq.false (straight_on below w.in_default.not-Function) w.branch'-is w.at_or_below.ensures w.left_side-in_default.ensures w.left_side-in_default-2.ensures
     ]) in
     counted_b l c.in_ok-left.was
 
@@ -207,55 +176,39 @@ at_or_below-at_or_below-requires-2 t c =
 
 pub at_or_below-returns-in_err-right : goal.at_or_below-returns-in_err-right
 at_or_below-returns-in_err-right t c =
-    let h = below_alike (properties_of c.args.groups.now) c.requires c.if-not-first_below.ensures c.first_same-first.ensures c.kind_of-lower_kind.ensures in
-    let l = lefts h c.match-lower_kind.branch'
+    let h = alike (properties_of c.args.groups.now) below c.requires c.if-not-first_below.ensures c.first_same-first.ensures c.kind_of-lower_kind.ensures in
+    let l = lefts h c.eq.ensures c.if-eq.false c.match-lower_kind.branch'
     (elim c.match-lower_kind.branch [
       | at_or_below-in-Function w ↦
-          turned_round h w.in-Function.is w.branch'-is w.at_or_above.ensures w.left_side.ensures w.left_side-in-Function.ensures
+          walk h c.eq.ensures c.if-eq.false (turned_round below w.in-Function.is) w.branch'-is w.at_or_above.ensures w.left_side.ensures w.left_side-in-Function.ensures
       | at_or_below-in_default w ↦
-          straight_on h w.in_default.not-Unit w.in_default.not-Function w.branch'-is w.at_or_below.ensures w.left_side-in_default.ensures w.left_side-in_default-2.ensures
+          walk h c.eq.ensures c.if-eq.false (straight_on below w.in_default.not-Function) w.branch'-is w.at_or_below.ensures w.left_side-in_default.ensures w.left_side-in_default-2.ensures
     ]) in
     let r = rights (properties_of c.args.groups.now) below c.at_or_below-2.ensures c.right_side-lower_right.ensures c.right_side-upper_right.ensures in
     λ v w p q. c.from_residual-in_err-right.ensures ∙ no_right l c.in_ok-left.was r c.in_err-right.was v w p q
 
-pub at_or_below-overflow_add-result : goal.at_or_below-overflow_add-result
-at_or_below-overflow_add-result t c =
-    let h = below_alike (properties_of c.args.groups.now) c.requires c.if-not-first_below.ensures c.first_same-first.ensures c.kind_of-lower_kind.ensures in
-    let l = lefts h c.match-lower_kind.branch'
+below_done : (t : ℕ) (c : at_or_below-Joined-first t) → Done (properties_of c.args.groups.now) below c.args.lower.now c.args.upper.now c.first_same-first.result c.in_ok-left.left c.in_ok-right.right
+below_done t c =
+    let h = alike (properties_of c.args.groups.now) below c.requires c.if-not-first_below.ensures c.first_same-first.ensures c.kind_of-lower_kind.ensures in
+    let l = lefts h c.eq.ensures c.if-eq.false c.match-lower_kind.branch'
     (elim c.match-lower_kind.branch [
       | at_or_below-in-Function w ↦
-          turned_round h w.in-Function.is w.branch'-is w.at_or_above.ensures w.left_side.ensures w.left_side-in-Function.ensures
+          walk h c.eq.ensures c.if-eq.false (turned_round below w.in-Function.is) w.branch'-is w.at_or_above.ensures w.left_side.ensures w.left_side-in-Function.ensures
       | at_or_below-in_default w ↦
-          straight_on h w.in_default.not-Unit w.in_default.not-Function w.branch'-is w.at_or_below.ensures w.left_side-in_default.ensures w.left_side-in_default-2.ensures
+          walk h c.eq.ensures c.if-eq.false (straight_on below w.in_default.not-Function) w.branch'-is w.at_or_below.ensures w.left_side-in_default.ensures w.left_side-in_default-2.ensures
     ]) in
     let r = rights (properties_of c.args.groups.now) below c.at_or_below-2.ensures c.right_side-lower_right.ensures c.right_side-upper_right.ensures in
-    omega (arith, bounded l c.in_ok-left.was r c.in_ok-right.was)
+    done l c.in_ok-left.was r c.in_ok-right.was
+
+pub at_or_below-overflow_add-result : goal.at_or_below-overflow_add-result
+at_or_below-overflow_add-result t c = let q = below_done t c in omega arith
 
 pub at_or_below-overflow_add-result-2 : goal.at_or_below-overflow_add-result-2
-at_or_below-overflow_add-result-2 t c =
-    let h = below_alike (properties_of c.args.groups.now) c.requires c.if-not-first_below.ensures c.first_same-first.ensures c.kind_of-lower_kind.ensures in
-    let l = lefts h c.match-lower_kind.branch'
-    (elim c.match-lower_kind.branch [
-      | at_or_below-in-Function w ↦
-          turned_round h w.in-Function.is w.branch'-is w.at_or_above.ensures w.left_side.ensures w.left_side-in-Function.ensures
-      | at_or_below-in_default w ↦
-          straight_on h w.in_default.not-Unit w.in_default.not-Function w.branch'-is w.at_or_below.ensures w.left_side-in_default.ensures w.left_side-in_default-2.ensures
-    ]) in
-    let r = rights (properties_of c.args.groups.now) below c.at_or_below-2.ensures c.right_side-lower_right.ensures c.right_side-upper_right.ensures in
-    omega (arith, bounded l c.in_ok-left.was r c.in_ok-right.was)
+at_or_below-overflow_add-result-2 t c = let q = below_done t c in omega arith
 
 pub at_or_below-returns : goal.at_or_below-returns
 at_or_below-returns t c =
-    let h = below_alike (properties_of c.args.groups.now) c.requires c.if-not-first_below.ensures c.first_same-first.ensures c.kind_of-lower_kind.ensures in
-    let l = lefts h c.match-lower_kind.branch'
-    (elim c.match-lower_kind.branch [
-      | at_or_below-in-Function w ↦
-          turned_round h w.in-Function.is w.branch'-is w.at_or_above.ensures w.left_side.ensures w.left_side-in-Function.ensures
-      | at_or_below-in_default w ↦
-          straight_on h w.in_default.not-Unit w.in_default.not-Function w.branch'-is w.at_or_below.ensures w.left_side-in_default.ensures w.left_side-in_default-2.ensures
-    ]) in
-    let r = rights (properties_of c.args.groups.now) below c.at_or_below-2.ensures c.right_side-lower_right.ensures c.right_side-upper_right.ensures in
-    all_related l c.in_ok-left.was r c.in_ok-right.was
+    (below_done t c).says
     (elim c.if-first.branch [
       | at_or_below-then-first+then-left w ↦ third_decides w.if-first.true w.if-left.true w.result-is
       | at_or_below-then-first+else-left w ↦ second_decides _ w.if-first.true w.if-left.false w.result-is
