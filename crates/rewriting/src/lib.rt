@@ -3,7 +3,7 @@
 
 #![tactic(auto)]
 
-ghost use Rattle.std.specs.Prelude.{◌≡◌, ◌+◌, ◌*◌, ◌≤◌, ◌<◌, length, take};
+ghost use Rattle.std.specs.Prelude.{◌≡◌, ◌+◌, ◌*◌, ◌≤◌, ◌<◌, length};
 ghost use Rattle.rules.specs.Limits.{type_width, script_width, table_limit, script_limit};
 ghost use Rattle.rules.specs.Callers.{old_type_count, old_type_r, old_records, old_kind, old_number};
 ghost use Rattle.rules.specs.Callers.{recursion_of_type, write_callers, callers_written};
