@@ -1,7 +1,6 @@
 -- The questions of an old table, one after another, and what then stands in front of the copy.
-use Rattle.std.proofs.Common.{◌≡◌, refl, sym, ap, ◌∙◌, Bool, true, ◌&&◌, [], ℕ, ◌*◌, ◌/◌, ◌%◌, ◌≤◌, ◌<◌, leb-true, eqb, leb, length, take, drop, take_at, length-take-le}
+use Rattle.std.proofs.Common.{◌≡◌, refl, sym, ap, ◌∙◌, Bool, true, ◌&&◌, [], ℕ, ◌*◌, ◌/◌, ◌%◌, ◌≤◌, leb-true, eqb, leb, length, take, drop, take_at}
 use Rattle.std.proofs.Math.Bool.{and-eq-true_iff}
-use Rattle.std.proofs.Math.Nat.{mul_comm, mul-div_cancel}
 use Rattle.rules.specs.Answer.{Bytes, Answer, accepted, refused, ◌>>◌, ask}
 use Rattle.rules.proofs.Widening.{widen_types_length, widen_script_length}
 use Rattle.rules.specs.Callers.{old_type_count, old_records}
@@ -69,22 +68,3 @@ pub delivered : (width : ℕ) (asked : Answer (Unit {0})) (later : Answer Bytes)
 delivered width asked later w w' e p h d =
     let same = h ∙ ap (λ (a : Answer (Unit {0})). ◌>>◌ a later) e ∙ p in
     (d.0 ∙ ap (rewritten_records width) same, d.1 ∙ ap (λ (a : Answer Bytes). rewritten_after a w) same)
-
--- the first records of `wide`
-module _ (wide w : Bytes) (width count : ℕ) (positive : 0 < width) (long : width * count ≤ length wide) where
-  abbrev front : Bytes
-  front = take (width * count) wide
-
-  front_length : length front ≡ width * count
-  front_length = length-take-le (width * count) wide long
-
-  -- question 27 of them
-  pub room_asked : ◌>>◌ (ask 27 0 (leb (width * count) (length w))) (accepted front) ≡ fitting front (length w)
-  room_asked = ap (λ n. ◌>>◌ (ask 27 0 (leb n (length w))) (accepted front)) (sym front_length)
-
-  -- they are counted, and written to the front
-  pub handed : (w' : Bytes) → w' ≡ splice 0 front w → Delivered width (accepted front) w (accepted count) w'
-  unfolding rewritten_records
-  handed w' e =
-      let counted : length front / width ≡ count = ap (λ n. n / width) (front_length ∙ mul_comm width count) ∙ mul-div_cancel count positive in
-      (ap accepted (sym counted), e ∙ splice_front front w)

@@ -3,7 +3,7 @@
 
 #![tactic(auto)]
 
-ghost use Rattle.std.specs.Prelude.{◌≡◌, ◌+◌, ◌*◌, ◌≤◌, ◌<◌, length, take};
+ghost use Rattle.std.specs.Prelude.{◌≡◌, ◌+◌, ◌*◌, ◌≤◌, ◌<◌, length};
 ghost use Rattle.rules.specs.Limits.{type_width, script_width, table_limit, script_limit};
 ghost use Rattle.rules.specs.Callers.{old_type_count, old_type_r, old_records, old_kind, old_number};
 ghost use Rattle.rules.specs.Callers.{recursion_of_type, write_callers, callers_written};
@@ -164,23 +164,17 @@ fn old_script_check(
     syntax::script_check(groups, &table[..types_end], &wide[..end], &[])
 }
 
-// Question 27 of so many records of this width, and the records to the front of `rewritten`.
-fn hand_over(
-    wide: &[u8],
-    width: usize,
-    count: usize,
-    rewritten: &mut [u8],
-) -> Result<usize, Refusal>
-    requires { (0 < width) × (width ≤ 8) × (count ≤ script_limit) × (width * count ≤ length wide.now) }
+// Question 27 of records of this width, and the records to the front of `rewritten`. The answer is how many there are.
+fn hand_over(records: &[u8], width: usize, rewritten: &mut [u8]) -> Result<usize, Refusal>
+    requires { 0 < width }
     ensures { (said result
-        ≡ rewritten_records width (fitting (take (width * count) wide.now) (length rewritten.old)))
+        ≡ rewritten_records width (fitting records.now (length rewritten.old)))
         × (rewritten.new
-        ≡ rewritten_after (fitting (take (width * count) wide.now) (length rewritten.old)) rewritten.old) }
+        ≡ rewritten_after (fitting records.now (length rewritten.old)) rewritten.old) }
 {
-    let n = width * count;
-    answer::ask(Question::Room, 0, n <= rewritten.len())?;
-    memory::put(&wide[..n], rewritten, 0);
-    Ok(count)
+    answer::ask(Question::Room, 0, records.len() <= rewritten.len())?;
+    memory::put(records, rewritten, 0);
+    Ok(records.len() / width)
 }
 
 // A types table of 4-byte records in the new form, to the front of `rewritten`: questions 2 to 12 and 27. They are asked of a copy, so
@@ -194,7 +188,8 @@ pub fn rewrite_types(groups: &[u8], types: &[u8], rewritten: &mut [u8]) -> Resul
 {
     let mut wide = [0u8; TYPES_LENGTH];
     old_types_check(groups, types, &mut wide)?;
-    hand_over(&wide, TYPE_WIDTH, types.len() / OLD_TYPE_WIDTH, rewritten)
+    let end = TYPE_WIDTH * (types.len() / OLD_TYPE_WIDTH);
+    hand_over(&wide[..end], TYPE_WIDTH, rewritten)
 }
 
 // A script of 6-byte records over a types table of 4-byte records in the new form, to the front of `rewritten`: questions 2 to 19 and
@@ -216,10 +211,6 @@ pub fn rewrite_script(
     let mut table = [0u8; TYPES_LENGTH];
     let mut wide = [0u8; SCRIPT_LENGTH];
     old_script_check(groups, types, script, &mut table, &mut wide)?;
-    hand_over(
-        &wide,
-        SCRIPT_WIDTH,
-        script.len() / OLD_SCRIPT_WIDTH,
-        rewritten,
-    )
+    let end = SCRIPT_WIDTH * (script.len() / OLD_SCRIPT_WIDTH);
+    hand_over(&wide[..end], SCRIPT_WIDTH, rewritten)
 }

@@ -1,17 +1,19 @@
-use Rattle.std.proofs.Common.{ap, refl}
+use Rattle.std.proofs.Common.{ap, refl, ◌∙◌}
+use Rattle.rules.specs.Answer.{accepted}
+use Rattle.rules.specs.Rewriting.{rewritten_records}
 use Rattle.answer.specs.Said.{said}
 use Rattle.answer.proofs.Passed.{returned}
-use Rattle.rewriting.proofs.Asked.{refused_delivered, delivered, room_asked, handed}
+use Rattle.memory.proofs.Laws.{splice_front}
+use Rattle.rewriting.proofs.Asked.{refused_delivered, delivered}
 use Rattle.rewriting.proofs.hand_over.Goals as goal
 
 pub returns-in_err-ask : goal.returns-in_err-ask
 returns-in_err-ask c =
     let a = c.args in
-    refused_delivered a.width _ _ a.rewritten.now c.in_err-ask.ensures (room_asked a.wide.now a.rewritten.now a.width a.count c.requires.0 c.requires.3)
-    (ap said (returned _ c.from_residual.ensures.1))
+    refused_delivered a.width _ (accepted a.records.now) a.rewritten.now c.in_err-ask.ensures refl (ap said (returned _ c.from_residual.ensures.1))
 
 pub returns : goal.returns
+unfolding rewritten_records
 returns c =
     let a = c.args in
-    delivered a.width _ _ a.rewritten.now _ c.in_ok-ask.ensures (room_asked a.wide.now a.rewritten.now a.width a.count c.requires.0 c.requires.3) refl
-    (handed a.wide.now a.rewritten.now a.width a.count c.requires.0 c.requires.3 _ c.put.ensures)
+    delivered a.width _ (accepted a.records.now) a.rewritten.now _ c.in_ok-ask.ensures refl refl (refl, c.put.ensures ∙ splice_front a.records.now a.rewritten.now)

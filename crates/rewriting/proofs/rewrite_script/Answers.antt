@@ -1,5 +1,5 @@
 -- A refusal is the answer; after a yes the records are handed over.
-use Rattle.std.proofs.Common.{length, refl, sym, ap, arith}
+use Rattle.std.proofs.Common.{length, length-take-le, refl, sym, ap, arith}
 use Rattle.rules.specs.Answer.{Bytes}
 use Rattle.rules.specs.Limits.{script_width}
 use Rattle.rules.specs.Rewriting.{widen_script, old_script_check}
@@ -17,10 +17,12 @@ returns-in_err-old_script_check c =
     let w = c.args.rewritten.now in
     refused_delivered script_width (old_script_check g t s) (fitting (widen_script s) (length w)) w c.in_err-old_script_check.ensures.asked (rewriting_script_is g t s (length w)) (ap said (returned _ c.from_residual.ensures.1))
 
-pub hand_over-requires : goal.hand_over-requires
-hand_over-requires c =
-    let n = few_records c.args.groups.now c.args.types.now c.args.script.now (sym c.in_ok-old_script_check.ensures.asked) in
-    (omega arith, omega arith, omega (arith, n), omega (arith, n, c.old_script_check.auto.wide))
+pub slice_bounds-wide-end : goal.slice_bounds-wide-end
+slice_bounds-wide-end c = omega (arith, few_records c.args.groups.now c.args.types.now c.args.script.now (sym c.in_ok-old_script_check.ensures.asked), c.old_script_check.auto.wide)
+
+pub slice_bounds-hand_over-end : goal.slice_bounds-hand_over-end
+slice_bounds-hand_over-end c =
+    sym (length-take-le _ c.old_script_check.new.wide (omega (arith, few_records c.args.groups.now c.args.types.now c.args.script.now (sym c.in_ok-old_script_check.ensures.asked), c.old_script_check.auto.wide)))
 
 pub returns : goal.returns
 returns c =

@@ -1,5 +1,5 @@
 -- A refusal is the answer; after a yes the records are handed over.
-use Rattle.std.proofs.Common.{length, refl, sym, ap, arith}
+use Rattle.std.proofs.Common.{length, length-take-le, refl, sym, ap, arith}
 use Rattle.rules.specs.Answer.{Bytes}
 use Rattle.rules.specs.Limits.{type_width}
 use Rattle.rules.specs.Rewriting.{widen_types, old_types_check}
@@ -16,10 +16,12 @@ returns-in_err-old_types_check c =
     let w = c.args.rewritten.now in
     refused_delivered type_width (old_types_check g t) (fitting (widen_types t) (length w)) w c.in_err-old_types_check.ensures.asked (rewriting_types_is g t (length w)) (ap said (returned _ c.from_residual.ensures.1))
 
-pub hand_over-requires : goal.hand_over-requires
-hand_over-requires c =
-    let n = few_types c.args.groups.now c.args.types.now (sym c.in_ok-old_types_check.ensures.asked) in
-    (omega arith, omega arith, omega (arith, n), omega (arith, n, c.old_types_check.auto.wide))
+pub slice_bounds-wide-end : goal.slice_bounds-wide-end
+slice_bounds-wide-end c = omega (arith, few_types c.args.groups.now c.args.types.now (sym c.in_ok-old_types_check.ensures.asked), c.old_types_check.auto.wide)
+
+pub slice_bounds-hand_over-end : goal.slice_bounds-hand_over-end
+slice_bounds-hand_over-end c =
+    sym (length-take-le _ c.old_types_check.new.wide (omega (arith, few_types c.args.groups.now c.args.types.now (sym c.in_ok-old_types_check.ensures.asked), c.old_types_check.auto.wide)))
 
 pub returns : goal.returns
 returns c =

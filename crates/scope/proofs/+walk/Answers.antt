@@ -13,8 +13,8 @@ use Rattle.scope.specs.Walk.{Counted, question, passes, increment}
 use Rattle.scope.proofs.Walks.{asked_first, Reached, reach, end, stop, pass}
 use Rattle.scope.proofs.+walk.Goals as goal
 
-arity_is : {s : Bytes} {i : ℕ} {u : Term} (w : At s i u) (k m : ℕ) → m ≡ arity k → k ≡ kind s i → m ≡ operands u
-arity_is w k m h hk = h ∙ ap arity hk ∙ stands_arity _ _ _ w
+arity_is : {s : Bytes} {i : ℕ} {u : Term} (w : At s i u) {k m : ℕ} → m ≡ arity k → k ≡ kind s i → m ≡ operands u
+arity_is w h hk = h ∙ ap arity hk ∙ stands_arity _ _ _ w
 
 number_is : {s : Bytes} {i : ℕ} {u : Term} (w : At s i u) (q : Counted) (n m k j r : ℕ) → m ≡ weight_at s i → k ≡ kind s i → r ≡ increment q m k j
     → n + r ≡ n + increment q (weight_of u) (kind_of u) j
@@ -24,8 +24,8 @@ number_is w q n m k j r hm hk hr =
 asked_is : (q : Counted) (s : Bytes) (i n : ℕ) {x : ℕ} {b : Bool} {o : Answer (Unit {0})} → x ≡ question q → b ≡ passes q s i n → o ≡ ask x i b → o ≡ ask (question q) i (passes q s i n)
 asked_is q s i n hx hb h = rw (← hx, ← hb) h
 
-ahead_of : {q : Counted} {s : Bytes} {i n : ℕ} {u : Term} {j next : ℕ} (p : Reached q s i n u j next) (m : ℕ) → m ≡ operands u → j < m → Ahead p.passed
-ahead_of p m h l = ahead p.passed (omega arith)
+ahead_of : {q : Counted} {s : Bytes} {i n : ℕ} {u : Term} {j next : ℕ} (w : At s i u) (p : Reached q s i n u j next) {k m : ℕ} → m ≡ arity k → k ≡ kind s i → j < m → Ahead p.passed
+ahead_of w p h hk l = ahead p.passed (omega (arith, arity_is w h hk))
 
 pub passes-requires : goal.passes-requires
 passes-requires g t c = there _ _ _ c.requires.0.at
@@ -50,16 +50,15 @@ pub walk-requires : goal.walk-requires
 walk-requires g t c κs within =
     let w = c.requires.0.at in
     let p = c.loop-j.invariant _ w in
-    let m = arity_is w _ _ c.arity-j-end.ensures.0 c.kind_of-kind.ensures in (
+    let a = ahead_of w p c.arity-j-end.ensures.0 c.kind_of-kind.ensures c.loop-j-test.true in (
       omega (arith, there _ _ _ w, p.passed.next_is),
-      (within, (here (operand_here p.passed (ahead_of p _ m c.loop-j-test.true) w), omega (arith, p.passed.next_is))),
+      (within, (here (operand_here p.passed a w), omega (arith, p.passed.next_is))),
     )
 
 pub returns-in_err-next : goal.returns-in_err-next
 returns-in_err-next g t c u w =
     let p = c.loop-j.invariant u w in
-    let m = arity_is w _ _ c.arity-j-end.ensures.0 c.kind_of-kind.ensures in
-    let a = ahead_of p _ m c.loop-j-test.true in
+    let a = ahead_of w p c.arity-j-end.ensures.0 c.kind_of-kind.ensures c.loop-j-test.true in
     ap said (returned _ c.from_residual-in_err-next.ensures.1)
     ∙ stop p a (c.args.n + c.increment.result) (number_is w _ _ _ _ _ _ c.weight-weight.ensures.0 c.kind_of-kind.ensures c.increment.ensures.0)
     (c.in_err-next.ensures a.operand (operand_here p.passed a w))
@@ -67,12 +66,11 @@ returns-in_err-next g t c u w =
 pub loop-j-preserved : goal.loop-j-preserved
 loop-j-preserved g t c u w =
     let p = c.loop-j.invariant u w in
-    let m = arity_is w _ _ c.arity-j-end.ensures.0 c.kind_of-kind.ensures in
-    let a = ahead_of p _ m c.loop-j-test.true in
+    let a = ahead_of w p c.arity-j-end.ensures.0 c.kind_of-kind.ensures c.loop-j-test.true in
     pass p a _ (number_is w _ _ _ _ _ _ c.weight-weight.ensures.0 c.kind_of-kind.ensures c.increment.ensures.0) _
     (c.in_ok-next.ensures _ (operand_here p.passed a w))
 
 pub returns : goal.returns
 returns g t c u w =
-    let m = arity_is w _ _ c.arity-j-end.ensures.0 c.kind_of-kind.ensures in
+    let m = arity_is w c.arity-j-end.ensures.0 c.kind_of-kind.ensures in
     end (c.loop-j.invariant u w) (omega arith)
