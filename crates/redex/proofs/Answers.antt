@@ -1,9 +1,9 @@
 -- The answers that are read off records: whether a type is a function, and the fate of a node.
-use Rattle.std.proofs.Common.{◌≡◌, refl, sym, ap, ap₂, subst, ◌∙◌, Bool, cond, [], ◌∷◌, ℕ, zero, suc, ◌+◌, ◌*◌, ◌≤◌, ◌<◌, arith, eqb, length, get_or, drop, length-drop, get_or-drop}
+use Rattle.std.proofs.Common.{◌≡◌, refl, sym, ap, ap₂, subst, ◌∙◌, Bool, cond, [], ◌∷◌, ℕ, zero, suc, ◌+◌, ◌*◌, ◌≤◌, ◌<◌, arith, eqb, ltb, ◌&&◌, length, get_or, drop, length-drop, get_or-drop}
 use Rattle.std.proofs.Math.Bool.{So}
 use Rattle.std.proofs.lemmas.Bool.{false≢true}
 use Rattle.std.proofs.Math.Decide.{dec_lt}
-use borrow.Author.Tests.{ne_eqb}
+use borrow.Author.Tests.{ne_eqb, lt-ltb, le-ltb}
 use Rattle.calculus.specs.Security.{Property, Security}
 use Rattle.calculus.specs.Types.{Ty, top}
 use Rattle.calculus.specs.Terms.{Term}
@@ -42,12 +42,22 @@ first_function (k ∷ r ∷ ir ∷ z ∷ []) l = absurd (omega arith)
 first_function (k ∷ r ∷ ir ∷ z ∷ c ∷ []) l = absurd (omega arith)
 first_function (k ∷ r ∷ ir ∷ z ∷ c ∷ ic ∷ b) l = made_function k _ _ _
 
-pub function_at : (t : Bytes) (i : ℕ) → i < type_count t → eqb (type_kind t i) 3 ≡ is_function (type_at t i)
+function_at : (t : Bytes) (i : ℕ) → i < type_count t → eqb (type_kind t i) 3 ≡ is_function (type_at t i)
 unfolding type_at
 function_at t i l =
     let z : type_width * i + 0 ≡ type_width * i = omega arith in
     ap (λ n. eqb (byte t n) 3) (sym z) ∙ ap (λ n. eqb n 3) (sym (get_or-drop (type_width * i) t 0 0))
     ∙ first_function (drop (type_width * i) t) (omega (arith, length-drop (type_width * i) t))
+
+-- as the code asks it: of any index
+pub function_of_kind : (t : Bytes) (i : ℕ) → (ltb i (type_count t) && eqb (type_kind t i) 3) ≡ is_function (type_at t i)
+function_of_kind t i = by (dec_lt i (type_count t))
+  where
+    by : Dec (i < type_count t) → (ltb i (type_count t) && eqb (type_kind t i) 3) ≡ is_function (type_at t i)
+    by (yes l) = ap (λ b. b && eqb (type_kind t i) 3) (lt-ltb i (type_count t) l) ∙ function_at t i l
+    by (no n) =
+        ap (λ b. b && eqb (type_kind t i) 3) (le-ltb i (type_count t) (omega arith))
+        ∙ sym (ap is_function (type_at_outside t i (omega arith)))
 
 -- A function type is in the table, and its first record has its groups.
 pub function_inside : (t : Bytes) (i : ℕ) → So (is_function (type_at t i)) → i < type_count t

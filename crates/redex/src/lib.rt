@@ -33,13 +33,7 @@ pub enum Found {
 fn unrolls(types: &[u8], i: usize) -> bool
     ensures { result ≡ is_function (type_at types.now i) }
 {
-    if types::type_count(types) <= i {
-        return false;
-    }
-    match types::kind_at(types, i) {
-        Some(kind) => kind == types::Kind::Function,
-        None => false,
-    }
+    types::is_of_kind(types, i, types::Kind::Function)
 }
 
 // Does a destructor of this kind take apart a value of that kind?

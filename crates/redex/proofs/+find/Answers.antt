@@ -1,20 +1,47 @@
 -- An operand's place, depth and answer come from its position in the term.
-use Rattle.std.proofs.Common.{◌≡◌, ◌+◌, refl, sym, ap, ◌∙◌, arith}
+use Rattle.std.proofs.Common.{◌≡◌, ℕ, ◌+◌, refl, sym, ap, ◌∙◌, arith}
+use Rattle.std.proofs.Math.Bool.{So}
+use Rattle.calculus.specs.Terms.{Term, is_value}
 use Rattle.rules.specs.Groups.{properties_of}
 use Rattle.rules.specs.Types.{type_at}
 use Rattle.rules.specs.Script.{size}
+use Rattle.records.specs.Kinds as kinds
+use Rattle.records.specs.Place.{At}
 use Rattle.records.specs.Operands.{first_operand, second_operand}
 use Rattle.records.proofs.Weights.{weights, stands_weight}
-use Rattle.records.proofs.Stands.{there, stands_kind, here}
+use Rattle.records.proofs.Stands.{kind_of, there, stands_kind, here}
 use Rattle.redex.specs.Found.{finds_value, is_destructor}
-use Rattle.redex.proofs.Forms.{unit_value, function_value, pair_value, injection_value}
+use Rattle.redex.proofs.Forms.{Second, unit_value, function_value, pair_value, injection_value}
 use Rattle.redex.proofs.Forms.{variable_turn, recursion_turn, protect_turn, application_turn, destructor_turn, application_reads, one_reads}
 use Rattle.records.proofs.Numbered.{same_kind}
 use Rattle.redex.proofs.Searches.{position_shallow, lift, fired}
-use Rattle.redex.proofs.Stages.{kind_read, opened, is_kind, injects, reads_one, first_at, first_of, first_value, second_of, second_at, value_found}
+use Rattle.redex.proofs.Stages.{kind_read, Opened, opened, is_kind, injects, reads_one, first_at, first_of, FirstValue, first_value, second_of, second_at, value_found}
 use Rattle.records.specs.Numbers.{kind_number}
 use Rattle.records.specs.declared.Kind.TheVariants.{Pair}
 use Rattle.redex.proofs.+find.Goals as goal
+use Rattle.redex.proofs.+find.Goals.{In_default, In-Value, In_default-kind, In-Value-second, In_default-kind-2}
+
+-- What the search knows of a node that stands there, arm by arm: its first operand comes next; that one is a value; the second comes next,
+-- and is a value too.
+module _ (t : ℕ) {e : Term} where
+  evaluating : (c : In_default t) → At c.args.script.now c.args.at e → Opened c.args.script.now c.args.at c.kind_of-kind.result e
+  evaluating c a = opened c.kind_of-kind.ensures c.in_default.not-Variable c.in_default.not-Unit c.in_default.not-Function c.in_default.not-Recursion a
+
+  first_is : (c : In-Value t) → Opened c.args.script.now c.args.at c.kind_of-kind.result e
+      → FirstValue c.args.script.now c.args.at c.kind_of-kind.result e c.in-Value.next
+  first_is c o = first_value o (c.find-first.ensures (first_operand e) (first_at o)) c.in-Value.is
+
+  twofold : (c : In_default-kind t) → FirstValue c.args.script.now c.args.at c.kind_of-kind.result e c.in-Value.next → Second e
+  twofold c f =
+      let d = c.in_default-kind in
+      second_of f d.not-FirstInjection d.not-SecondInjection d.not-FirstProjection d.not-SecondProjection d.not-Case d.not-Protect
+
+  second_is : (c : In-Value-second t) → FirstValue c.args.script.now c.args.at c.kind_of-kind.result e c.in-Value.next → Second e
+      → So (is_value (second_operand e)) × (c.in-Value-second.end ≡ c.in-Value.next + size (second_operand e))
+  second_is c f x = value_found (c.find-second.ensures (second_operand e) (second_at f x)) c.in-Value-second.is
+
+  applies : (c : In_default-kind-2 t) → Opened c.args.script.now c.args.at c.kind_of-kind.result e → Second e → kind_of e ≡ kinds.application
+  applies c o x = x.applies (λ h. c.in_default-kind-2.not-Pair (same_kind _ Pair (o.kind_is ∙ h)))
 
 pub returns-in-Variable : goal.returns-in-Variable
 returns-in-Variable t c e a =
@@ -49,7 +76,7 @@ weight-requires t c = there _ _ _ c.requires.at
 pub find-first-requires : goal.find-first-requires
 find-first-requires t c =
     let q = c.requires in
-    let o = opened c.kind_of-kind.ensures c.in_default.not-Variable c.in_default.not-Unit c.in_default.not-Function c.in_default.not-Recursion q.at in
+    let o = evaluating t (goal.at.find-first-requires t c).In_default q.at in
     let h = position_shallow c.args.depth (first_of o c.weight.ensures.0) q.shallow in (
       omega (arith, c.decreases, h, c.weight.ensures.0, stands_weight q.at, (weights q.tree).0),
       record { tree = first_operand q.tree; at = first_at o; shallow = h },
@@ -57,15 +84,15 @@ find-first-requires t c =
 
 pub returns-in_default-first : goal.returns-in_default-first
 returns-in_default-first t c e a =
-    let o = opened c.kind_of-kind.ensures c.in_default.not-Variable c.in_default.not-Unit c.in_default.not-Function c.in_default.not-Recursion a in
+    let o = evaluating t (goal.at.returns-in_default-first t c).In_default a in
     lift (properties_of c.args.groups.now) (type_at c.args.types.now) c.args.at c.args.depth e (c.args.at + 1) refl (first_of o c.weight.ensures.0)
     (c.find-first.ensures (first_operand e) (first_at o)) c.in_default-first.not-Value
 
 pub returns-in-FirstInjection : goal.returns-in-FirstInjection
 returns-in-FirstInjection t c e a =
-    let o = opened c.kind_of-kind.ensures c.in_default.not-Variable c.in_default.not-Unit c.in_default.not-Function c.in_default.not-Recursion a in
-    let f = first_value o (c.find-first.ensures (first_operand e) (first_at o)) c.in-Value.is in
-    let v = injection_value e (injects o c.in-FirstInjection.is) f.value in
+    let r = goal.at.returns-in-FirstInjection t c in
+    let f = first_is t r.In-Value (evaluating t r.In_default a) in
+    let v = injection_value e (injects f.own c.in-FirstInjection.is) f.value in
     let n : c.in-Value.next ≡ c.args.at + size e = omega (arith, f.ends, v.1) in
     finds_value v.0 n
 
@@ -73,72 +100,64 @@ pub returns-in-Protect : goal.returns-in-Protect
 returns-in-Protect t c e a =
     let S = properties_of c.args.groups.now in
     let tab = type_at c.args.types.now in
-    let o = opened c.kind_of-kind.ensures c.in_default.not-Variable c.in_default.not-Unit c.in_default.not-Function c.in_default.not-Recursion a in
-    let f = first_value o (c.find-first.ensures (first_operand e) (first_at o)) c.in-Value.is in
-    let v = protect_turn S tab e (is_kind o c.in-Protect.is) f.value in
+    let r = goal.at.returns-in-Protect t c in
+    let f = first_is t r.In-Value (evaluating t r.In_default a) in
+    let v = protect_turn S tab e (is_kind f.own c.in-Protect.is) f.value in
     fired S tab _ _ e v.0 (rw v.1)
 
 pub reading-requires : goal.reading-requires
 reading-requires t c =
     let q = c.requires in
-    let o = opened c.kind_of-kind.ensures c.in_default.not-Variable c.in_default.not-Unit c.in_default.not-Function c.in_default.not-Recursion q.at in
+    let o = evaluating t (goal.at.reading-requires t c).In_default q.at in
     (here q.at, ap is_destructor (stands_kind _ _ q.tree q.at) ∙ one_reads _ (reads_one o c.in-FirstProjection.is))
 
 pub returns-in-FirstProjection : goal.returns-in-FirstProjection
 returns-in-FirstProjection t c e a =
     let tab = type_at c.args.types.now in
-    let o = opened c.kind_of-kind.ensures c.in_default.not-Variable c.in_default.not-Unit c.in_default.not-Function c.in_default.not-Recursion a in
-    let f = first_value o (c.find-first.ensures (first_operand e) (first_at o)) c.in-Value.is in
-    let v = destructor_turn e (reads_one o c.in-FirstProjection.is) f.value in
-    fired (properties_of c.args.groups.now) tab _ _ e v (c.reading.ensures tab e a)
+    let r = goal.at.returns-in-FirstProjection t c in
+    let f = first_is t r.In-Value (evaluating t r.In_default a) in
+    fired (properties_of c.args.groups.now) tab _ _ e (destructor_turn e (reads_one f.own c.in-FirstProjection.is) f.value) (c.reading.ensures tab e a)
 
 pub find-second-requires : goal.find-second-requires
 find-second-requires t c =
     let q = c.requires in
-    let o = opened c.kind_of-kind.ensures c.in_default.not-Variable c.in_default.not-Unit c.in_default.not-Function c.in_default.not-Recursion q.at in
-    let f = first_value o (c.find-first.ensures (first_operand q.tree) (first_at o)) c.in-Value.is in
-    let x = second_of f c.in_default-kind.not-FirstInjection c.in_default-kind.not-SecondInjection c.in_default-kind.not-FirstProjection
-    c.in_default-kind.not-SecondProjection c.in_default-kind.not-Case c.in_default-kind.not-Protect in
+    let r = goal.at.find-second-requires t c in
+    let f = first_is t r.In-Value (evaluating t r.In_default q.at) in
+    let x = twofold t r.In_default-kind f in
     let h = position_shallow c.args.depth x.position q.shallow in
     (omega arith, record { tree = second_operand q.tree; at = second_at f x; shallow = h })
 
 pub returns-in_default-second : goal.returns-in_default-second
 returns-in_default-second t c e a =
-    let o = opened c.kind_of-kind.ensures c.in_default.not-Variable c.in_default.not-Unit c.in_default.not-Function c.in_default.not-Recursion a in
-    let f = first_value o (c.find-first.ensures (first_operand e) (first_at o)) c.in-Value.is in
-    let x = second_of f c.in_default-kind.not-FirstInjection c.in_default-kind.not-SecondInjection c.in_default-kind.not-FirstProjection
-    c.in_default-kind.not-SecondProjection c.in_default-kind.not-Case c.in_default-kind.not-Protect in
+    let r = goal.at.returns-in_default-second t c in
+    let f = first_is t r.In-Value (evaluating t r.In_default a) in
+    let x = twofold t r.In_default-kind f in
     lift (properties_of c.args.groups.now) (type_at c.args.types.now) c.args.at c.args.depth e c.in-Value.next (omega (arith, f.ends)) x.position
     (c.find-second.ensures (second_operand e) (second_at f x)) c.in_default-second.not-Value
 
 pub returns-in-Pair : goal.returns-in-Pair
 returns-in-Pair t c e a =
-    let o = opened c.kind_of-kind.ensures c.in_default.not-Variable c.in_default.not-Unit c.in_default.not-Function c.in_default.not-Recursion a in
-    let f = first_value o (c.find-first.ensures (first_operand e) (first_at o)) c.in-Value.is in
-    let x = second_of f c.in_default-kind.not-FirstInjection c.in_default-kind.not-SecondInjection c.in_default-kind.not-FirstProjection
-    c.in_default-kind.not-SecondProjection c.in_default-kind.not-Case c.in_default-kind.not-Protect in
-    let v = value_found (c.find-second.ensures (second_operand e) (second_at f x)) c.in-Value-second.is in
+    let r = goal.at.returns-in-Pair t c in
+    let f = first_is t r.In-Value (evaluating t r.In_default a) in
+    let x = twofold t r.In_default-kind f in
+    let v = second_is t r.In-Value-second f x in
     let n : c.in-Value-second.end ≡ c.args.at + size e = omega (arith, v.1, f.ends, x.sizes) in
-    finds_value (pair_value e (is_kind o c.in-Pair.is) f.value v.0) n
+    finds_value (pair_value e (is_kind f.own c.in-Pair.is) f.value v.0) n
 
 pub reading-requires-in_default-kind-2 : goal.reading-requires-in_default-kind-2
 reading-requires-in_default-kind-2 t c =
     let q = c.requires in
-    let o = opened c.kind_of-kind.ensures c.in_default.not-Variable c.in_default.not-Unit c.in_default.not-Function c.in_default.not-Recursion q.at in
-    let f = first_value o (c.find-first.ensures (first_operand q.tree) (first_at o)) c.in-Value.is in
-    let x = second_of f c.in_default-kind.not-FirstInjection c.in_default-kind.not-SecondInjection c.in_default-kind.not-FirstProjection
-    c.in_default-kind.not-SecondProjection c.in_default-kind.not-Case c.in_default-kind.not-Protect in
-    let k = x.applies (λ h. c.in_default-kind-2.not-Pair (same_kind _ Pair (o.kind_is ∙ h))) in
+    let r = goal.at.reading-requires-in_default-kind-2 t c in
+    let f = first_is t r.In-Value (evaluating t r.In_default q.at) in
+    let k = applies t r.In_default-kind-2 f.own (twofold t r.In_default-kind f) in
     (here q.at, ap is_destructor (stands_kind _ _ q.tree q.at ∙ k) ∙ application_reads)
 
 pub returns-in_default-kind-2 : goal.returns-in_default-kind-2
 returns-in_default-kind-2 t c e a =
     let tab = type_at c.args.types.now in
-    let o = opened c.kind_of-kind.ensures c.in_default.not-Variable c.in_default.not-Unit c.in_default.not-Function c.in_default.not-Recursion a in
-    let f = first_value o (c.find-first.ensures (first_operand e) (first_at o)) c.in-Value.is in
-    let x = second_of f c.in_default-kind.not-FirstInjection c.in_default-kind.not-SecondInjection c.in_default-kind.not-FirstProjection
-    c.in_default-kind.not-SecondProjection c.in_default-kind.not-Case c.in_default-kind.not-Protect in
-    let v = value_found (c.find-second.ensures (second_operand e) (second_at f x)) c.in-Value-second.is in
-    let k = x.applies (λ h. c.in_default-kind-2.not-Pair (same_kind _ Pair (o.kind_is ∙ h))) in
-    fired (properties_of c.args.groups.now) tab _ _ e (application_turn e k f.value v.0)
+    let r = goal.at.returns-in_default-kind-2 t c in
+    let f = first_is t r.In-Value (evaluating t r.In_default a) in
+    let x = twofold t r.In_default-kind f in
+    let v = second_is t r.In-Value-second f x in
+    fired (properties_of c.args.groups.now) tab _ _ e (application_turn e (applies t r.In_default-kind-2 f.own x) f.value v.0)
     (c.reading-in_default-kind-2.ensures tab e a)
