@@ -1,6 +1,6 @@
 -- Every call's refusal has a question of the document and a place of at most 8,192, and what it gives has its bound too: all of it
 -- fits the exported number. Assumes nothing.
-use Rattle.std.proofs.Common.{◌≡◌, refl, Bool, true, false, not, ◌&&◌, ◌||◌, List, [], ◌∷◌, ℕ, zero, suc, ◌+◌, ◌-◌, ◌/◌, ◌%◌, ◌≤◌, arith, eqb-true, leb-true, eqb, leb, ltb, length, get_or}
+use Rattle.std.proofs.Common.{Result, Ok, Err, IfErr, ◌<◌, sym, subst, ◌≡◌, refl, Bool, true, false, not, ◌&&◌, ◌||◌, List, [], ◌∷◌, ℕ, zero, suc, ◌+◌, ◌-◌, ◌/◌, ◌%◌, ◌≤◌, arith, eqb-true, leb-true, eqb, leb, ltb, length, get_or}
 use Rattle.std.proofs.Math.Option.{Option, none, some}
 use Rattle.calculus.specs.Terms.{is_value}
 use Rattle.rules.specs.Answer.{Bytes, Octets, Answer, accepted, refused, ◌>>◌, ask, first_from, refused_at, each, all_below}
@@ -16,9 +16,20 @@ use Rattle.rules.specs.Rewriting.{widen_types, widen_script, old_types_check, ol
 use Rattle.rules.proofs.ScriptLength.{q13_fitting}
 use Rattle.rules.proofs.Scripts.{whole}
 use Rattle.rules.proofs.WayBack.{end_bound}
-use Rattle.packing.specs.Packed.{Bounded, bounded_yes, bounded_no}
+use Rattle.packing.specs.Packed.{half, Bounded, bounded_yes, bounded_no}
+use Rattle.answer.specs.declared.Refusal.{Refusal}
+use Rattle.answer.specs.Numbers.{number}
+use Rattle.answer.specs.Said.{said}
 use Rattle.demands.proofs.Places.{Placed, placed_yes, placed_no, typing_placed}
 use Rattle.rules.proofs.Asked.{and_then, few_rows, few_types}
+
+-- no place is too large to be packed
+pub place_small : {A : Type 0} (r : Result A Refusal) {a : Answer A} → said r ≡ a → Bounded a → IfErr r (λ e. e.place < half)
+place_small {A = A} (Ok x) e b = tt
+place_small {A = A} (Err y) e b = go (subst Bounded (sym e) b)
+  where
+    go : Bounded {A = A} (refused (number y.question) y.place) → y.place < half
+    go (bounded_no l m n) = omega arith
 
 then : {B : Type 0} (a : Answer (Unit {0})) (b : Answer B) → Bounded a → (a ≡ accepted tt → Bounded b) → Bounded (◌>>◌ a b)
 then (accepted tt) b x f = f refl

@@ -1,5 +1,5 @@
 -- Every exported answer is bounded, and one number holds it: `unpack` gives it back.
-use Rattle.std.proofs.Common.{◌≡◌, refl, ap, subst, [], ◌∷◌, ℕ, ◌/◌, ◌≤◌, ◌<◌, min, arith, leb-true, length}
+use Rattle.std.proofs.Common.{◌≡◌, refl, ap, subst, [], ◌∷◌, ℕ, ◌/◌, ◌≤◌, min, arith, leb-true, length}
 use Rattle.calculus.specs.Types.{Ty, size_t, type_limit}
 use Rattle.rules.specs.Answer.{Bytes, Octets, Answer, accepted, refused}
 use Rattle.rules.specs.Limits.{type_width, script_width, old_type_width, old_script_width, sheet_width, table_limit, script_limit}
@@ -17,7 +17,7 @@ use Rattle.rules.specs.Rewriting.{widen_types, widen_script, old_types_check, ol
 use Rattle.demands.proofs.Answers.{accepted_inj}
 use Rattle.rules.proofs.Asked.{and_then, few_types}
 use Rattle.demands.proofs.TypesTable.{tables}
-use Rattle.packing.specs.Packed.{half, packed, passed, compared, ended, step_ended, run_ended, Bounded, bounded_yes, bounded_no, Counted, counted_yes, counted_no, Holds, holds_yes, holds_no}
+use Rattle.packing.specs.Packed.{packed, compared, ended, step_ended, run_ended, Bounded, bounded_yes, bounded_no, Holds, holds_yes, holds_no}
 use Rattle.packing.proofs.Unpacked.{Reads, unended}
 use Rattle.packing.proofs.Bounds.{check_bounded, run_bounded, page_bounded, rewriting_types_bounded, rewriting_script_bounded, script_small}
 use Rattle.packing.proofs.Sizes.{Small, small_yes, small_no, no_binders, typing_small, Within, within_move, step_within, Ends, run_within, sheet_length}
@@ -36,10 +36,6 @@ pub rewritten_bounded : (width : ℕ) (a : Answer Bytes) → Bounded a → Bound
 unfolding rewritten_records
 rewritten_bounded width (accepted b) x = bounded_yes
 rewritten_bounded width (refused q p) (bounded_no l m n) = bounded_no l m n
-
-pub passed_holds : (a : Answer (Unit {0})) → Bounded a → Holds (passed a)
-passed_holds (accepted u) x = holds_yes {n = 0} (omega arith)
-passed_holds (refused q p) (bounded_no l m n) = holds_no {q = q} {p = p} l m (omega arith)
 
 pub compare_holds : (a : Answer Comparison) → Bounded a → Holds (compared a)
 compare_holds (accepted same) x = holds_yes {n = 2} (omega arith)
@@ -158,13 +154,3 @@ run_read g t s budget first scratch x o e = unended x.end (size x.last) (run_end
 pub step_read : (g t s : Bytes) (room : ℕ) (x : End) → stepping g t s room ≡ accepted x
     → Reads (packed (step_ended (step_report s (accepted x)))) (end_number x) (end_count (records s) x)
 step_read g t s room x e = unended (end_number x) (end_count (records s) x) (step_count g t s room x e)
-
-pub place_fits : {A : Type 0} (q p : ℕ) → Bounded {A = A} (refused q p) → p < half
-place_fits q p (bounded_no l m n) = omega arith
-
--- and a counted one's number and place
-pub count_fits : {A : Type 0} (count : A → ℕ) (x : A) → Counted count (accepted x) → count x < half
-count_fits count x (counted_yes l) = omega arith
-
-pub place_counted : {A : Type 0} (count : A → ℕ) (q p : ℕ) → Counted count (refused q p) → p < half
-place_counted count q p (counted_no l) = omega arith

@@ -1,5 +1,5 @@
 -- A caller reads off an exported number the answer that was packed.
-use Rattle.std.proofs.Common.{◌≡◌, ap, ap₂, ℕ, ◌+◌, ◌*◌, ◌/◌, ◌%◌, ◌≤◌, ◌<◌, arith, eq-eqb, ne_eqb}
+use Rattle.std.proofs.Common.{◌≡◌, ap, ap₂, ℕ, ◌+◌, ◌*◌, ◌/◌, ◌%◌, ◌≤◌, arith, eq-eqb, ne_eqb}
 use Rattle.rules.specs.Answer.{Answer, accepted, refused}
 use Rattle.rules.specs.Limits.{script_limit}
 use Rattle.packing.specs.Packed.{half, packed, unpacked, ended, end_of, count_of, Holds, holds_yes, holds_no}
@@ -13,11 +13,6 @@ unpack (refused q p) (holds_no a b l) =
     let z : (q * half + p) / half ≡ q = omega arith in
     let m : (q * half + p) % half ≡ p = omega arith in
     rw (ne_eqb ((q * half + p) / half) 0 (λ e. omega arith)) (ap₂ (λ (x y : ℕ). refused x y) z m)
-
--- and it is a number of 64 bits
-pub fits_64 : (a : Answer ℕ) → Holds a → packed a < half * half
-fits_64 (accepted n) (holds_yes l) = omega arith
-fits_64 (refused q p) (holds_no a b l) = omega arith
 
 -- the end and the record count that are read off a number
 pub record Reads (n end count : ℕ) : Type 0 where

@@ -40,14 +40,17 @@ StepCounted = Counted (λ x. x.count)
 abbrev pub RunCounted : Answer Report → Type 0
 RunCounted = Counted (λ x. x.count)
 
+-- an answer as a number, by what is counted of what was found
+abbrev pub numbered : {A : Type 0} → (A → ℕ) → Answer A → Answer ℕ
+numbered count (accepted x) = accepted (count x)
+numbered count (refused q p) = refused q p
+
 -- the lower half of a check of tables, of a comparison, and of a run or a step: end * 2^16 + records
 abbrev pub passed : Answer (Unit {0}) → Answer ℕ
-passed (accepted tt) = accepted 0
-passed (refused q p) = refused q p
+passed = numbered (λ x. 0)
 
 abbrev pub compared : Answer Comparison → Answer ℕ
-compared (accepted c) = accepted (comparison_number c)
-compared (refused q p) = refused q p
+compared = numbered comparison_number
 
 abbrev pub quarter : ℕ
 quarter = 65536
@@ -63,12 +66,10 @@ abbrev pub count_of : ℕ → ℕ
 count_of n = n % quarter
 
 abbrev pub step_ended : Answer StepReport → Answer ℕ
-step_ended (accepted x) = accepted (ended x.end x.count)
-step_ended (refused q p) = refused q p
+step_ended = numbered (λ x. ended x.end x.count)
 
 abbrev pub run_ended : Answer Report → Answer ℕ
-run_ended (accepted x) = accepted (ended x.end x.count)
-run_ended (refused q p) = refused q p
+run_ended = numbered (λ x. ended x.end x.count)
 
 -- the lowest bytes of a number, the lowest first
 unfoldable pub low_bytes : ℕ → ℕ → Bytes

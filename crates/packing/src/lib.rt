@@ -2,21 +2,19 @@
 
 #![tactic(auto)]
 
-ghost use Rattle.std.specs.Prelude.{◌≡◌, ◌+◌, ◌*◌, ◌<◌};
+ghost use Rattle.std.specs.Prelude.{◌≡◌, ◌+◌, ◌*◌, ◌<◌, IfErr};
 ghost use Rattle.answer.specs.Numbers.{number};
 ghost use Rattle.answer.specs.Said.{said};
-ghost use Rattle.packing.specs.Packed.{half, packed, ended, steps_in, Bounded};
+ghost use Rattle.packing.specs.Packed.{half, packed, ended, steps_in};
 
 use answer::Refusal;
 
 const HALF: u64 = 4294967296;
 
-const QUARTER: u64 = 65536;
-
-const STEPS_WIDTH: usize = 8;
+const QUARTER: usize = 65536;
 
 // A refusal: the question in the upper half, the place in the lower.
-pub fn refusal(refusal: Refusal) -> u64
+fn refusal(refusal: Refusal) -> u64
     requires { refusal.place < half }
     ensures { result ≡ number refusal.question * half + refusal.place }
 {
@@ -25,7 +23,7 @@ pub fn refusal(refusal: Refusal) -> u64
 
 // A call's number, or its refusal.
 pub fn answer(a: Result<usize, Refusal>) -> u64
-    requires { Bounded (said a) }
+    requires { IfErr a (λ refusal. refusal.place < half) }
     ensures { result ≡ packed (said a) }
 {
     match a {
@@ -35,18 +33,17 @@ pub fn answer(a: Result<usize, Refusal>) -> u64
 }
 
 // A run's or a step's end and record count.
-pub fn end_and_count(end: u8, count: usize) -> u64
+pub fn end_and_count(end: u8, count: usize) -> usize
     requires { count < half }
     ensures { result ≡ ended end count }
 {
-    u64::from(end) * QUARTER + (count as u64)
+    usize::from(end) * QUARTER + count
 }
 
 // The step count, lowest byte first, as far as the slice goes.
+#[tactic(auto, using(crate::proofs::Steps::steps_bytes))]
 pub fn put_steps(n: u64, steps: &mut [u8])
     ensures { steps.new ≡ steps_in n steps.old }
 {
-    let end = steps.len().min(STEPS_WIDTH);
-    let bytes = n.to_le_bytes();
-    steps[..end].copy_from_slice(&bytes[..end]);
+    memory::put_fitting(&n.to_le_bytes(), steps);
 }

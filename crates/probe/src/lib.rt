@@ -20,10 +20,7 @@ fn checked(a: Checked) -> u64
     requires { Bounded (said a) }
     ensures { result ≡ packed (passed (said a)) }
 {
-    match a {
-        Ok(()) => 0,
-        Err(refusal) => packing::refusal(refusal),
-    }
+    packing::answer(a.map(|()| 0))
 }
 
 #[tactic(auto, using(packing::proofs::Bounds::groups_bounded))]
@@ -47,7 +44,7 @@ pub extern "C" fn probe_types_check(groups: &[u8], types: &[u8]) -> u64
 pub extern "C" fn probe_words_check(words: &[u8]) -> u64
     ensures { result ≡ packed (passed (words_check words.now)) }
 {
-    checked(words::words_check(words))
+    checked(words::words_check(words).map(|_| ()))
 }
 
 // Bit h of a row: 1 or 0. It has no conditional jump; the gate reads that off the compiled function.
@@ -63,10 +60,9 @@ fn stepped(a: Result<StepReport, Refusal>) -> u64
     requires { StepCounted (said_step a) }
     ensures { result ≡ packed (step_ended (said_step a)) }
 {
-    match a {
-        Ok(report) => packing::end_and_count(reduction::end_number(report.stop), report.records),
-        Err(refusal) => packing::refusal(refusal),
-    }
+    packing::answer(a.map(|report| {
+        packing::end_and_count(reduction::end_number(report.stop), report.records)
+    }))
 }
 
 #[tactic(auto, using(crate::proofs::Reports::step_counted))]
@@ -90,8 +86,7 @@ pub extern "C" fn probe_subterm(script: &[u8], index: u64, copy: &mut [u8]) -> u
         copy.old) }
 {
     let part = syntax::subterm(script, index as usize);
-    let n = part.len().min(copy.len());
-    memory::copy(part, n, copy, 0);
+    memory::put_fitting(part, copy);
     part.len() as u64
 }
 

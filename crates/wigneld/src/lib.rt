@@ -46,13 +46,12 @@ fn ran(a: Result<Halt, Refusal>, steps: &mut [u8]) -> u64
     ensures { (result ≡ packed (run_ended (said_run a)))
         × (steps.new ≡ steps_told (said_run a) steps.old) }
 {
-    match a {
-        Ok(halt) => {
-            packing::put_steps(halt.steps, steps);
-            packing::end_and_count(reduction::end_number(halt.stop), halt.records)
-        }
-        Err(refusal) => packing::refusal(refusal),
+    if let Ok(halt) = a {
+        packing::put_steps(halt.steps, steps);
     }
+    packing::answer(a.map(|halt| {
+        packing::end_and_count(reduction::end_number(halt.stop), halt.records)
+    }))
 }
 
 // A run: questions 2 to 19 and 36. The last clause is demand 3.
@@ -87,6 +86,7 @@ pub extern "C" fn wigneld_run(
 }
 
 // The sheet of a value for a reader group: questions 2 to 19, 36, 25, 26 and 27.
+#[tactic(auto, using(packing::proofs::Bounds::place_small, packing::proofs::Bounds::page_bounded, packing::proofs::Exported::sheet_bounded))]
 #[unsafe(no_mangle)]
 pub extern "C" fn wigneld_sheet(
     groups: &[u8],

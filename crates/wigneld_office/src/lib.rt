@@ -20,10 +20,7 @@ fn compared(a: Result<Comparison, Refusal>) -> u64
     requires { Bounded (answered a) }
     ensures { result ≡ packed (compared (answered a)) }
 {
-    match a {
-        Ok(comparison) => u64::from(comparison.number()),
-        Err(refusal) => packing::refusal(refusal),
-    }
+    packing::answer(a.map(|comparison| usize::from(comparison.number())))
 }
 
 // Is the first type the same as the second, below it, or neither? Questions 2 to 12, 36 and 25.
@@ -47,7 +44,7 @@ pub extern "C" fn wigneld_write_callers(types: &[u8], script: &mut [u8]) -> u64
 
 // A types table of 4-byte records with c and ic as group 0, to the front of `rewritten`: questions 2 to 12 and 27.
 // Group 0 passes 36.
-#[tactic(auto, using(packing::proofs::Bounds::rewriting_types_bounded, packing::proofs::Exported::rewritten_bounded))]
+#[tactic(auto, using(packing::proofs::Bounds::rewriting_types_bounded, packing::proofs::Exported::rewritten_bounded, packing::proofs::Bounds::place_small))]
 #[unsafe(no_mangle)]
 pub extern "C" fn wigneld_rewrite_types(groups: &[u8], types: &[u8], rewritten: &mut [u8]) -> u64
     ensures { (result ≡ packed (rewritten_records type_width
@@ -59,7 +56,7 @@ pub extern "C" fn wigneld_rewrite_types(groups: &[u8], types: &[u8], rewritten: 
 }
 
 // A script of 6-byte records over a types table of 4-byte records, likewise: questions 2 to 19 and 27.
-#[tactic(auto, using(packing::proofs::Bounds::rewriting_script_bounded, packing::proofs::Exported::rewritten_bounded))]
+#[tactic(auto, using(packing::proofs::Bounds::rewriting_script_bounded, packing::proofs::Exported::rewritten_bounded, packing::proofs::Bounds::place_small))]
 #[unsafe(no_mangle)]
 pub extern "C" fn wigneld_rewrite_script(
     groups: &[u8],

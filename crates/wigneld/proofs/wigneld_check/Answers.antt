@@ -1,26 +1,25 @@
-use mathlib.Core.Path.{sym, ap, subst, ◌∙◌}
-use native.Mathlib.Omega.{arith}
-use lib.ListN.{length}
+use Rattle.std.proofs.Common.{length, sym, ap, subst, ◌∙◌, arith}
 use Rattle.rules.specs.Answer.{Octets}
 use Rattle.answer.specs.Said.{said}
-use Rattle.packing.specs.Packed.{packed, Bounded, Holds}
-use Rattle.packing.proofs.Bounds.{check_bounded}
+use Rattle.packing.specs.Packed.{packed, Holds}
+use Rattle.packing.proofs.Bounds.{place_small, check_bounded}
 use Rattle.packing.proofs.Exported.{records_bounded, check_holds}
 use Rattle.wigneld.proofs.Reports.{read_off}
 use Rattle.wigneld.proofs.wigneld_check.Goals as goal
 
 pub answer-requires : goal.answer-requires
 answer-requires c =
-    let script_octets : Octets c.args.script.now = λ k. omega (arith, c.type_inv.script k) in
     let a = c.args in
-    subst Bounded (sym c.checking.ensures.0)
+    let script_octets : Octets a.script.now = λ k. omega (arith, c.type_inv.script k) in
+    place_small _ c.checking.ensures.0
     (records_bounded _ (check_bounded a.groups.now a.types.now a.script.now (length a.work.now) (length a.answer.now) script_octets))
 
 pub returns : goal.returns
 returns c =
-    let groups_octets : Octets c.args.groups.now = λ k. omega (arith, c.type_inv.groups k) in
-    let script_octets : Octets c.args.script.now = λ k. omega (arith, c.type_inv.script k) in
-    let holds : Holds (said c.checking.result) = let a = c.args in
+    let a = c.args in
+    let groups_octets : Octets a.groups.now = λ k. omega (arith, c.type_inv.groups k) in
+    let script_octets : Octets a.script.now = λ k. omega (arith, c.type_inv.script k) in
+    let holds : Holds (said c.checking.result) =
     subst Holds (sym c.checking.ensures.0)
     (check_holds a.groups.now a.types.now a.script.now (length a.work.now) (length a.answer.now) groups_octets script_octets) in
     let x = c.checking.ensures in
