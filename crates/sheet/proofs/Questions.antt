@@ -1,8 +1,7 @@
 -- The questions in order, and the answer from what was asked.
-use Rattle.std.proofs.Common.{◌≡◌, sym, ap, ◌∙◌, true, false, [], ℕ, ◌*◌, ◌/◌, ◌≤◌, ◌<◌, arith, le-leb, ltb-true, ltb, length}
-use Rattle.std.proofs.lemmas.Bool.{lt-leb}
+use Rattle.std.proofs.Common.{◌≡◌, sym, ap, ◌∙◌, true, false, [], ℕ, ◌*◌, ◌/◌, ◌≤◌, ◌<◌, arith, le-leb, ltb-true, leb, ltb, length}
 use Rattle.calculus.specs.Terms.{is_value}
-use Rattle.rules.specs.Answer.{Bytes, Octets, Answer, accepted, refused, ◌>>◌}
+use Rattle.rules.specs.Answer.{Bytes, Octets, Answer, accepted, refused, ask, ◌>>◌}
 use Rattle.rules.specs.Limits.{sheet_width, group_limit}
 use Rattle.rules.specs.Groups.{rows, q2}
 use Rattle.rules.specs.Script.{encode, term}
@@ -68,9 +67,11 @@ module _ (g t s : Bytes) (group : ℕ) (old : Bytes) where
     pub no_value : is_value (term s) ≡ false → Paged call old (refused 26 0) old
     no_value v = no_sheet call old 26 0 (after_25 ∙ rw v)
 
-    pub no_room : is_value (term s) ≡ true → length old < sheet_width * lines g group (term s) → Paged call old (refused 27 0) old
-    no_room v l =
-        no_sheet call old 27 0 (after_25 ∙ rw (v, lt-leb (length (sheet g group (term s))) (length old) (omega (arith, sheet_length g group (term s)))))
+    pub room_asked : {n q p : ℕ} → is_value (term s) ≡ true → n ≡ lines g group (term s) → refused q p ≡ ask 27 0 (leb (sheet_width * n) (length old))
+        → Paged call old (refused q p) old
+    room_asked {n} {q} {p} v c e =
+        let l : sheet_width * n ≡ length (sheet g group (term s)) = omega (arith, c, sheet_length g group (term s)) in
+        no_sheet call old q p (after_25 ∙ rw (v, ← l, ← e))
 
     pub written : is_value (term s) ≡ true → sheet_width * lines g group (term s) ≤ length old → (n : ℕ) → n ≡ lines g group (term s) → (new : Bytes)
         → new ≡ splice 0 (sheet g group (term s)) old → Paged call old (accepted n) new

@@ -4,7 +4,7 @@ use Rattle.calculus.specs.Security.{Property}
 use Rattle.calculus.specs.Terms.{Side, first, second, choose, Term, var, unit, lam, pair, inj, app, proj, case, protect, mu, is_value}
 use Rattle.rules.specs.Answer.{Bytes}
 use Rattle.rules.specs.Groups.{leq}
-use Rattle.rules.specs.Script.{size, r}
+use Rattle.rules.specs.Script.{kind, size, r}
 use Rattle.rules.proofs.PrefixLaws.{record_is}
 use Rattle.rules.proofs.RecordFields.{r_is}
 use Rattle.rules.proofs.TermCode.{term_code, term_head}
@@ -14,9 +14,13 @@ use Rattle.records.specs.declared.Kind.{Kind}
 use Rattle.records.specs.declared.Kind.TheVariants as the
 use Rattle.records.specs.Place.{At}
 use Rattle.records.specs.Operands.{first_operand, second_operand}
-use Rattle.records.proofs.Stands.{kind_of, operands}
+use Rattle.records.proofs.Stands.{kind_of, stands_kind, operands}
 use Rattle.sheet.specs.Value.{lines, lines_if, looked}
 use Rattle.sheet.specs.declared.Reached.{Reached}
+
+-- the kind that is read is the term's
+pub kind_is : {s : Bytes} {i k : ℕ} (u : Term) → k ≡ kind s i → At s i u → k ≡ kind_of u
+kind_is {s} {i} u e w = e ∙ stands_kind s i u w
 
 -- a term as a walk over values sees it
 pub data View : Term → Type 0 where

@@ -42,7 +42,7 @@ impl Shown {
 }
 
 // A sheet record.
-#[derive(Clone, Copy)]
+#[derive(Clone, Copy, Debug, PartialEq, Eq)]
 struct Line {
     pub kind: Shown,
     pub r: Reader,
@@ -50,7 +50,7 @@ struct Line {
 }
 
 // Where a walk over a value has come to: the script record after the value, and the sheet record after its own.
-#[derive(Clone, Copy)]
+#[derive(Clone, Copy, Debug, PartialEq, Eq)]
 struct Reached {
     pub next: usize,
     pub line: usize,
@@ -157,7 +157,7 @@ fn put(sheet: &mut [u8], at: usize, line: Line)
     ensures { sheet.new ≡ splice (sheet_width * at) (bytes_of line) sheet.old }
 {
     let bytes = [line.kind.number(), line.r.0, line.ir.0, 0];
-    memory::copy(&bytes, SHEET_WIDTH, sheet, SHEET_WIDTH * at);
+    memory::put(&bytes, sheet, SHEET_WIDTH * at);
 }
 
 // Writes the sheet of the value at record i from sheet record `at` on: the object and, where it is open, its parts.
@@ -229,18 +229,11 @@ pub fn page(
 {
     asked(groups, types, value, group)?;
     let reader = Reader(group as u8);
-    let Some(end) = look(groups, value, 0, reader, true, 0) else {
-        return Err(Refusal {
-            question: Question::Value,
-            place: 0,
-        });
-    };
-    if sheet.len() < SHEET_WIDTH * end.line {
-        return Err(Refusal {
-            question: Question::Room,
-            place: 0,
-        });
-    }
+    let end = look(groups, value, 0, reader, true, 0).ok_or(Refusal {
+        question: Question::Value,
+        place: 0,
+    })?;
+    answer::ask(Question::Room, 0, SHEET_WIDTH * end.line <= sheet.len())?;
     write(groups, value, 0, reader, sheet, 0);
     Ok(end.line)
 }

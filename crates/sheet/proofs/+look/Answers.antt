@@ -7,14 +7,11 @@ use Rattle.rules.specs.Script.{kind, r}
 use Rattle.records.specs.Kinds as kinds
 use Rattle.records.specs.Place.{At}
 use Rattle.records.specs.Operands.{first_operand, second_operand}
-use Rattle.records.proofs.Stands.{kind_of, here, there, stands_kind, at_first, at_second}
+use Rattle.records.proofs.Stands.{here, there, at_first, at_second}
 use Rattle.sheet.specs.Value.{looked}
 use Rattle.sheet.specs.declared.Reached.{Reached}
-use Rattle.sheet.proofs.Values.{view, own, own_at, at_most_one, Found, found, lost, looked_no, looked_yes, no_object, no_parts, first_part, injects, pairs, look_injection, look_pair, lines_size, plain, of_injection, no_object_kind}
+use Rattle.sheet.proofs.Values.{kind_is, view, own, own_at, at_most_one, Found, found, lost, looked_no, looked_yes, no_object, no_parts, first_part, injects, pairs, look_injection, look_pair, lines_size, plain, of_injection, no_object_kind}
 use Rattle.sheet.proofs.+look.Goals as goal
-
-kind_is : {s : Bytes} {i k : ℕ} (u : Term) → k ≡ kind s i → At s i u → k ≡ kind_of u
-kind_is {s} {i} u e w = e ∙ stands_kind s i u w
 
 own_most : (shown : Bool) (n : ℕ) {own_line : ℕ} → own_line ≡ n + cond shown 1 0 → own_line ≤ n + 1
 own_most shown n e = omega (arith, at_most_one shown)

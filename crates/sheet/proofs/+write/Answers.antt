@@ -8,16 +8,13 @@ use Rattle.rules.specs.Script.{records, kind, r}
 use Rattle.records.specs.Kinds as kinds
 use Rattle.records.specs.Place.{At}
 use Rattle.records.specs.Operands.{first_operand, second_operand}
-use Rattle.records.proofs.Stands.{kind_of, there, stands_kind, at_first, at_second}
+use Rattle.records.proofs.Stands.{kind_of, there, at_first, at_second}
 use Rattle.memory.specs.Splice.{splice}
 use Rattle.sheet.specs.Shown.{line}
 use Rattle.sheet.specs.Value.{Room}
-use Rattle.sheet.proofs.Values.{view, own, own_at, first_part, pairs, of_injection, no_parts_kind}
+use Rattle.sheet.proofs.Values.{kind_is, view, own, own_at, first_part, pairs, of_injection, no_parts_kind}
 use Rattle.sheet.proofs.Sheets.{shown, without, closed, object, first_of, second_value, wrote_alone, wrote_injection, wrote_pair, room_first, room_second}
 use Rattle.sheet.proofs.+write.Goals as goal
-
-kind_is : {s : Bytes} {i k : ℕ} (u : Term) → k ≡ kind s i → At s i u → k ≡ kind_of u
-kind_is {s} {i} u e w = e ∙ stands_kind s i u w
 
 -- a pair or an injection
 parts : {s : Bytes} {i k : ℕ} (u : Term) → k ≡ kind s i → kinds.function < k → At s i u → kinds.function < kind_of u

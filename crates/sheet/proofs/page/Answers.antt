@@ -1,17 +1,19 @@
 -- The questions in order; the value stands at the script's start.
-use Rattle.std.proofs.Common.{◌≡◌, ℕ, ◌*◌, ◌≤◌, true, length, sym, arith, Some}
-use Rattle.std.proofs.lemmas.Result.{err_from_is_err_and}
+use Rattle.std.proofs.Common.{◌≡◌, ℕ, ◌*◌, ◌≤◌, true, length, sym, ◌∙◌, arith, leb-true, Option, Some, None, Err, ok_or}
 use Rattle.calculus.specs.Terms.{Term, is_value}
 use Rattle.rules.specs.Answer.{Bytes, Octets, accepted}
 use Rattle.rules.specs.Limits.{script_width}
 use Rattle.rules.specs.Script.{term}
 use Rattle.records.specs.Place.{At}
 use Rattle.records.proofs.Stands.{here, at_start, room}
+use Rattle.rules.proofs.Asked.{ask_true}
+use Rattle.answer.specs.declared.Refusal.{Refusal}
+use Rattle.answer.proofs.Passed.{returned}
 use Rattle.sheet.specs.Before.{before_26}
 use Rattle.sheet.specs.Value.{lines, looked}
 use Rattle.sheet.specs.declared.Reached.{Reached}
 use Rattle.sheet.proofs.Values.{found, lost, lines_size}
-use Rattle.sheet.proofs.Questions.{stopped, no_value, no_room, written, narrow, encoded}
+use Rattle.sheet.proofs.Questions.{stopped, no_value, room_asked, written, narrow, encoded}
 use Rattle.sheet.proofs.page.Goals as goal
 
 -- a value stands at the script's start, and its records are counted
@@ -39,8 +41,7 @@ pub returns-in_err-asked : goal.returns-in_err-asked
 returns-in_err-asked c =
     let a = c.args in
     let q = stopped a.groups.now a.types.now a.value.now a.group a.sheet.now c.in_err-asked.ensures in
-    let p = err_from_is_err_and c.from_residual.result c.from_residual.ensures.1 in
-    rw (p.1, p.2) (q.answer, q.after)
+    rw (returned _ c.from_residual.ensures.1) (q.answer, q.after)
 
 pub overflow_cast-reader : goal.overflow_cast-reader
 overflow_cast-reader c =
@@ -53,39 +54,51 @@ look-requires c =
     let a = c.args in
     (here (stands a.groups.now a.types.now a.value.now a.group c.in_ok-asked.ensures (λ j. omega (arith, c.type_inv.value j))), omega arith)
 
-pub returns-in_default : goal.returns-in_default
-returns-in_default c =
+-- what a value that is missing is refused with
+refused_with : (o : Option Reached) {e r : Refusal} → o ≡ None → Err e ≡ ok_or o r → e ≡ r
+refused_with None n h = cc
+refused_with (Some x) n h = absurd cc
+
+pub returns-in_err-end : goal.returns-in_err-end
+returns-in_err-end c =
     let a = c.args in
     let s = a.value.now in
     let at = stands a.groups.now a.types.now s a.group c.in_ok-asked.ensures (λ j. omega (arith, c.type_inv.value j)) in
-    let v = lost _ _ true (term s) _ _ (c.in_default.ensures (term s) at) in
+    let o = c.in_err-end.ensures.ok_part in
+    let v = lost _ _ true (term s) _ _ (sym o ∙ c.look.ensures (term s) at) in
     let p = no_value a.groups.now a.types.now s a.group a.sheet.now (sym c.in_ok-asked.ensures) v in
-    (p.answer, p.after)
+    let e = refused_with c.look.result o c.in_err-end.ensures.value in
+    rw (returned _ c.from_residual-in_err-end.ensures.1, e) (p.answer, p.after)
 
 pub overflow_mul-end : goal.overflow_mul-end
 overflow_mul-end c =
     let a = c.args in
-    let n = counted a.groups.now a.types.now a.value.now a.group c.in_ok-asked.ensures (λ j. omega (arith, c.type_inv.value j)) c.in-Some.ensures in
+    let n = counted a.groups.now a.types.now a.value.now a.group c.in_ok-asked.ensures (λ j. omega (arith, c.type_inv.value j))
+    (λ e w. sym c.in_ok-end.ensures.ok_part ∙ c.look.ensures e w) in
     omega (arith, n.fits)
 
-pub returns-then-sheet-end : goal.returns-then-sheet-end
-returns-then-sheet-end c =
+pub returns-in_err-ask : goal.returns-in_err-ask
+returns-in_err-ask c =
     let a = c.args in
-    let n = counted a.groups.now a.types.now a.value.now a.group c.in_ok-asked.ensures (λ j. omega (arith, c.type_inv.value j)) c.in-Some.ensures in
-    let p = no_room a.groups.now a.types.now a.value.now a.group a.sheet.now (sym c.in_ok-asked.ensures) n.value (omega (arith, n.count_is, c.if-sheet-end.true)) in
-    (p.answer, p.after)
+    let n = counted a.groups.now a.types.now a.value.now a.group c.in_ok-asked.ensures (λ j. omega (arith, c.type_inv.value j))
+    (λ e w. sym c.in_ok-end.ensures.ok_part ∙ c.look.ensures e w) in
+    let p = room_asked a.groups.now a.types.now a.value.now a.group a.sheet.now (sym c.in_ok-asked.ensures) n.value n.count_is c.in_err-ask.ensures in
+    rw (returned _ c.from_residual-in_err-ask.ensures.1) (p.answer, p.after)
 
 pub write-requires : goal.write-requires
 write-requires c =
     let a = c.args in
-    let n = counted a.groups.now a.types.now a.value.now a.group c.in_ok-asked.ensures (λ j. omega (arith, c.type_inv.value j)) c.in-Some.ensures in
-    record { tree = term a.value.now; at = n.at; value = n.value; fits = omega (arith, n.count_is, c.if-sheet-end.false) }
+    let n = counted a.groups.now a.types.now a.value.now a.group c.in_ok-asked.ensures (λ j. omega (arith, c.type_inv.value j))
+    (λ e w. sym c.in_ok-end.ensures.ok_part ∙ c.look.ensures e w) in
+    record { tree = term a.value.now; at = n.at; value = n.value; fits = omega (arith, n.count_is, leb-true _ _ (ask_true 27 0 _ (sym c.in_ok-ask.ensures))) }
 
 pub returns : goal.returns
 returns c =
     let a = c.args in
     let s = a.value.now in
-    let n = counted a.groups.now a.types.now s a.group c.in_ok-asked.ensures (λ j. omega (arith, c.type_inv.value j)) c.in-Some.ensures in
-    let p = written a.groups.now a.types.now s a.group a.sheet.now (sym c.in_ok-asked.ensures) n.value (omega (arith, n.count_is, c.if-sheet-end.false)) _ n.count_is _
+    let n = counted a.groups.now a.types.now s a.group c.in_ok-asked.ensures (λ j. omega (arith, c.type_inv.value j))
+    (λ e w. sym c.in_ok-end.ensures.ok_part ∙ c.look.ensures e w) in
+    let p = written a.groups.now a.types.now s a.group a.sheet.now (sym c.in_ok-asked.ensures) n.value
+    (omega (arith, n.count_is, leb-true _ _ (ask_true 27 0 _ (sym c.in_ok-ask.ensures)))) _ n.count_is _
     (c.write.ensures (term s) n.at n.value).wrote in
     (p.answer, p.after)
