@@ -3,7 +3,7 @@
 
 #![tactic(auto)]
 
-ghost use Rattle.std.specs.Prelude.{◌≡◌, ℕ, ◌≤◌, ◌<◌, length};
+ghost use Rattle.std.specs.Prelude.{◌≡◌, ℕ, ◌≤◌, ◌<◌, ltb, length};
 ghost use Rattle.rules.specs.Answer.{byte};
 ghost use Rattle.rules.specs.Limits.{group_limit};
 ghost use Rattle.rules.specs.Groups.{rows, row, bit, leq, join, below_both, meet, properties_of};
@@ -19,6 +19,13 @@ pub trait Group: Copy {
 
     fn number(self) -> u8
         ensures { result ≡ number self };
+
+    // Is it in a table of so many groups?
+    fn is_among(self, count: usize) -> bool
+        ensures { result ≡ ltb (number self) count }
+    {
+        usize::from(self.number()) < count
+    }
 
     // g ⊑ h
     fn at_or_below(self, groups: &[u8], other: Self) -> bool

@@ -2,7 +2,8 @@
 
 #![tactic(auto)]
 
-ghost use Rattle.std.specs.Prelude.{◌≡◌, ◌+◌, ◌≤◌, ◌<◌};
+ghost use Rattle.std.specs.Prelude.{◌≡◌, ◌+◌, ◌-◌, ◌*◌, ◌≤◌, ◌<◌, take, drop};
+ghost use Rattle.rules.specs.Limits.{script_width};
 ghost use Rattle.calculus.specs.Terms.{Term};
 ghost use Rattle.rules.specs.Script.{records, kind, r, ir, zero_byte, number, c, ic, signature, signature_of, arity, is_object, object_record, size, own_at, term_end};
 ghost use Rattle.lattice.specs.Said.{said_property, said_influence};
@@ -327,6 +328,16 @@ pub fn term_end(script: &[u8], start: usize) -> Option<usize>
         }
     }
     None
+}
+
+// The records from i to the one before `end`.
+pub fn part(script: &[u8], i: usize, end: usize) -> &[u8]
+    requires { (i ≤ end) × (end ≤ records script.now) }
+    ensures { result.now ≡ take (script_width * (end - i)) (drop (script_width * i) script.now) }
+{
+    let from = SCRIPT_WIDTH * i;
+    let to = SCRIPT_WIDTH * end;
+    &script[from..to]
 }
 
 // The record after the term that stands at record i. A term that stands there is not cut short.

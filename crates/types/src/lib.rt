@@ -2,10 +2,11 @@
 
 #![tactic(auto)]
 
-ghost use Rattle.std.specs.Prelude.{◌≡◌, ◌&&◌, eqb, ltb, ◌++◌, ◌+◌, ◌-◌, ◌≤◌, ◌<◌, length};
+ghost use Rattle.std.specs.Prelude.{◌≡◌, ◌&&◌, eqb, ltb, ◌++◌, ◌+◌, ◌-◌, ◌≤◌, ◌<◌, length, drop, ◌*◌};
+ghost use Rattle.rules.specs.Limits.{type_width};
 ghost use Rattle.calculus.specs.Types.{Ty, top, raise_t, size_t};
 ghost use Rattle.rules.specs.Groups.{properties_of};
-ghost use Rattle.rules.specs.Types.{type_count, type_kind, type_r, sides, encode_type};
+ghost use Rattle.rules.specs.Types.{type_count, type_kind, type_r, type_zero, sides, encode_type};
 ghost use Rattle.lattice.specs.Said.{said_property, said_influence};
 ghost use Rattle.types.specs.Kinds.{kind_number, Names, KindIs};
 ghost use Rattle.types.specs.Held.{Held, Starts, Sided, Counted, kind_of, left_of, right_of, type_property, with_property};
@@ -102,6 +103,13 @@ pub fn reader_at(types: &[u8], i: usize) -> Reader
     Reader(types[TYPE_WIDTH * i + R])
 }
 
+pub fn zero_byte_at(types: &[u8], i: usize) -> u8
+    requires { i < type_count types.now }
+    ensures { result ≡ type_zero types.now i }
+{
+    types[TYPE_WIDTH * i + ZERO]
+}
+
 pub fn property_at(types: &[u8], i: usize) -> Property
     requires { i < type_count types.now }
     ensures { said_property result ≡ type_property types.now i }
@@ -141,6 +149,15 @@ pub fn pending_after(types: &[u8], i: usize, pending: usize) -> usize
     ensures { result ≡ (pending - 1) + sides (type_kind types.now i) }
 {
     pending.saturating_sub(1) + sides_at(types, i)
+}
+
+// The part that starts with record i.
+pub fn part_from(types: &[u8], i: usize) -> &[u8]
+    requires { type_width * i ≤ length types.now }
+    ensures { result.now ≡ drop (type_width * i) types.now }
+{
+    let from = TYPE_WIDTH * i;
+    &types[from..]
 }
 
 // The first record of the type that s starts with.
