@@ -39,7 +39,7 @@ fn type_at(w: &[u8], i: usize) -> &[u8]
     requires { (t : Ty) × At w.now i t }
     ensures { (t : Ty) → At w.now i t → Held result.now t }
 {
-    &w[types::TYPE_WIDTH * i..]
+    types::part_from(w, i)
 }
 
 // Are the types at records `at` and `other` of one kind?

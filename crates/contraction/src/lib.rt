@@ -122,8 +122,7 @@ fn term_bytes(script: &[u8], i: usize) -> &[u8]
     requires { Here script.now i }
     ensures { (e : Term) → At script.now i e → result.now ≡ encode e }
 {
-    let end = records::end_of(script, i);
-    &script[SCRIPT_WIDTH * i..SCRIPT_WIDTH * end]
+    records::part(script, i, records::end_of(script, i))
 }
 
 // The groups of a record that names a reader only.

@@ -84,8 +84,7 @@ fn named<'a>(types: &'a [u8], s: &[u8]) -> &'a [u8]
     requires { (script_width ≤ length s.now) × (type_width * number s.now 0 ≤ length types.now) }
     ensures { result.now ≡ drop (type_width * number s.now 0) types.now }
 {
-    let from = TYPE_WIDTH * index(s);
-    &types[from..]
+    types::part_from(types, index(s))
 }
 
 // The type that t starts with to the work buffer, from byte `at` on: its record count.

@@ -18,9 +18,9 @@ ghost use Rattle.rewriting.specs.Widened.{widened, fitting};
 use answer::{Checked, Question, Refusal};
 use lattice::Reader;
 use records::{Kind, SCRIPT_WIDTH};
-use script::SCRIPT_LIMIT;
+use script::SCRIPT_LENGTH;
 use types::TYPE_WIDTH;
-use types_table::TABLE_LIMIT;
+use types_table::TABLE_LENGTH;
 
 pub const OLD_TYPE_WIDTH: usize = 4;
 
@@ -28,11 +28,6 @@ pub const OLD_SCRIPT_WIDTH: usize = 6;
 
 // What a record has grown by: c and ic.
 const CREATORS: usize = 2;
-
-// The longest types table and the longest script, in the new form.
-const TYPES_LENGTH: usize = TABLE_LIMIT * TYPE_WIDTH;
-
-const SCRIPT_LENGTH: usize = SCRIPT_LIMIT * SCRIPT_WIDTH;
 
 // Byte 1 of a recursion: the group that its call is made as.
 const CALLER: usize = 1;
@@ -186,7 +181,7 @@ pub fn rewrite_types(groups: &[u8], types: &[u8], rewritten: &mut [u8]) -> Resul
         ≡ rewritten_after (rewriting_types groups.now types.now (length rewritten.old))
         rewritten.old) }
 {
-    let mut wide = [0u8; TYPES_LENGTH];
+    let mut wide = [0u8; TABLE_LENGTH];
     old_types_check(groups, types, &mut wide)?;
     let end = TYPE_WIDTH * (types.len() / OLD_TYPE_WIDTH);
     hand_over(&wide[..end], TYPE_WIDTH, rewritten)
@@ -208,7 +203,7 @@ pub fn rewrite_script(
         (rewriting_script groups.now types.now script.now (length rewritten.old))
         rewritten.old) }
 {
-    let mut table = [0u8; TYPES_LENGTH];
+    let mut table = [0u8; TABLE_LENGTH];
     let mut wide = [0u8; SCRIPT_LENGTH];
     old_script_check(groups, types, script, &mut table, &mut wide)?;
     let end = SCRIPT_WIDTH * (script.len() / OLD_SCRIPT_WIDTH);

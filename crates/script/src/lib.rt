@@ -12,6 +12,9 @@ use records::{Kind, SCRIPT_WIDTH};
 
 pub const SCRIPT_LIMIT: usize = 8192;
 
+// The longest script.
+pub const SCRIPT_LENGTH: usize = SCRIPT_LIMIT * SCRIPT_WIDTH;
+
 // 13. Whole records, 1 to 8,192, and within the buffers of these lengths? A run has two, other calls none. Records of an earlier form
 // have another width.
 pub fn question_13_of(script: &[u8], width: usize, buffers: &[usize]) -> Checked

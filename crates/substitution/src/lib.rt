@@ -97,8 +97,7 @@ fn write_record(script: &[u8], i: usize, out: &mut Writer)
     requires { (i < record_count script.now) × Room (record_at script.now i) out.old }
     ensures { Written (record_at script.now i) out.old out.new }
 {
-    let start = SCRIPT_WIDTH * i;
-    out.put(&script[start..start + SCRIPT_WIDTH]);
+    out.put(records::part(script, i, i + 1));
 }
 
 // A variable: the value where it is variable n, else the record itself.

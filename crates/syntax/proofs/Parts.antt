@@ -10,11 +10,6 @@ use Rattle.syntax.specs.Check.{shape_check}
 pub encoded : (s : Bytes) → Octets s → q13 [] s ≡ accepted tt → accepted tt ≡ q14 s → accepted tt ≡ q17 s → encode (term s) ≡ s
 encoded s o q13_yes q14_yes q17_yes = (whole [] s o q13_yes (sym q14_yes) (sym q17_yes)).encoded
 
-pub slice_is : (s : Bytes) (i e : ℕ) → take (script_width * e - script_width * i) (drop (script_width * i) s) ≡ slice s i (some e)
-slice_is s i e =
-    let p : script_width * e - script_width * i ≡ script_width * (e - i) = omega arith in
-    ap (λ n. take n (drop (script_width * i) s)) p
-
 pub shaped : (s : Bytes) (i : ℕ) → accepted tt ≡ shape_check s → slice s i (term_end s i) ≡ subterm s i
 unfolding subterm shape_check
 shaped s i h = ap (λ a. part_if a (slice s i (term_end s i))) h

@@ -10,7 +10,6 @@ ghost use Rattle.answer.specs.Said.{said};
 ghost use Rattle.syntax.specs.Check.{shape_check, later_check};
 
 use answer::Checked;
-use records::SCRIPT_WIDTH;
 
 // Questions 13, 14 and 17: is the script a whole term?
 #[tactic(auto, using(answer::proofs::Passed::then_asked, answer::proofs::Passed::stopped), unfolding(crate::specs::Check::shape_check))]
@@ -79,7 +78,7 @@ pub fn script_check(groups: &[u8], types: &[u8], script: &[u8], buffers: &[usize
 
 // The part of the script from its record `index` to the end of that record's last operand; the empty part where question 13,
 // 14 or 17 is answered no or the index is past the end. It has no recursion: 8,192 levels are possible.
-#[tactic(auto, using(records::proofs::Ends::end_inside, crate::proofs::Parts::slice_is, crate::proofs::Parts::shaped), unfolding(rules::specs::Script::subterm, crate::specs::Check::shape_check))]
+#[tactic(auto, using(records::proofs::Ends::end_inside, crate::proofs::Parts::shaped), unfolding(rules::specs::Script::subterm, crate::specs::Check::shape_check))]
 pub fn subterm(script: &[u8], index: usize) -> &[u8]
     ensures { result.now ≡ subterm script.now index }
 {
@@ -89,7 +88,5 @@ pub fn subterm(script: &[u8], index: usize) -> &[u8]
     let Some(end) = records::term_end(script, index) else {
         return &script[0..0];
     };
-    let from = SCRIPT_WIDTH * index;
-    let to = SCRIPT_WIDTH * end;
-    &script[from..to]
+    records::part(script, index, end)
 }

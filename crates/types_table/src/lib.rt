@@ -12,11 +12,14 @@ ghost use Rattle.answer.specs.Said.{said};
 ghost use Rattle.types_table.specs.Answered.{said_comparison, answered, told};
 
 use answer::{Checked, Question, Refusal};
-use lattice::Property;
+use lattice::{Group, Property};
 use subtyping::Related;
 use types::{TYPE_LIMIT, TYPE_WIDTH};
 
 pub const TABLE_LIMIT: usize = 4096;
+
+// The longest table.
+pub const TABLE_LENGTH: usize = TABLE_LIMIT * TYPE_WIDTH;
 
 // How a type stands to another, in the order of the answers' numbers.
 #[derive(Clone, Copy, Debug, PartialEq, Eq)]
@@ -56,10 +59,7 @@ pub fn question_8(types: &[u8]) -> Checked
 fn in_table(n: usize, k: Property) -> bool
     ensures { result ≡ (ltb k.r.0 n && (ltb k.ir.0 n && (ltb k.c.0 n && ltb k.ic.0 n))) }
 {
-    (usize::from(k.r.0) < n)
-        & (usize::from(k.ir.0) < n)
-        & (usize::from(k.c.0) < n)
-        & (usize::from(k.ic.0) < n)
+    k.r.is_among(n) & k.ir.is_among(n) & k.c.is_among(n) & k.ic.is_among(n)
 }
 
 // Has record i a kind that there is, a 0 in byte 3, and groups of the table, which has n?
@@ -69,7 +69,7 @@ fn well_formed(n: usize, types: &[u8], i: usize) -> bool
     ensures { result ≡ ok9 n types.now i }
 {
     types::kind_at(types, i).is_some()
-        & (types[TYPE_WIDTH * i + types::ZERO] == 0)
+        & (types::zero_byte_at(types, i) == 0)
         & in_table(n, types::property_at(types, i))
 }
 
@@ -207,7 +207,7 @@ pub fn compare(groups: &[u8], types: &[u8], i: u64, j: u64) -> Result<Comparison
     let count = types::type_count(types) as u64;
     answer::ask(Question::Given, 0, i < count)?;
     answer::ask(Question::Given, 1, j < count)?;
-    let x = TYPE_WIDTH * (i as usize);
-    let y = TYPE_WIDTH * (j as usize);
-    Ok(told(subtyping::at_or_below(groups, &types[x..], &types[y..])))
+    let lower = types::part_from(types, i as usize);
+    let upper = types::part_from(types, j as usize);
+    Ok(told(subtyping::at_or_below(groups, lower, upper)))
 }

@@ -20,7 +20,6 @@ ghost use Rattle.typing.specs.Judged.{Judged};
 
 use answer::{Question, Refusal};
 use inference::{SECOND_PART, SLOT};
-use records::SCRIPT_WIDTH;
 use scope::DEPTH_LIMIT;
 use types::TYPE_WIDTH;
 
@@ -45,9 +44,7 @@ fn operand(s: &[u8], i: usize, end: usize) -> &[u8]
     ensures { ((e : Term) → At s.now i e → end ≡ i + size e → result.now ≡ encode e)
         × (1 ≤ i → length result.now < length s.now) }
 {
-    let from = SCRIPT_WIDTH * i;
-    let to = SCRIPT_WIDTH * end;
-    &s[from..to]
+    records::part(s, i, end)
 }
 
 // Where the second operand's part of the work buffer starts: behind a pair's or an application's first type. A case has the

@@ -6,7 +6,7 @@ use Rattle.rules.specs.Types.{type_at}
 use Rattle.rules.specs.Calls.{comparing}
 use Rattle.types_table.specs.Answered.{said_comparison, told}
 use Rattle.answer.proofs.Passed.{then_asked}
-use Rattle.types.proofs.Parts.{to_end, starts_of}
+use Rattle.types.proofs.Parts.{starts_of}
 use Rattle.types_table.proofs.Questions.{passed_on, counted, inside, told_is}
 use Rattle.types_table.proofs.Table.{type_held}
 use Rattle.types_table.proofs.compare.Goals as goal
@@ -35,8 +35,8 @@ at_or_below-requires c =
     let first = counted 0 c.args.i c.type_count-count.ensures c.in_ok-ask.ensures in
     let second = counted 1 c.args.j c.type_count-count.ensures c.in_ok-ask-2.ensures in
     let yes = sym c.in_ok-types_check.ensures in (
-      rw to_end (starts_of (type_held g t yes c.args.i (inside 0 _ _ first))),
-      rw to_end (starts_of (type_held g t yes c.args.j (inside 1 _ _ second))),
+      rw c.part_from-lower.ensures (starts_of (type_held g t yes c.args.i (inside 0 _ _ first))),
+      rw c.part_from-upper.ensures (starts_of (type_held g t yes c.args.j (inside 1 _ _ second))),
     )
 
 pub returns : goal.returns
@@ -50,8 +50,8 @@ returns c =
     let lower = type_at t c.args.i in
     let upper = type_at t c.args.j in
     let walk = c.at_or_below.ensures lower upper
-    (rw to_end (type_held g t yes c.args.i (inside 0 _ _ first)))
-    (rw to_end (type_held g t yes c.args.j (inside 1 _ _ second))) in
+    (rw c.part_from-lower.ensures (type_held g t yes c.args.i (inside 0 _ _ first)))
+    (rw c.part_from-upper.ensures (type_held g t yes c.args.j (inside 1 _ _ second))) in
     then_asked _ _ c.in_ok-types_check.ensures
     (then_asked _ _ first
     (then_asked _ _ second
