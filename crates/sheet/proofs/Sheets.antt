@@ -26,12 +26,6 @@ use Rattle.sheet.proofs.Values.{View, other, a_unit, a_function, a_pair, injecti
 abbrev pub shown : Bytes → ℕ → Bytes → ℕ → Bytes
 shown g group s i = line (leq g (r s i) group) s i
 
--- every record has the width of a sheet record
-pub line_length : (told : Bool) (s : Bytes) (i : ℕ) → length (line told s i) ≡ sheet_width
-unfolding line
-line_length true s i = refl
-line_length false s i = refl
-
 -- a closed object's is all of its sheet
 with_parts : (told : Bool) (k r ir : ℕ) (parts : Bytes) (n : ℕ) → length parts ≡ sheet_width * n
     → length (cond told (k ∷ r ∷ ir ∷ 0 ∷ []) (5 ∷ 0 ∷ 0 ∷ 0 ∷ []) ++ cond told parts []) ≡ sheet_width * (1 + cond told n 0)
