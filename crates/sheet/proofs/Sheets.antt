@@ -1,12 +1,12 @@
 -- A value's sheet from its object's record and, where it is open, the sheets of its parts.
-use Rattle.std.proofs.Common.{◌≡◌, refl, sym, ap, ap₂, ◌∙◌, Bool, true, false, cond, [], ◌∷◌, ◌++◌, append_assoc, ℕ, ◌+◌, ◌*◌, ◌≤◌, ◌<◌, arith, length, length-append}
+use Rattle.std.proofs.Common.{◌≡◌, refl, sym, ap, ap₂, subst, ◌∙◌, Bool, true, false, cond, [], ◌∷◌, ◌++◌, ℕ, ◌+◌, ◌*◌, ◌≤◌, ◌<◌, arith, length, length-append}
 use Rattle.std.proofs.Math.Bool.{false≢true, and-eq-true_iff}
 use Rattle.calculus.specs.Security.{Property}
 use Rattle.calculus.specs.Terms.{first, second, choose, Term, var, unit, lam, pair, inj, app, proj, case, protect, mu, is_value}
 use Rattle.rules.specs.Answer.{Bytes}
 use Rattle.rules.specs.Limits.{sheet_width}
 use Rattle.rules.specs.Groups.{leq}
-use Rattle.rules.specs.Script.{size, r}
+use Rattle.rules.specs.Script.{records, size, r}
 use Rattle.rules.specs.Sheet.{sheet, sheet_record}
 use Rattle.rules.proofs.PrefixLaws.{record_is}
 use Rattle.rules.proofs.RecordFields.{kind_is, r_is, ir_is}
@@ -14,23 +14,17 @@ use Rattle.rules.proofs.TermCode.{term_code, term_head}
 use Rattle.records.specs.Kinds as kinds
 use Rattle.records.specs.Place.{At}
 use Rattle.records.specs.Operands.{first_operand, second_operand}
-use Rattle.records.proofs.Stands.{kind_of, at_first, at_second}
-use Rattle.memory.specs.Splice.{splice}
-use Rattle.memory.proofs.Laws.{join_next}
+use Rattle.records.proofs.Stands.{kind_of, there, at_first, at_second}
+use Rattle.memory.specs.Written.{Room, Written}
+use Rattle.memory.specs.declared.Writer.{Writer}
+use Rattle.memory.proofs.Placed.{then, room_first, room_next}
 use Rattle.sheet.specs.Shown.{line, shown_kind}
-use Rattle.sheet.specs.Value.{lines, lines_if, Room, Wrote}
-use Rattle.sheet.specs.declared.Reached.{Reached}
-use Rattle.sheet.proofs.Values.{View, other, a_unit, a_function, a_pair, injection, view, own, Injects, Pairs, injects, pairs, first_part}
+use Rattle.sheet.specs.Value.{lines, SheetRoom}
+use Rattle.sheet.proofs.Values.{View, other, a_unit, a_function, a_pair, injection, view, own, Pairs, pairs, first_part}
 
 -- the line of the object at record i for a reader group
 abbrev pub shown : Bytes → ℕ → Bytes → ℕ → Bytes
 shown g group s i = line (leq g (r s i) group) s i
-
--- every record has the width of a sheet record
-pub line_length : (told : Bool) (s : Bytes) (i : ℕ) → length (line told s i) ≡ sheet_width
-unfolding line
-line_length true s i = refl
-line_length false s i = refl
 
 -- a closed object's is all of its sheet
 with_parts : (told : Bool) (k r ir : ℕ) (parts : Bytes) (n : ℕ) → length parts ≡ sheet_width * n
@@ -69,27 +63,26 @@ module _ (g : Bytes) (group : ℕ) where
   Open e = leq g (own e) group ≡ true
 
   -- the object's record is all of its sheet
-  pub record Alone (e : Term) : Type 0 where
-    pub sheet_is : shown g group (term_head e) 0 ≡ sheet g group e
-    pub one : lines g group e ≡ 1
+  abbrev pub Alone : Term → Type 0
+  Alone e = shown g group (term_head e) 0 ≡ sheet g group e
 
   -- of a unit and a function
   pub without : {e : Term} → View e → is_value e ≡ true → kind_of e ≤ kinds.function → Alone e
-  unfolding sheet line shown_kind lines
+  unfolding sheet line shown_kind
   without (other n k) v l = absurd (false≢true (sym n ∙ v))
-  without a_unit v l = record { sheet_is = refl; one = refl }
-  without a_function v l = record { sheet_is = refl; one = refl }
+  without a_unit v l = refl
+  without a_function v l = refl
   without a_pair v l = absurd (omega arith)
   without (injection p q) v l = absurd (omega arith)
 
   -- and of a closed object of any kind
   pub closed : {e : Term} → View e → is_value e ≡ true → leq g (own e) group ≡ false → Alone e
-  unfolding sheet line shown_kind lines
+  unfolding sheet line shown_kind
   closed (other n k) v h = absurd (false≢true (sym n ∙ v))
-  closed a_unit v h = record { sheet_is = refl; one = refl }
-  closed a_function v h = record { sheet_is = refl; one = refl }
-  closed a_pair v h = record { sheet_is = rw h; one = rw h }
-  closed (injection p q) v h = record { sheet_is = rw h; one = rw h }
+  closed a_unit v h = refl
+  closed a_function v h = refl
+  closed a_pair v h = rw h
+  closed (injection p q) v h = rw h
 
   -- the sheet of an open pair or injection goes on with its parts
   pub sheet_injection : {e : Term} → View e → Open e → kinds.function < kind_of e → kind_of e ≤ kinds.second_injection → (kind_of e ≡ kinds.pair → ⊥)
@@ -111,12 +104,6 @@ module _ (g : Bytes) (group : ℕ) where
   sheet_pair a_pair o h = rw o
   sheet_pair (injection p q) o h = absurd (omega arith)
 
-  lines_injection : {e : Term} → Injects e → Open e → lines g group e ≡ 1 + lines g group (first_operand e)
-  lines_injection {e} p o = p.counted g group true ∙ ap (λ (b : Bool). 1 + lines_if g group b (first_operand e)) o
-
-  lines_pair : {e : Term} → Pairs e → Open e → lines g group e ≡ 1 + (lines g group (first_operand e) + lines g group (second_operand e))
-  lines_pair {e} p o = p.counted g group true ∙ ap (λ (b : Bool). 1 + (lines_if g group b (first_operand e) + lines_if g group b (second_operand e))) o
-
   -- a value's record is of an object, and takes a line of the sheet
   pub object : {e : Term} → View e → is_value e ≡ true → (kinds.unit ≤ kind_of e) × (kind_of e ≤ kinds.second_injection) × (1 ≤ lines g group e)
   unfolding lines
@@ -126,88 +113,88 @@ module _ (g : Bytes) (group : ℕ) where
   object a_pair v = (omega arith, omega arith, omega arith)
   object (injection p q) v = (omega arith, omega arith, omega arith)
 
-  -- the parts of a value are values, and the sheets of an open one's are parts of its sheet
-  pub record First (e : Term) : Type 0 where
-    pub value : is_value (first_operand e) ≡ true
-    pub lesser : Open e → 1 + lines g group (first_operand e) ≤ lines g group e
-
-  pub first_of : {e : Term} → View e → is_value e ≡ true → kinds.function < kind_of e → First e
-  unfolding is_value lines
-  first_of (other n k) v l = absurd (false≢true (sym n ∙ v))
-  first_of a_unit v l = absurd (omega arith)
-  first_of a_function v l = absurd (omega arith)
-  first_of a_pair v l = record { value = ((and-eq-true_iff _ _).0 v).0; lesser = λ o. rw o (omega arith) }
-  first_of (injection p q) v l = record { value = v; lesser = λ o. rw o (omega arith) }
+-- the parts of a value are values
+pub first_value : {e : Term} → View e → is_value e ≡ true → kinds.function < kind_of e → is_value (first_operand e) ≡ true
+unfolding is_value
+first_value (other n k) v l = absurd (false≢true (sym n ∙ v))
+first_value a_unit v l = absurd (omega arith)
+first_value a_function v l = absurd (omega arith)
+first_value a_pair v l = ((and-eq-true_iff _ _).0 v).0
+first_value (injection p q) v l = v
 
 pub second_value : {e : Term} → is_value e ≡ true → Pairs e → is_value (second_operand e) ≡ true
 second_value {e} v p = ((and-eq-true_iff (is_value (first_operand e)) (is_value (second_operand e))).0 (sym p.value ∙ v)).1
 
--- The sheet of a node, once its record is written, and after it the sheets of its parts.
-module _ (g : Bytes) (group : ℕ) (s : Bytes) (i n : ℕ) (e : Term) (w : At s i e) (v : is_value e ≡ true) (b b1 : Bytes) (fits : sheet_width * n ≤ length b)
-    (put : b1 ≡ splice (sheet_width * n) (shown g group s i) b) where
-  pub wrote_alone : (x : Reached) → Alone g group e → x.next ≡ i + size e → x.line ≡ n + 1 → Wrote g group i n e b x b1
-  wrote_alone x a h l =
-      record {
-        next = h;
-        line = omega (arith, l, a.one);
-        wrote = put ∙ ap (λ y. splice (sheet_width * n) y b) (shown_at g group s i e w ∙ a.sheet_is);
-      }
+-- The sheet of a value: the line of its record, and after it the sheets of its parts.
+module _ (g : Bytes) (group : ℕ) {s : Bytes} {i : ℕ} (e : Term) (w : At s i e) (v : is_value e ≡ true) where
+  pub part_at : kinds.function < kind_of e → At s (i + 1) (first_operand e)
+  part_at l = at_first s i e w (first_part (view e) l (object g group (view e) v).1).0
 
-  module _ (o : Open g group e) (kept : length b1 ≡ length b) (x : Reached) (b2 : Bytes) (one : Wrote g group (i + 1) (n + 1) (first_operand e) b1 x b2) where
-    so_far : b2 ≡ splice (sheet_width * n) (shown g group s i ++ sheet g group (first_operand e)) b
-    so_far =
-        join_next (sheet_width * n) (sheet_width * (n + 1)) (shown g group s i) (sheet g group (first_operand e)) b b1 b2 fits
-        (omega (arith, line_length (leq g (r s i) group) s i)) put kept one.wrote
+  injection_is : Open g group e → kinds.function < kind_of e → (kind_of e ≡ kinds.pair → ⊥) → shown g group s i ++ sheet g group (first_operand e) ≡ sheet g group e
+  injection_is o l h =
+      ap (λ b. b ++ sheet g group (first_operand e)) (shown_at g group s i e w) ∙ sheet_injection g group (view e) o l (object g group (view e) v).1 h
 
-    pub wrote_injection : kinds.function < kind_of e → (kind_of e ≡ kinds.pair → ⊥) → Wrote g group i n e b x b2
-    wrote_injection l h =
-        let m = (object g group (view e) v).1 in
-        let p = injects (view e) l m h in
-        record {
-          next = omega (arith, one.next, p.sized);
-          line = omega (arith, one.line, lines_injection g group p o);
-          wrote = so_far
-              ∙ ap (λ y. splice (sheet_width * n) y b) (ap (λ y. y ++ sheet g group (first_operand e)) (shown_at g group s i e w) ∙ sheet_injection g group (view e) o l m h);
-        }
+  pair_is : Open g group e → kind_of e ≡ kinds.pair
+      → shown g group s i ++ (sheet g group (first_operand e) ++ sheet g group (second_operand e)) ≡ sheet g group e
+  pair_is o h =
+      ap (λ b. b ++ (sheet g group (first_operand e) ++ sheet g group (second_operand e))) (shown_at g group s i e w) ∙ sheet_pair g group (view e) o h
 
-    pub wrote_pair : kind_of e ≡ kinds.pair → length b2 ≡ length b1 → (y : Reached) (b3 : Bytes) → Wrote g group x.next x.line (second_operand e) b2 y b3
-        → Wrote g group i n e b y b3
-    wrote_pair h kept2 y b3 other_one =
-        let p = pairs (view e) h in
-        let sa = sheet g group (first_operand e) in
-        let sb = sheet g group (second_operand e) in
-        let own_line = shown g group s i in
-        record {
-          next = omega (arith, one.next, other_one.next, p.sized);
-          line = omega (arith, one.line, other_one.line, lines_pair g group p o);
-          wrote = join_next (sheet_width * n) (sheet_width * x.line) (own_line ++ sa) sb b b2 b3 fits
-              (omega (arith, one.line, length-append own_line sa, line_length (leq g (r s i) group) s i, sheet_length g group (first_operand e))) so_far (kept2 ∙ kept)
-              other_one.wrote
-              ∙ ap (λ z. splice (sheet_width * n) z b)
-              (append_assoc own_line sa sb ∙ ap (λ z. z ++ (sa ++ sb)) (shown_at g group s i e w) ∙ sheet_pair g group (view e) o h);
-        }
+  -- once the line is written
+  module _ {x y : Writer} (put : Written (shown g group s i) x y) where
+    pub wrote_alone : Alone g group e → Written (sheet g group e) x y
+    wrote_alone a = subst (λ b. Written b x y) (shown_at g group s i e w ∙ a) put
+
+    module _ (o : Open g group e) {z : Writer} (first_wrote : Written (sheet g group (first_operand e)) y z) where
+      pub wrote_injection : kinds.function < kind_of e → (kind_of e ≡ kinds.pair → ⊥) → Written (sheet g group e) x z
+      wrote_injection l h = subst (λ b. Written b x z) (injection_is o l h) (then put first_wrote)
+
+      pub wrote_pair : kind_of e ≡ kinds.pair → {end : Writer} → Written (sheet g group (second_operand e)) z end → Written (sheet g group e) x end
+      wrote_pair h {end} second_wrote = subst (λ b. Written b x end) (pair_is o h) (then put (then first_wrote second_wrote))
 
 -- what writing a part of an open object is given
-module _ {g : Bytes} {group : ℕ} {s : Bytes} {i : ℕ} {w : Bytes} {n : ℕ} (q : Room g group s i w n) (o : Open g group q.tree) where
-  pub room_first : (w1 : Bytes) → kinds.function < kind_of q.tree → length w1 ≡ length w → Room g group s (i + 1) w1 (n + 1)
-  room_first w1 l k =
-      let e = q.tree in
-      let f = first_of g group (view e) q.value l in
-      record {
-        tree = first_operand e;
-        at = at_first s i e q.at (first_part (view e) l (object g group (view e) q.value).1).0;
-        value = f.value;
-        fits = omega (arith, q.fits, f.lesser o);
-      }
+module _ {g : Bytes} {group : ℕ} {s : Bytes} {i : ℕ} {x : Writer} (q : SheetRoom g group s i x) where
+  -- the object's record is within the script,
+  pub value_there : i < records s
+  value_there = there _ _ q.tree q.at
 
-  pub room_second : {w1 w2 : Bytes} {x : Reached} → kind_of q.tree ≡ kinds.pair → length w2 ≡ length w
-      → Wrote g group (i + 1) (n + 1) (first_operand q.tree) w1 x w2 → Room g group s x.next w2 x.line
-  room_second {x = x} h k m =
-      let e = q.tree in
-      let p = pairs (view e) h in
-      record {
-        tree = second_operand e;
-        at = at_second s i e q.at x.next p.two m.next;
-        value = second_value q.value p;
-        fits = omega (arith, q.fits, lines_pair g group p o, m.line);
-      }
+  -- and its line within the buffer
+  pub line_fits : x.end + sheet_width ≤ length x.out.now
+  line_fits = omega (arith, q.fits, sheet_length g group q.tree, (object g group (view q.tree) q.value).2)
+
+  module _ (o : Open g group q.tree) {y : Writer} (put : Written (shown g group s i) x y) where
+    pub injection_room : kinds.function < kind_of q.tree → (kind_of q.tree ≡ kinds.pair → ⊥) → SheetRoom g group s (i + 1) y
+    injection_room l h =
+        let e = q.tree in
+        record {
+          tree = first_operand e;
+          at = part_at g group e q.at q.value l;
+          value = first_value (view e) q.value l;
+          fits = room_next (sheet g group (first_operand e)) put (subst (λ b. Room b x) (sym (injection_is g group e q.at q.value o l h)) q.fits);
+        }
+
+    parts_room : kind_of q.tree ≡ kinds.pair → Room (sheet g group (first_operand q.tree) ++ sheet g group (second_operand q.tree)) y
+    parts_room h =
+        room_next (sheet g group (first_operand q.tree) ++ sheet g group (second_operand q.tree)) put
+        (subst (λ b. Room b x) (sym (pair_is g group q.tree q.at q.value o h)) q.fits)
+
+    pub first_room : kind_of q.tree ≡ kinds.pair → SheetRoom g group s (i + 1) y
+    first_room h =
+        let e = q.tree in
+        let l : kinds.function < kind_of e = omega arith in
+        record {
+          tree = first_operand e;
+          at = part_at g group e q.at q.value l;
+          value = first_value (view e) q.value l;
+          fits = room_first (sheet g group (first_operand e)) (sheet g group (second_operand e)) y (parts_room h);
+        }
+
+    pub second_room : kind_of q.tree ≡ kinds.pair → {next : ℕ} → next ≡ i + 1 + size (first_operand q.tree) → {z : Writer} → Written (sheet g group (first_operand q.tree)) y z → SheetRoom g group s next z
+    second_room h {next} n first_wrote =
+        let e = q.tree in
+        let p = pairs (view e) h in
+        record {
+          tree = second_operand e;
+          at = at_second s i e q.at next p.two n;
+          value = second_value q.value p;
+          fits = room_next (sheet g group (second_operand e)) first_wrote (parts_room h);
+        }

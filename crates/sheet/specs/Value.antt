@@ -1,13 +1,13 @@
--- A value that stands in a script: what looking it over and writing its sheet are given, and what they tell.
-use Rattle.std.specs.Prelude.{◌≡◌, Bool, true, cond, ℕ, ◌+◌, ◌*◌, ◌≤◌, length, Option, Some, None}
+-- A value that stands in a script: what looking it over tells, and what writing its sheet is given.
+use Rattle.std.specs.Prelude.{◌≡◌, Bool, true, cond, ℕ, ◌+◌, Option, Some, None}
 use Rattle.calculus.specs.Terms.{Term, var, unit, lam, pair, inj, app, proj, case, protect, mu, is_value}
 use Rattle.rules.specs.Answer.{Bytes}
-use Rattle.rules.specs.Limits.{sheet_width}
 use Rattle.rules.specs.Groups.{leq}
 use Rattle.rules.specs.Script.{size}
 use Rattle.rules.specs.Sheet.{sheet}
 use Rattle.records.specs.Place.{At}
-use Rattle.memory.specs.Splice.{splice}
+use Rattle.memory.specs.Written.{Room}
+use Rattle.memory.specs.declared.Writer.{Writer}
 use Rattle.sheet.specs.declared.Reached.{Reached}
 
 -- the number of a value's sheet records: one for each object outside function bodies and closed objects
@@ -32,15 +32,9 @@ unfoldable pub looked : Bytes → ℕ → Bool → Term → ℕ → ℕ → Opti
 unfolding is_value size lines
 looked g group shown e i n = cond (is_value e) (Some (record { next = i + size e; line = n + lines_if g group shown e })) None
 
--- a value at record i, and room in w for its sheet from sheet record n on
-pub record Room (g : Bytes) (group : ℕ) (s : Bytes) (i : ℕ) (w : Bytes) (n : ℕ) : Type 0 where
+-- a value at record i, and room for its sheet
+pub record SheetRoom (g : Bytes) (group : ℕ) (s : Bytes) (i : ℕ) (out : Writer) : Type 0 where
   pub tree : Term
   pub at : At s i tree
   pub value : is_value tree ≡ true
-  pub fits : sheet_width * (n + lines g group tree) ≤ length w
-
--- the record after e, the sheet record after its own, and the buffer: the sheet of e for a reader group
-pub record Wrote (g : Bytes) (group i n : ℕ) (e : Term) (w : Bytes) (x : Reached) (w' : Bytes) : Type 0 where
-  pub next : x.next ≡ i + size e
-  pub line : x.line ≡ n + lines g group e
-  pub wrote : w' ≡ splice (sheet_width * n) (sheet g group e) w
+  pub fits : Room (sheet g group tree) out

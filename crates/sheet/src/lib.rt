@@ -7,17 +7,19 @@ ghost use Rattle.calculus.specs.Terms.{Term, is_value};
 ghost use Rattle.rules.specs.Limits.{sheet_width};
 ghost use Rattle.rules.specs.Groups.{leq};
 ghost use Rattle.rules.specs.Script.{records, r, size};
+ghost use Rattle.rules.specs.Sheet.{sheet};
 ghost use Rattle.rules.specs.Calls.{sheeting, sheet_records, sheet_after};
 ghost use Rattle.answer.specs.Said.{said};
 ghost use Rattle.records.specs.Numbers.{kind_number};
 ghost use Rattle.records.specs.Place.{At, Here};
-ghost use Rattle.memory.specs.Splice.{splice};
+ghost use Rattle.memory.specs.Written.{Room, Written};
 ghost use Rattle.sheet.specs.Shown.{shown_number, shown_kind, line, bytes_of};
-ghost use Rattle.sheet.specs.Value.{looked, Room, Wrote};
+ghost use Rattle.sheet.specs.Value.{looked, SheetRoom};
 ghost use Rattle.sheet.specs.Before.{before_26};
 
 use answer::{Checked, Question, Refusal};
 use lattice::{Group, Indirect, Reader};
+use memory::Writer;
 use records::Kind;
 
 pub const SHEET_WIDTH: usize = 4;
@@ -49,7 +51,7 @@ struct Line {
     pub ir: Indirect,
 }
 
-// Where a walk over a value has come to: the script record after the value, and the sheet record after its own.
+// Where a look over a value has come to: the script record after the value, and the sheet record after its own.
 #[derive(Clone, Copy, Debug, PartialEq, Eq)]
 struct Reached {
     pub next: usize,
@@ -62,17 +64,6 @@ fn is_open(groups: &[u8], value: &[u8], i: usize, group: Reader) -> bool
     ensures { result ≡ leq groups.now (r value.now i) group.0 }
 {
     records::reader(value, i).at_or_below(groups, group)
-}
-
-// Where a walk has come to after an object of which only its own record is counted, if it is shown, or written.
-fn alone(value: &[u8], i: usize, line: usize) -> Reached
-    requires { Here value.now i }
-    ensures { ((e : Term) → At value.now i e → result.next ≡ i + size e) × (result.line ≡ line) }
-{
-    Reached {
-        next: records::end_of(value, i),
-        line,
-    }
 }
 
 // The count with an object's own record, if it is shown.
@@ -102,7 +93,10 @@ fn look(
     let inside = shown & is_open(groups, value, i, group);
     match records::kind_of(value, i) {
         // A function's body is neither asked to be a value nor counted.
-        Kind::Unit | Kind::Function => Some(alone(value, i, own)),
+        Kind::Unit | Kind::Function => Some(Reached {
+            next: records::end_of(value, i),
+            line: own,
+        }),
         Kind::FirstInjection | Kind::SecondInjection => look(
             groups,
             value,
@@ -151,48 +145,34 @@ fn line_of(value: &[u8], i: usize, told: bool) -> Line
     }
 }
 
-// Writes a sheet record at its place.
-fn put(sheet: &mut [u8], at: usize, line: Line)
-    requires { at < length sheet.old / sheet_width }
-    ensures { sheet.new ≡ splice (sheet_width * at) (bytes_of line) sheet.old }
+// Writes a sheet record.
+fn put(line: Line, out: &mut Writer)
+    requires { Room (bytes_of line) out.old }
+    ensures { Written (bytes_of line) out.old out.new }
 {
     let bytes = [line.kind.number(), line.r.0, line.ir.0, 0];
-    memory::put(&bytes, sheet, SHEET_WIDTH * at);
+    out.put(&bytes);
 }
 
-// Writes the sheet of the value at record i from sheet record `at` on: the object and, where it is open, its parts.
-fn write(
-    groups: &[u8],
-    value: &[u8],
-    i: usize,
-    group: Reader,
-    sheet: &mut [u8],
-    at: usize,
-) -> Reached
-    requires { Room groups.now group.0 value.now i sheet.old at }
+// Writes the sheet of the value at record i: the object and, where it is open, its parts. The answer is the record after the value.
+fn write(groups: &[u8], value: &[u8], i: usize, group: Reader, out: &mut Writer) -> usize
+    requires { SheetRoom groups.now group.0 value.now i out.old }
     ensures { (e : Term) → At value.now i e → is_value e ≡ true
-        → Wrote groups.now group.0 i at e sheet.old result sheet.new }
+        → (result ≡ i + size e) × Written (sheet groups.now group.0 e) out.old out.new }
 {
     let open = is_open(groups, value, i, group);
-    put(sheet, at, line_of(value, i, open));
+    put(line_of(value, i, open), out);
     if !open {
-        return alone(value, i, at + 1);
+        return records::end_of(value, i);
     }
     // Only pairs and injections have parts to show.
     match records::kind_of(value, i) {
-        Kind::FirstInjection | Kind::SecondInjection => write(
-            groups,
-            value,
-            i + 1,
-            group,
-            sheet,
-            at + 1,
-        ),
+        Kind::FirstInjection | Kind::SecondInjection => write(groups, value, i + 1, group, out),
         Kind::Pair => {
-            let first = write(groups, value, i + 1, group, sheet, at + 1);
-            write(groups, value, first.next, group, sheet, first.line)
+            let second = write(groups, value, i + 1, group, out);
+            write(groups, value, second, group, out)
         }
-        _ => alone(value, i, at + 1),
+        _ => records::end_of(value, i),
     }
 }
 
@@ -234,6 +214,7 @@ pub fn page(
         place: 0,
     })?;
     answer::ask(Question::Room, 0, SHEET_WIDTH * end.line <= sheet.len())?;
-    write(groups, value, 0, reader, sheet, 0);
+    let mut out = Writer::new(sheet);
+    write(groups, value, 0, reader, &mut out);
     Ok(end.line)
 }

@@ -9,7 +9,7 @@ ghost use Rattle.memory.specs.Written.{Room, Written};
 
 use itoa::Buffer;
 use memory::Writer;
-use words::{Table, WORD_LIMIT, WORD_WIDTH};
+use words::{Table, WORD_LIMIT};
 
 // A number in decimal.
 #[tactic(auto, using(crate::proofs::Digits::decimal_is))]
@@ -23,15 +23,13 @@ pub fn decimal(out: &mut Writer, n: u64)
 
 // The letters of a sheet record's word, by the table's record of its kind. They are put into the buffer that the report program
 // writes, and not written one by one: what a program writes is in no contract, and what a buffer holds is.
-#[tactic(auto, using(memory::proofs::Placed::nothing, crate::proofs::Words::word_slice, crate::proofs::Words::no_word))]
+#[tactic(auto, using(memory::proofs::Placed::nothing, crate::proofs::Words::no_word))]
 pub fn word(out: &mut Writer, words: &Table, kind: u8)
     requires { Room (word words.now kind) out.old }
     ensures { Written (word words.now kind) out.old out.new }
 {
     let i = usize::from(kind);
     if i < WORD_LIMIT {
-        let start = WORD_WIDTH * i;
-        let n = words::letters(words, i);
-        out.put(&words[start..start + n]);
+        out.put(words::letters(words, i));
     }
 }

@@ -1,5 +1,5 @@
 -- What searches over a word's bytes find.
-use Rattle.std.proofs.Common.{◌≡◌, ◌≢◌, Bool, true, false, not, true≢false, ℕ, ◌+◌, ◌-◌, ◌*◌, ◌≤◌, ◌<◌, eqb, leb, length, take, drop, get_or, refl, sym, ap, ◌∙◌, arith, length-drop, length-take-le, get_or-take, get_or-drop, eq-eqb, eqb-true, le-leb, ◌⊎◌, inl, inr, Option, Some, None, MatchOption, MatchBool, unwrap_or}
+use Rattle.std.proofs.Common.{◌≡◌, ◌≢◌, Bool, true, false, not, true≢false, ℕ, ◌+◌, ◌-◌, ◌*◌, ◌≤◌, ◌<◌, eqb, leb, length, take, drop, get_or, refl, sym, ap, ◌∙◌, arith, length-drop, length-take-le, take-take, get_or-take, get_or-drop, eq-eqb, eqb-true, le-leb, ◌⊎◌, inl, inr, Option, Some, None, IfSome, MatchOption, MatchBool, unwrap_or}
 use Rattle.std.proofs.Math.Seq.{ext_get_or}
 use Rattle.std.specs.Bool.{one_answer, Decides}
 use Rattle.std.specs.List.{AllWithin, HoldsAt}
@@ -7,7 +7,7 @@ use Rattle.std.proofs.lemmas.Bool.{lt-leb, cases_lt}
 use Rattle.std.proofs.Math.Option as math
 use Rattle.rules.specs.Answer.{Bytes, first_below, ◌⇒◌}
 use Rattle.rules.specs.Limits.{word_width, word_limit, words_length}
-use Rattle.rules.specs.Words.{word_byte, is_letter, or_12, letters, zeros_from, same_word, ok33}
+use Rattle.rules.specs.Words.{word_byte, is_letter, or_12, letters, word, zeros_from, same_word, ok33}
 use Rattle.rules.proofs.Search.{from_none, from_some, all_below_true, all_below_all, found}
 
 -- x is word i of a whole table.
@@ -27,6 +27,10 @@ module _ {w : Bytes} {i : ℕ} {x : Bytes} where
   byte_is h k l =
       sym (ap (λ (b : Bytes). get_or b k 0) h.is ∙ get_or-take word_width (drop (word_width * i) w) k 0 l ∙ get_or-drop (word_width * i) w k 0)
 
+  pub letters_within : IsWord w i x → (o : Option ℕ) → IfSome o (λ n. n < length x) → unwrap_or o word_width ≤ length x
+  letters_within h None f = omega (arith, word_length h)
+  letters_within h (Some n) f = omega arith
+
   -- the place of the first byte that is no letter, or 12
   pub letters_are : IsWord w i x → (o : Option ℕ)
       → MatchOption o (AllWithin (λ c. is_letter c ≡ true) x 0 (length x)) (λ n. (n < length x) × HoldsAt (λ c. is_letter c ≡ false) x n × AllWithin (λ c. is_letter c ≡ true) x 0 n)
@@ -44,6 +48,17 @@ module _ {w : Bytes} {i : ℕ} {x : Bytes} where
             (λ k a b. ap not (ap is_letter (byte_is h k (omega arith)) ∙ f.2 k 0 (omega arith) b))
             (ap not (ap is_letter (byte_is h n l) ∙ f.1 0)))),
         omega arith,
+      )
+
+  -- the bytes before that place
+  pub letters_word : IsWord w i x → (n : ℕ) → n ≡ letters w i → n ≤ word_width
+      → (take n x ≡ word w i) × (length (take n x) ≡ letters w i) × (length (take n x) ≤ word_width)
+  unfolding word
+  letters_word h n e l =
+      let k : length (take n x) ≡ n = length-take-le n x (omega (arith, word_length h)) in (
+        ap (take n) h.is ∙ take-take n word_width (drop (word_width * i) w) l ∙ ap (λ (m : ℕ). take m (drop (word_width * i) w)) e,
+        k ∙ e,
+        omega (arith, k),
       )
 
   -- byte k of what follows the first n

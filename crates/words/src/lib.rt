@@ -3,10 +3,9 @@
 #![tactic(auto)]
 
 ghost use Rattle.std.specs.Prelude.{◌≡◌, ◌*◌, ◌≤◌, ◌<◌, length, take, drop, MatchResult};
-ghost use Rattle.memory.specs.Splice.{splice};
 ghost use Rattle.rules.specs.Limits.{word_width, word_limit, words_length};
 ghost use Rattle.rules.specs.Answer.{accepted, refused};
-ghost use Rattle.rules.specs.Words.{is_letter, letters, same_word, ok33, ok34, q33, q34, words_check};
+ghost use Rattle.rules.specs.Words.{is_letter, letters, word, same_word, ok33, ok34, q33, q34, words_check};
 ghost use Rattle.rules.specs.Report.{our_words};
 ghost use Rattle.answer.specs.Numbers.{number};
 ghost use Rattle.answer.specs.Said.{said};
@@ -37,13 +36,14 @@ fn word(words: &Table, i: usize) -> &[u8]
     &words[start..start + WORD_WIDTH]
 }
 
-// How many letters word i starts with.
-pub fn letters(words: &Table, i: usize) -> usize
+// The letters that word i starts with.
+pub fn letters(words: &Table, i: usize) -> &[u8]
     requires { i < word_limit }
-    ensures { (result ≡ letters words.now i) × (result ≤ word_width) }
+    ensures { (result.now ≡ word words.now i) × (length result.now ≡ letters words.now i) × (length result.now ≤ word_width) }
 {
-    let end = word(words, i).iter().position(|c| !is_letter(*c));
-    end.unwrap_or(WORD_WIDTH)
+    let bytes = word(words, i);
+    let end = bytes.iter().position(|c| !is_letter(*c));
+    &bytes[..end.unwrap_or(WORD_WIDTH)]
 }
 
 // Has word i at least one letter, and after its letters zero bytes?
@@ -51,7 +51,7 @@ fn well_formed(words: &Table, i: usize) -> bool
     requires { i < word_limit }
     ensures { result ≡ ok33 words.now i }
 {
-    let n = letters(words, i);
+    let n = letters(words, i).len();
     1 <= n && word(words, i)[n..].iter().all(|c| *c == 0)
 }
 
@@ -102,24 +102,16 @@ pub fn words_check(words: &[u8]) -> Result<&Table, Refusal>
     Ok(table)
 }
 
-// Letters over the front of record i.
-fn put_letters(letters: &[u8], words: &mut Table, i: usize)
-    requires { (length letters.now ≤ word_width) × (i < word_limit) }
-    ensures { words.new ≡ splice (word_width * i) letters.now words.old }
-{
-    memory::put(letters, words, WORD_WIDTH * i);
-}
-
 // The table of our own words, from fixed byte strings.
 pub fn our_words() -> Table
     ensures { result ≡ our_words }
 {
     let mut words = [0; WORDS_LENGTH];
-    put_letters(b"unit", &mut words, 0);
-    put_letters(b"first", &mut words, 1);
-    put_letters(b"second", &mut words, 2);
-    put_letters(b"pair", &mut words, 3);
-    put_letters(b"function", &mut words, 4);
-    put_letters(b"closed", &mut words, 5);
+    memory::put(b"unit", &mut words, 0);
+    memory::put(b"first", &mut words, WORD_WIDTH);
+    memory::put(b"second", &mut words, 2 * WORD_WIDTH);
+    memory::put(b"pair", &mut words, 3 * WORD_WIDTH);
+    memory::put(b"function", &mut words, 4 * WORD_WIDTH);
+    memory::put(b"closed", &mut words, 5 * WORD_WIDTH);
     words
 }

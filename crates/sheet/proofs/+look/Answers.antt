@@ -87,7 +87,7 @@ returns-in-Unit t c u w =
     let e = kind_is u c.kind_of.ensures w in
     let n = plain c.in-Unit.is in
     let p = no_parts c.args.groups.now c.args.group.0 c.args.shown (view u) (omega (arith, e, n.0)) (omega (arith, e, n.1)) in
-    looked_yes _ _ _ u _ _ _ p.0 (c.alone.ensures.0 u w) (omega (arith, p.1, c.counted-own.ensures, c.alone.ensures.1))
+    looked_yes _ _ _ u _ _ _ p.0 (c.end_of.ensures u w) (omega (arith, p.1, c.counted-own.ensures))
 
 pub returns-in-FirstInjection : goal.returns-in-FirstInjection
 returns-in-FirstInjection t c u w =

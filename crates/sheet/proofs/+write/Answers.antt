@@ -1,71 +1,65 @@
--- What is written at a node is its own line, and where it is open the lines of its parts.
-use Rattle.std.proofs.Common.{◌≡◌, ℕ, ◌+◌, ◌*◌, ◌/◌, ◌≤◌, ◌<◌, Bool, true, length, sym, ap, ◌∙◌, arith}
-use Rattle.calculus.specs.Terms.{Term, is_value}
+-- What is written at a node is its own line, and where it is open the sheets of its parts.
+use Rattle.std.proofs.Common.{◌≡◌, ℕ, ◌<◌, Bool, sym, ap, subst, ◌∙◌, arith}
+use Rattle.calculus.specs.Terms.{Term}
 use Rattle.rules.specs.Answer.{Bytes}
-use Rattle.rules.specs.Limits.{sheet_width}
 use Rattle.rules.specs.Groups.{leq}
-use Rattle.rules.specs.Script.{records, kind, r}
+use Rattle.rules.specs.Script.{kind, r}
 use Rattle.records.specs.Kinds as kinds
 use Rattle.records.specs.Place.{At}
 use Rattle.records.specs.Operands.{first_operand, second_operand}
-use Rattle.records.proofs.Stands.{kind_of, there, at_first, at_second}
-use Rattle.memory.specs.Splice.{splice}
+use Rattle.records.proofs.Stands.{kind_of, here, at_second}
+use Rattle.memory.specs.Written.{Written}
+use Rattle.memory.specs.declared.Writer.{Writer}
 use Rattle.sheet.specs.Shown.{line}
-use Rattle.sheet.specs.Value.{Room}
-use Rattle.sheet.proofs.Values.{kind_is, view, own, own_at, first_part, pairs, of_injection, no_parts_kind}
-use Rattle.sheet.proofs.Sheets.{shown, without, closed, object, first_of, second_value, wrote_alone, wrote_injection, wrote_pair, room_first, room_second}
+use Rattle.sheet.proofs.Values.{kind_is, view, own, own_at, injects, pairs, of_injection, no_parts_kind}
+use Rattle.sheet.proofs.Sheets.{shown, without, closed, object, first_value, second_value, part_at, wrote_alone, wrote_injection, wrote_pair, value_there, line_fits, injection_room, first_room, second_room}
 use Rattle.sheet.proofs.+write.Goals as goal
 
 -- a pair or an injection
 parts : {s : Bytes} {i k : ℕ} (u : Term) → k ≡ kind s i → kinds.function < k → At s i u → kinds.function < kind_of u
 parts u e l w = omega (arith, kind_is u e w)
 
--- the object's record is within the script,
-value_there : {g s w : Bytes} {group i n : ℕ} → Room g group s i w n → i < records s
-value_there q = there _ _ q.tree q.at
-
--- and its line within the buffer
-line_there : {g s w : Bytes} {group i n : ℕ} → Room g group s i w n → n < length w / sheet_width
-line_there {g} {group = group} q = omega (arith, q.fits, (object g group (view q.tree) q.value).2)
-
-line_fits : {g s w : Bytes} {group i n : ℕ} → Room g group s i w n → sheet_width * n ≤ length w
-line_fits q = omega (arith, line_there q)
-
 module _ (g s : Bytes) (group i : ℕ) {told : Bool} (is_open : told ≡ leq g (r s i) group) where
-  line_is : (b : Bytes) (n : ℕ) {b1 bytes : Bytes} → b1 ≡ splice (sheet_width * n) bytes b → bytes ≡ line told s i → b1 ≡ splice (sheet_width * n) (shown g group s i) b
-  line_is b n put e = put ∙ ap (λ (y : Bytes). splice (sheet_width * n) y b) (e ∙ ap (λ (x : Bool). line x s i) is_open)
+  line_is : {bytes : Bytes} {x y : Writer} → Written bytes x y → bytes ≡ line told s i → Written (shown g group s i) x y
+  line_is {x = x} {y} put e = subst (λ b. Written b x y) (e ∙ ap (λ t. line t s i) is_open) put
 
   told_is : (u : Term) → At s i u → leq g (own u) group ≡ told
   told_is u w = sym (is_open ∙ ap (λ x. leq g x group) (own_at s i u w))
 
--- the first part of a value
-part_at : (g : Bytes) (group : ℕ) {s : Bytes} {i : ℕ} (u : Term) → At s i u → is_value u ≡ true → kinds.function < kind_of u → At s (i + 1) (first_operand u)
-part_at g group {s} {i} u w v l = at_first s i u w (first_part (view u) l (object g group (view u) v).1).0
-
 pub is_open-open-requires : goal.is_open-open-requires
 is_open-open-requires t c = value_there c.requires
 
+pub line_of-requires : goal.line_of-requires
+line_of-requires t c = here c.requires.at
+
 pub put-requires : goal.put-requires
-put-requires t c = line_there c.requires
+put-requires t c = line_fits c.requires
+
+pub end_of-requires : goal.end_of-requires
+end_of-requires t c = here c.requires.at
 
 pub returns-then-not-open : goal.returns-then-not-open
-returns-then-not-open t c u w v =
-    wrote_alone _ _ _ _ c.args.at u w v _ _ (line_fits c.requires) (line_is _ _ _ _ c.is_open-open.ensures _ c.args.at c.put.ensures c.line_of.ensures) _
-    (closed _ _ (view u) v (told_is _ _ _ _ c.is_open-open.ensures u w ∙ c.if-not-open.true)) (c.alone.ensures.0 u w) c.alone.ensures.1
+returns-then-not-open t c u w v = (
+  c.end_of.ensures u w,
+  wrote_alone _ _ u w v (line_is _ _ _ _ c.is_open-open.ensures c.put.ensures c.line_of.ensures)
+      (closed _ _ (view u) v (told_is _ _ _ _ c.is_open-open.ensures u w ∙ c.if-not-open.true)),
+)
 
 pub write-requires : goal.write-requires
 write-requires t c =
     let q = c.requires in
     let n = of_injection c.in-FirstInjection.is in (
       omega (arith, c.decreases, value_there q),
-      room_first q (told_is _ _ _ _ c.is_open-open.ensures q.tree q.at ∙ c.if-not-open.false) _ (parts q.tree c.kind_of.ensures n.0 q.at) c.put.auto.sheet,
+      injection_room q (told_is _ _ _ _ c.is_open-open.ensures q.tree q.at ∙ c.if-not-open.false) (line_is _ _ _ _ c.is_open-open.ensures c.put.ensures c.line_of.ensures)
+          (parts q.tree c.kind_of.ensures n.0 q.at) (λ h. n.2 (kind_is q.tree c.kind_of.ensures q.at ∙ h)),
     )
 
-pub write-first-requires : goal.write-first-requires
-write-first-requires t c =
+pub write-second-requires : goal.write-second-requires
+write-second-requires t c =
     let q = c.requires in (
       omega (arith, c.decreases, value_there q),
-      room_first q (told_is _ _ _ _ c.is_open-open.ensures q.tree q.at ∙ c.if-not-open.false) _ (parts q.tree c.in-Pair.ensures (omega arith) q.at) c.put.auto.sheet,
+      first_room q (told_is _ _ _ _ c.is_open-open.ensures q.tree q.at ∙ c.if-not-open.false) (line_is _ _ _ _ c.is_open-open.ensures c.put.ensures c.line_of.ensures)
+          (sym (kind_is q.tree c.in-Pair.ensures q.at)),
     )
 
 pub write-requires-in-Pair : goal.write-requires-in-Pair
@@ -74,10 +68,10 @@ write-requires-in-Pair t c =
     let group = c.args.group.0 in
     let q = c.requires in
     let l = parts q.tree c.in-Pair.ensures (omega arith) q.at in
-    let x = c.write-first.ensures (first_operand q.tree) (part_at g group q.tree q.at q.value l) (first_of g group (view q.tree) q.value l).value in
-    let z = room_second q (told_is g c.args.value.now group c.args.i c.is_open-open.ensures q.tree q.at ∙ c.if-not-open.false) (sym (kind_is q.tree c.in-Pair.ensures q.at))
-    (c.write-first.auto.sheet ∙ c.put.auto.sheet) x in
-    (omega (arith, c.decreases, value_there q, x.next, value_there z), z)
+    let x = c.write-second.ensures (first_operand q.tree) (part_at g group q.tree q.at q.value l) (first_value (view q.tree) q.value l) in
+    let z = second_room q (told_is g c.args.value.now group c.args.i c.is_open-open.ensures q.tree q.at ∙ c.if-not-open.false)
+    (line_is _ _ _ _ c.is_open-open.ensures c.put.ensures c.line_of.ensures) (sym (kind_is q.tree c.in-Pair.ensures q.at)) x.0 x.1 in
+    (omega (arith, c.decreases, value_there q, x.0, value_there z), z)
 
 pub returns-in-FirstInjection : goal.returns-in-FirstInjection
 returns-in-FirstInjection t c u w v =
@@ -85,25 +79,33 @@ returns-in-FirstInjection t c u w v =
     let group = c.args.group.0 in
     let n = of_injection c.in-FirstInjection.is in
     let l = parts u c.kind_of.ensures n.0 w in
-    let x = c.write.ensures (first_operand u) (part_at g group u w v l) (first_of g group (view u) v l).value in
-    wrote_injection _ _ _ _ c.args.at u w v _ _ (line_fits c.requires) (line_is _ _ _ _ c.is_open-open.ensures _ c.args.at c.put.ensures c.line_of.ensures)
-    (told_is _ _ _ _ c.is_open-open.ensures u w ∙ c.if-not-open.false) c.put.auto.sheet _ _ x l (λ h. n.2 (kind_is u c.kind_of.ensures w ∙ h))
+    let h : kind_of u ≡ kinds.pair → ⊥ = λ h. n.2 (kind_is u c.kind_of.ensures w ∙ h) in
+    let x = c.write.ensures (first_operand u) (part_at g group u w v l) (first_value (view u) v l) in (
+      omega (arith, x.0, (injects (view u) l (object g group (view u) v).1 h).sized),
+      wrote_injection _ _ u w v (line_is _ _ _ _ c.is_open-open.ensures c.put.ensures c.line_of.ensures)
+          (told_is _ _ _ _ c.is_open-open.ensures u w ∙ c.if-not-open.false) x.1 l h,
+    )
 
 pub returns-in-Pair : goal.returns-in-Pair
 returns-in-Pair t c u w v =
-    let g = c.args.groups.now in
-    let group = c.args.group.0 in
     let h = sym (kind_is u c.in-Pair.ensures w) in
     let l = parts u c.in-Pair.ensures (omega arith) w in
-    let x = c.write-first.ensures (first_operand u) (part_at g group u w v l) (first_of g group (view u) v l).value in
-    wrote_pair _ _ _ _ c.args.at u w v _ _ (line_fits c.requires) (line_is _ _ _ _ c.is_open-open.ensures _ c.args.at c.put.ensures c.line_of.ensures)
-    (told_is _ _ _ _ c.is_open-open.ensures u w ∙ c.if-not-open.false) c.put.auto.sheet _ _ x h c.write-first.auto.sheet _ _
-    (c.write-in-Pair.ensures (second_operand u) (at_second _ _ u w c.write-first.result.next (pairs (view u) h).two x.next) (second_value v (pairs (view u) h)))
+    let p = pairs (view u) h in
+    let x = c.write-second.ensures (first_operand u) (part_at c.args.groups.now c.args.group.0 u w v l) (first_value (view u) v l) in
+    let y = c.write-in-Pair.ensures (second_operand u) (at_second _ _ u w c.write-second.result p.two x.0) (second_value v p) in (
+      omega (arith, x.0, y.0, p.sized),
+      wrote_pair _ _ u w v (line_is _ _ _ _ c.is_open-open.ensures c.put.ensures c.line_of.ensures)
+          (told_is _ _ _ _ c.is_open-open.ensures u w ∙ c.if-not-open.false) x.1 h y.1,
+    )
+
+pub end_of-requires-in_default : goal.end_of-requires-in_default
+end_of-requires-in_default t c = here c.requires.at
 
 pub returns-in_default : goal.returns-in_default
 returns-in_default t c u w v =
     let e = kind_is u c.kind_of.ensures w in
     let d = c.in_default in
-    let l = no_parts_kind _ d.not-Pair d.not-FirstInjection d.not-SecondInjection (omega (arith, e, (object c.args.groups.now c.args.group.0 (view u) v).1)) in
-    wrote_alone _ _ _ _ c.args.at u w v _ _ (line_fits c.requires) (line_is _ _ _ _ c.is_open-open.ensures _ c.args.at c.put.ensures c.line_of.ensures) _
-    (without _ _ (view u) v (omega (arith, e, l))) (c.alone-in_default.ensures.0 u w) c.alone-in_default.ensures.1
+    let l = no_parts_kind _ d.not-Pair d.not-FirstInjection d.not-SecondInjection (omega (arith, e, (object c.args.groups.now c.args.group.0 (view u) v).1)) in (
+      c.end_of-in_default.ensures u w,
+      wrote_alone _ _ u w v (line_is _ _ _ _ c.is_open-open.ensures c.put.ensures c.line_of.ensures) (without _ _ (view u) v (omega (arith, e, l))),
+    )

@@ -1,5 +1,5 @@
 -- The questions in order; the value stands at the script's start.
-use Rattle.std.proofs.Common.{◌≡◌, ℕ, ◌*◌, ◌≤◌, true, length, sym, ◌∙◌, arith, leb-true, Option, Some, None, Err, ok_or}
+use Rattle.std.proofs.Common.{◌≡◌, ℕ, ◌*◌, ◌≤◌, true, length, sym, ap, ◌∙◌, arith, rules, leb-true, Option, Some, None, Err, ok_or}
 use Rattle.calculus.specs.Terms.{Term, is_value}
 use Rattle.rules.specs.Answer.{Bytes, Octets, accepted}
 use Rattle.rules.specs.Limits.{script_width}
@@ -13,6 +13,7 @@ use Rattle.sheet.specs.Before.{before_26}
 use Rattle.sheet.specs.Value.{lines, looked}
 use Rattle.sheet.specs.declared.Reached.{Reached}
 use Rattle.sheet.proofs.Values.{found, lost, lines_size}
+use Rattle.sheet.proofs.Sheets.{sheet_length}
 use Rattle.sheet.proofs.Questions.{stopped, no_value, room_asked, written, narrow, encoded}
 use Rattle.sheet.proofs.page.Goals as goal
 
@@ -90,7 +91,13 @@ write-requires c =
     let a = c.args in
     let n = counted a.groups.now a.types.now a.value.now a.group c.in_ok-asked.ensures (λ j. omega (arith, c.type_inv.value j))
     (λ e w. sym c.in_ok-end.ensures.ok_part ∙ c.look.ensures e w) in
-    record { tree = term a.value.now; at = n.at; value = n.value; fits = omega (arith, n.count_is, leb-true _ _ (ask_true 27 0 _ (sym c.in_ok-ask.ensures))) }
+    record {
+      tree = term a.value.now;
+      at = n.at;
+      value = n.value;
+      fits = omega
+          (arith, c.new-out.ensures.0, ap (λ b. length b.now) c.new-out.ensures.1, n.count_is, sheet_length a.groups.now a.group (term a.value.now), leb-true _ _ (ask_true 27 0 _ (sym c.in_ok-ask.ensures)));
+    }
 
 pub returns : goal.returns
 returns c =
@@ -98,7 +105,8 @@ returns c =
     let s = a.value.now in
     let n = counted a.groups.now a.types.now s a.group c.in_ok-asked.ensures (λ j. omega (arith, c.type_inv.value j))
     (λ e w. sym c.in_ok-end.ensures.ok_part ∙ c.look.ensures e w) in
+    let w = (c.write.ensures (term s) n.at n.value).1 in
     let p = written a.groups.now a.types.now s a.group a.sheet.now (sym c.in_ok-asked.ensures) n.value
-    (omega (arith, n.count_is, leb-true _ _ (ask_true 27 0 _ (sym c.in_ok-ask.ensures)))) _ n.count_is _
-    (c.write.ensures (term s) n.at n.value).wrote in
-    (p.answer, p.after)
+    (omega (arith, n.count_is, leb-true _ _ (ask_true 27 0 _ (sym c.in_ok-ask.ensures)))) _ n.count_is _ (rw (c.new-out.ensures.0, c.new-out.ensures.1) at w.holds) in
+    let h = p.after in
+    (p.answer, search rules)
