@@ -29,7 +29,8 @@ pub fn refusal_line(text: &mut Writer, refusal: Refusal)
     requires { Room (refusal_line (number refusal.question) refusal.place) text.old }
     ensures { Written (refusal_line (number refusal.question) refusal.place) text.old text.new }
 {
-    named(text, b"refused ", u64::from(refusal.question.number()));
+    let question = u64::from(refusal.question.number());
+    named(text, b"refused ", question);
     named(text, b" at ", refusal.place as u64);
     text.put(b"\n");
 }
