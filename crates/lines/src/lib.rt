@@ -4,8 +4,10 @@
 
 ghost use Rattle.std.specs.Prelude.{◌++◌};
 ghost use Rattle.rules.specs.Report.{decimal, refusal_line, accepted_line, run_line, sheet_line, sheet_lines};
+ghost use Rattle.answer.specs.Numbers.{number};
 ghost use Rattle.memory.specs.Written.{Room, Written};
 
+use answer::Refusal;
 use lattice::{Indirect, Reader};
 use memory::Writer;
 use sheet::SHEET_WIDTH;
@@ -23,12 +25,13 @@ fn named(text: &mut Writer, word: &[u8], n: u64)
 
 // "refused 21 at 0"
 #[tactic(auto, unfolding(rules::specs::Report::refusal_line, rules::specs::Report::text), using(memory::proofs::Placed::room_first, memory::proofs::Placed::room_next))]
-pub fn refusal_line(text: &mut Writer, question: u64, place: u64)
-    requires { Room (refusal_line question place) text.old }
-    ensures { Written (refusal_line question place) text.old text.new }
+pub fn refusal_line(text: &mut Writer, refusal: Refusal)
+    requires { Room (refusal_line (number refusal.question) refusal.place) text.old }
+    ensures { Written (refusal_line (number refusal.question) refusal.place) text.old text.new }
 {
+    let question = u64::from(refusal.question.number());
     named(text, b"refused ", question);
-    named(text, b" at ", place);
+    named(text, b" at ", refusal.place as u64);
     text.put(b"\n");
 }
 

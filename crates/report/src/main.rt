@@ -10,14 +10,12 @@ ghost use Rattle.rules.specs.Limits.{report_budget, report_buffer};
 ghost use Rattle.rules.specs.Script.{encode};
 ghost use Rattle.rules.specs.Run.{Ran};
 ghost use Rattle.rules.specs.Calls.{running};
-ghost use Rattle.rules.specs.Report.{refusal_line, value_text, run_text, script_text, report};
-ghost use Rattle.answer.specs.Numbers.{number};
+ghost use Rattle.rules.specs.Report.{value_text, run_text, script_text, report};
 ghost use Rattle.reduction.specs.Steps.{end_number};
 ghost use Rattle.memory.specs.Written.{Room, Written};
 ghost use Rattle.report.specs.Supplied.{file};
 ghost use Rattle.report.specs.Room.{value_room, run_room, report_room};
 
-use answer::Refusal;
 use inference::SLOT;
 use lattice::{GROUP_LIMIT, ROW_WIDTH};
 use memory::Writer;
@@ -54,18 +52,6 @@ const SHEET_LENGTH: usize = SCRIPT_LIMIT * SHEET_WIDTH;
 // No report is longer (`report_room`).
 const REPORT_LENGTH: usize = 450671;
 
-// The line of a refusal.
-fn refused(text: &mut Writer, refusal: Refusal)
-    requires { Room (refusal_line (number refusal.question) refusal.place) text.old }
-    ensures { Written (refusal_line (number refusal.question) refusal.place) text.old text.new }
-{
-    lines::refusal_line(
-        text,
-        u64::from(refusal.question.number()),
-        refusal.place as u64,
-    );
-}
-
 // The value's text: the sheet of the run's last term for group 0, only when the end is 0.
 fn value_text(
     text: &mut Writer,
@@ -85,7 +71,7 @@ fn value_text(
     let mut sheet = [0u8; SHEET_LENGTH];
     match sheet::page(groups, types, value, READER, &mut sheet) {
         Ok(count) => lines::sheet_lines(text, words, &sheet[..SHEET_WIDTH * count]),
-        Err(refusal) => refused(text, refusal),
+        Err(refusal) => lines::refusal_line(text, refusal),
     }
 }
 
@@ -112,7 +98,7 @@ fn run_text(text: &mut Writer, words: &Table, groups: &[u8], types: &[u8], scrip
                 halt.stop,
             );
         }
-        Err(refusal) => refused(text, refusal),
+        Err(refusal) => lines::refusal_line(text, refusal),
     }
 }
 
@@ -128,7 +114,7 @@ fn script_text(text: &mut Writer, words: &Table, groups: &[u8], types: &[u8], sc
             lines::accepted_line(text, records as u64);
             run_text(text, words, groups, types, script);
         }
-        Err(refusal) => refused(text, refusal),
+        Err(refusal) => lines::refusal_line(text, refusal),
     }
 }
 
@@ -143,7 +129,7 @@ fn write_report(text: &mut Writer, words: Option<&[u8]>, groups: &[u8], types: &
     };
     match words::words_check(supplied) {
         Ok(table) => script_text(text, table, groups, types, script),
-        Err(refusal) => refused(text, refusal),
+        Err(refusal) => lines::refusal_line(text, refusal),
     }
 }
 
@@ -178,10 +164,9 @@ fn load<R: Files>(rt: &R, path: &'static str, buffer: &mut [u8]) -> Result<Optio
         Err(error) if error.kind() == io::ErrorKind::NotFound => return Ok(None),
         Err(error) => return Err(Failure { at: path, error }),
     };
-    match fill(&mut file, buffer) {
-        Ok(n) => Ok(Some(n)),
-        Err(error) => Err(Failure { at: path, error }),
-    }
+    fill(&mut file, buffer)
+        .map(Some)
+        .map_err(|error| Failure { at: path, error })
 }
 
 // The same of a table or a script, which is empty where there is no such file.
@@ -216,10 +201,8 @@ fn report_in_words<R: Files + Print>(
     script: &[u8],
 ) -> Result<(), Failure> {
     let mut words = [0u8; WORDS_ROOM];
-    match load(rt, "words", &mut words)? {
-        Some(n) => print_report(rt, Some(&words[..n]), groups, types, script),
-        None => print_report(rt, None, groups, types, script),
-    }
+    let found = load(rt, "words", &mut words)?;
+    print_report(rt, found.map(|n| &words[..n]), groups, types, script)
 }
 
 // Reads the files and prints their report.

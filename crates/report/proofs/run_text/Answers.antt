@@ -44,8 +44,8 @@ slice_bounds-value_text-end c =
 pub value_text-requires : goal.value_text-requires
 value_text-requires c = after_run _ _ _ value_room c.run_line.ensures c.requires
 
-pub refused-requires : goal.refused-requires
-refused-requires c = refusal_fits _ _ _ _ (omega (arith, c.requires))
+pub refusal_line-requires : goal.refusal_line-requires
+refusal_line-requires c = refusal_fits _ _ _ _ (omega (arith, c.requires))
 
 pub returns-in-Ok : goal.returns-in-Ok
 returns-in-Ok c =
@@ -56,4 +56,4 @@ returns-in-Ok c =
     rw (run_accepted a.words.now a.groups.now a.types.now _ _ _ _ x) (then (rw e at c.run_line.ensures) (c.value_text.ensures x.ran x.end_is l))
 
 pub returns-in-Err : goal.returns-in-Err
-returns-in-Err c = rw (run_refused c.args.words.now c.args.groups.now c.args.types.now _ _ _ c.in-Err.ensures.0) c.refused.ensures
+returns-in-Err c = rw (run_refused c.args.words.now c.args.groups.now c.args.types.now _ _ _ c.in-Err.ensures.0) c.refusal_line.ensures

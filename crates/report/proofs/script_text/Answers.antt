@@ -10,8 +10,8 @@ accepted_line-requires c = accepted_fits _ _ _ (omega (arith, c.requires))
 pub run_text-requires : goal.run_text-requires
 run_text-requires c = after_accepted _ run_room c.accepted_line.ensures c.requires
 
-pub refused-requires : goal.refused-requires
-refused-requires c = refusal_fits _ _ _ _ (omega (arith, c.requires))
+pub refusal_line-requires : goal.refusal_line-requires
+refusal_line-requires c = refusal_fits _ _ _ _ (omega (arith, c.requires))
 
 pub returns-in-Ok : goal.returns-in-Ok
 returns-in-Ok c =
@@ -19,4 +19,4 @@ returns-in-Ok c =
 
 pub returns-in-Err : goal.returns-in-Err
 returns-in-Err c =
-    rw (script_refused c.args.words.now c.args.groups.now c.args.types.now c.args.script.now _ _ c.in-Err.ensures.0) c.refused.ensures
+    rw (script_refused c.args.words.now c.args.groups.now c.args.types.now c.args.script.now _ _ c.in-Err.ensures.0) c.refusal_line.ensures

@@ -68,8 +68,8 @@ sheet_lines-requires c =
     let l = lines_length a.groups.now a.types.now a.value.now c.in-Ok.ensures.0 a.words.now _ c.in-Ok.ensures.1 in
     omega (arith, l, c.requires)
 
-pub refused-requires : goal.refused-requires
-refused-requires c = refusal_fits _ _ _ _ (omega (arith, c.requires))
+pub refusal_line-requires : goal.refusal_line-requires
+refusal_line-requires c = refusal_fits _ _ _ _ (omega (arith, c.requires))
 
 pub returns-in-Ok : goal.returns-in-Ok
 returns-in-Ok c x e h =
@@ -83,4 +83,4 @@ returns-in-Err c x e h =
     let a = c.args in
     let l = sheet_refusal a.words.now _ _ _ c.in-Err.ensures.0 in
     let v = a_value a.words.now a.groups.now a.types.now a.value.now x _ e (value_stop a.stop (sym c.if-ne.ensures)) h in
-    rw (v, ← l) c.refused.ensures
+    rw (v, ← l) c.refusal_line.ensures
