@@ -143,7 +143,7 @@ const LIMITS: [(&str, usize, &str); 19] = [
     ("RUN_BYTES", REPORT_RUN_BYTES, "report::RUN_LENGTH"),
     ("SCRIPT_LONGEST_BYTES", REPORT_RUN_BYTES, "report::RUN_LENGTH"),
     ("SHEET_BYTES", REPORT_SHEET_BYTES, "report::SHEET_LENGTH"),
-    ("STEPS_BYTES", u64::BITS as usize / 8, "packing::STEPS_WIDTH"),
+    ("STEPS_BYTES", u64::BITS as usize / 8, ""),
     ("GROUPS_LONGEST_BYTES", MOST_GROUPS * ROW_BYTES, ""),
     ("TYPES_LONGEST_BYTES", MOST_TABLE_RECORDS * TYPE_BYTES, ""),
     ("LAST_QUESTION", LAST_QUESTION, "answer::Question::Creators"),
