@@ -22,7 +22,7 @@ extern "C" {
 #endif
 
 /* Raised whenever a constant, a prototype or an answer changes. */
-#define WIGNELD_VERSION 7
+#define WIGNELD_VERSION 8
 
 /* The form of rows and records. Raised whenever a width below changes, or what a byte of a record means: files of another form
    are to be rewritten before they are lent. No file says its form, so keep it beside them. In form 2 type records had 4 bytes and
@@ -155,7 +155,7 @@ extern "C" {
  * pthread_attr_setstacksize(&attributes, PTHREAD_STACK_MIN + WIGNELD_CHECK_STACK_BYTES) is enough for a thread that calls
  * wigneld_check from a shallow function.
  */
-#define WIGNELD_CHECK_STACK_BYTES 102400
+#define WIGNELD_CHECK_STACK_BYTES 86016
 #define WIGNELD_RUN_STACK_BYTES 69632
 #define WIGNELD_SHEET_STACK_BYTES 40960
 
