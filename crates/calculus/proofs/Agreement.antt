@@ -4,7 +4,8 @@ use mathlib.Core.Bool.{So}
 use Prim.Native.Nat.{ℕ}
 use Rattle.calculus.specs.Security.{Security}
 use Rattle.calculus.specs.Types.{Ty}
-use Rattle.calculus.specs.Terms.{Term, var, unit, lam, pair, inj, app, proj, case, protect, mu, is_value}
+use Rattle.calculus.specs.Terms.{Term, var, unit, lam, pair, inj, app, proj, case, protect, mu, literal, reckon, is_value}
+use Rattle.calculus.specs.Numbers.{literal_of}
 use Rattle.calculus.specs.Reduction.{
   c_protect,
   Context,
@@ -17,6 +18,8 @@ use Rattle.calculus.specs.Reduction.{
   pair_right,
   in_protect,
   in_case,
+  reckon_left,
+  reckon_right,
   plug,
   Reduces,
   Outcome,
@@ -42,6 +45,7 @@ use Rattle.calculus.proofs.Redexes.{
   project_redex,
   branch_redex,
   unroll_redex,
+  calculate_redex,
 }
 use Rattle.calculus.proofs.Contexts.{compose, plug_compose, plug_step}
 
@@ -102,6 +106,11 @@ module _ (S : Security) (tab : ℕ → Ty) where
   step_says (case w i e a b) = operand_says (in_case w i hole a b) e _ _ (step_says e) λ v. redex_says (branch_redex S tab w i e a b v)
   step_says (protect m e) = operand_says (in_protect m hole) e _ _ (step_says e) λ v. redex_says (contracting (c_protect v))
   step_says (mu w i e) = redex_says (unroll_redex S tab w i e (tab i) refl)
+  step_says (literal k n) = refl
+  step_says (reckon o w a b) =
+      operand_says (reckon_left o w hole b) a _ _ (step_says a) λ va.
+      operand_says (reckon_right o w a va hole) b _ _ (step_says b) λ vb.
+      redex_says (calculate_redex S tab o w a b (literal_of a) (literal_of b) va vb refl refl)
 
   redex_at : {e r : Term} {x : Outcome} (E : Context) → e ≡ plug E r → Redex S tab r x → step S tab e ≡ within (plug E) x
   redex_at E p r = rw p (plug_step S tab E _ _ (redex_unfinished r) (redex_step S tab r))

@@ -2,7 +2,7 @@
 use mathlib.Core.Path.{◌≡◌, refl, ap}
 use mathlib.Core.Bool.{Bool, true, false, So}
 use mathlib.Core.Option.{Option, none, some, some-injective, none-ne-some}
-use Rattle.calculus.specs.Types.{Former, Ty, one, node, same, when, ◌>>=◌, Parts, parts}
+use Rattle.calculus.specs.Types.{Former, Ty, leaf, node, same, when, ◌>>=◌, Parts, parts}
 use Rattle.calculus.proofs.Directed.{same_eq}
 
 pub when_holds : {A : Type 0} {c : Bool} (a : A) → So c → when c a ≡ some a
@@ -17,7 +17,7 @@ when_some true a {b} h k = k refl (some-injective a b h)
 when_some false a {b} h k = absurd (none-ne-some b h)
 
 pub parts_some : {P : Type 0} (f : Former) (t : Ty) {p : Parts} → parts f t ≡ some p → (t ≡ node f p.own p.lhs p.rhs → P) → P
-parts_some f (one k) {p} h κ = absurd (none-ne-some p h)
+parts_some f (leaf b k) {p} h κ = absurd (none-ne-some p h)
 parts_some f (node g k s t) h κ =
     when_some (same f g) _ h λ x e.
     κ (rw (← same_eq f g x) (ap (λ (q : Parts). node f q.own q.lhs q.rhs) e))

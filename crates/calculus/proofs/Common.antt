@@ -1,13 +1,13 @@
 -- Item 3: the common type is at or above both, and "lowest among all types at or above both"; there is one where the shapes agree.
 use mathlib.Core.Path.{◌≡◌, refl}
 use mathlib.Core.Bool.{Bool, true, false, ◌&&◌, So}
-use mathlib.Core.Option.{Option, none, some, some-injective, none-ne-some}
+use mathlib.Core.Option.{Option, none, some, none-ne-some}
 use Rattle.calculus.specs.Security.{Property, Security, Laws}
-use Rattle.calculus.specs.Types.{Former, Ty, one, node, same, secure_t, size_t, when, ◌>>=◌}
+use Rattle.calculus.specs.Types.{Leaf, Former, Ty, leaf, node, same_leaf, same, secure_t, size_t, when, ◌>>=◌, exists}
 use Rattle.calculus.specs.Subtyping.{Subtype, s_trans, Direction, below, above, leftward, le_toward}
 use Rattle.calculus.specs.Common.{bound, common, same_shape}
 use Rattle.calculus.proofs.Booleans.{both, and_left, and_right}
-use Rattle.calculus.proofs.Directed.{Directed, d_one, d_node, same_refl, same_eq, directed_subtype, subtype_directed}
+use Rattle.calculus.proofs.Directed.{Directed, d_leaf, d_node, same_leaf_refl, same_leaf_eq, same_refl, same_eq, directed_subtype, subtype_directed}
 use Rattle.calculus.proofs.Answers.{bind_some, when_some}
 
 -- a secure type that both are below, or that both are above
@@ -33,9 +33,9 @@ module _ {S : Security} (L : Laws S) where
   bound_secure below k l h g = L.join_secure k l h g
   bound_secure above k l h g = L.meet_secure k l h g
 
-  one_bound : (d : Direction) (k l : Property) → So (S.secure k) → So (S.secure l) → Bound S d (one k) (one l) (one (bound S d k l))
+  leaf_bound : (d : Direction) (b : Leaf) (k l : Property) → So (S.secure k) → So (S.secure l) → Bound S d (leaf b k) (leaf b l) (leaf b (bound S d k l))
   unfolding secure_t
-  one_bound d k l h g = record { left = d_one (bound_left d k l h g); right = d_one (bound_right d k l h g); secure = bound_secure d k l h g }
+  leaf_bound d b k l h g = record { left = d_leaf (bound_left d k l h g); right = d_leaf (bound_right d k l h g); secure = bound_secure d k l h g }
 
   node_bound : {s t s' t' a b : Ty} (d : Direction) (f : Former) (k l : Property) → So (S.secure k) → So (S.secure l)
       → Bound S (leftward f d) s s' a → Bound S d t t' b → Bound S d (node f k s t) (node f l s' t') (node f (bound S d k l) a b)
@@ -48,9 +48,9 @@ module _ {S : Security} (L : Laws S) where
 
   pub common_bound : (d : Direction) (s t : Ty) {u : Ty} → So (secure_t S s) → So (secure_t S t) → common S d s t ≡ some u → Bound S d s t u
   unfolding common secure_t
-  common_bound d (one k) (one l) {u} h g e = rw (← some-injective _ u e) (one_bound d k l h g)
-  common_bound d (one k) (node f l s t) {u} h g e = absurd (none-ne-some u e)
-  common_bound d (node f k s t) (one l) {u} h g e = absurd (none-ne-some u e)
+  common_bound d (leaf b k) (leaf b' l) h g e = when_some (same_leaf b b') _ e λ x e1. rw (← e1, ← same_leaf_eq b b' x) (leaf_bound d b k l h g)
+  common_bound d (leaf b k) (node f l s t) {u} h g e = absurd (none-ne-some u e)
+  common_bound d (node f k s t) (leaf b l) {u} h g e = absurd (none-ne-some u e)
   common_bound d (node f k s t) (node f' l s' t') h g e =
       let h1 = and_right (S.secure k) _ h in
       let g1 = and_right (S.secure l) _ g in
@@ -65,7 +65,8 @@ module _ {S : Security} (L : Laws S) where
   -- Where any type is beyond both there is a common one, and it is nearer.
   pub common_nearest : {d : Direction} {s t m : Ty} → Directed S d s m → Directed S d t m → (u : Ty) × (common S d s t ≡ some u) × Directed S d u m
   unfolding common
-  common_nearest (d_one {d = d} {k = k} {l = m} p) (d_one {k = l} q) = (one (bound S d k l), refl, d_one (bound_nearest d k l m p q))
+  common_nearest (d_leaf {d = d} {b = b} {k = k} {l = m} p) (d_leaf {k = l} q) =
+      (leaf b (bound S d k l), rw (same_leaf_refl b), d_leaf (bound_nearest d k l m p q))
   common_nearest (d_node {d = d} {f = f} {k = k} {l = m} p a b) (d_node {k = l} q a' b') =
       let x = common_nearest a a' in
       let y = common_nearest b b' in
@@ -85,10 +86,6 @@ module _ {S : Security} (L : Laws S) where
 
 -- There is a common type where the shapes are the same.
 
-abbrev pub exists : {A : Type 0} → Option A → Bool
-exists none = false
-exists (some a) = true
-
 exists_both : {A B C : Type 0} (m : Option A) (n : Option B) (b : Bool) (f : A → B → C)
     → exists (◌>>=◌ m (λ x. ◌>>=◌ n (λ y. when b (f x y)))) ≡ (exists m && (exists n && b))
 exists_both none n b f = refl
@@ -96,20 +93,24 @@ exists_both (some x) none b f = refl
 exists_both (some x) (some y) true f = refl
 exists_both (some x) (some y) false f = refl
 
+exists_when : {A : Type 0} (b : Bool) (a : A) → exists (when b a) ≡ b
+exists_when true a = refl
+exists_when false a = refl
+
 pub common_exists : (S : Security) (d : Direction) (s t : Ty) → exists (common S d s t) ≡ same_shape s t
 unfolding common same_shape
-common_exists S d (one k) (one l) = refl
-common_exists S d (one k) (node f l s t) = refl
-common_exists S d (node f k s t) (one l) = refl
+common_exists S d (leaf b k) (leaf b' l) = exists_when (same_leaf b b') _
+common_exists S d (leaf b k) (node f l s t) = refl
+common_exists S d (node f k s t) (leaf b l) = refl
 common_exists S d (node f k s t) (node f' l s' t') =
     rw (← common_exists S (leftward f d) s s', ← common_exists S d t t')
     (exists_both (common S (leftward f d) s s') (common S d t t') (same f f') (λ a b. node f (bound S d k l) a b))
 
 pub common_size : (S : Security) (d : Direction) (s t : Ty) {u : Ty} → common S d s t ≡ some u → size_t u ≡ size_t s
 unfolding common size_t
-common_size S d (one k) (one l) {u} e = rw (← some-injective _ u e)
-common_size S d (one k) (node f l s t) {u} e = absurd (none-ne-some u e)
-common_size S d (node f k s t) (one l) {u} e = absurd (none-ne-some u e)
+common_size S d (leaf b k) (leaf b' l) e = when_some (same_leaf b b') _ e λ x e1. rw (← e1)
+common_size S d (leaf b k) (node f l s t) {u} e = absurd (none-ne-some u e)
+common_size S d (node f k s t) (leaf b l) {u} e = absurd (none-ne-some u e)
 common_size S d (node f k s t) (node f' l s' t') e =
     bind_some (common S (leftward f d) s s') _ e λ a p e1.
     bind_some (common S d t t') _ e1 λ b q e2.

@@ -5,9 +5,10 @@ use mathlib.Core.List.{List, [], ◌∷◌}
 use mathlib.Core.Option.{some, some-injective, none-ne-some}
 use Prim.Native.Nat.{ℕ, suc, zero}
 use Rattle.calculus.specs.Security.{Property, Reader, Indirect, Security, Laws}
-use Rattle.calculus.specs.Types.{sum, product, function, Ty, one, node, top, raise_t, fits}
+use Rattle.calculus.specs.Types.{one, number, sum, product, function, Ty, leaf, node, top, raise_t, fits}
 use Rattle.calculus.specs.Subtyping.{Subtype, below, above}
-use Rattle.calculus.specs.Terms.{Side, choose, Term, var, unit, lam, pair, inj, app, proj, case, protect, mu}
+use Rattle.calculus.specs.Terms.{Side, choose, Operation, Term, var, unit, lam, pair, inj, app, proj, case, protect, mu, literal, reckon}
+use Rattle.calculus.specs.Numbers.{of_both, Reckons, a_number, a_flag}
 use Rattle.calculus.specs.Typing.{
   lookup,
   HasType,
@@ -22,6 +23,8 @@ use Rattle.calculus.specs.Typing.{
   t_case,
   t_protect,
   t_mu,
+  t_literal,
+  t_reckon,
   Result,
   Table,
   infer,
@@ -29,7 +32,7 @@ use Rattle.calculus.specs.Typing.{
 use Rattle.calculus.proofs.Sides.{choose_both}
 use Rattle.calculus.proofs.Directed.{
   Directed,
-  d_one,
+  d_leaf,
   d_node,
   directed_opposite,
   directed_refl,
@@ -39,7 +42,8 @@ use Rattle.calculus.proofs.Directed.{
 }
 use Rattle.calculus.proofs.Subtyping.{subtype_reflexive, subtype_fits}
 use Rattle.calculus.proofs.Raising.{raise_directed}
-use Rattle.calculus.proofs.Inferred.{Inferred, i_var, i_unit, i_lam, i_pair, i_inj, i_app, i_proj, i_case, i_protect, i_mu}
+use Rattle.calculus.proofs.Numbers.{of_both_mono}
+use Rattle.calculus.proofs.Inferred.{Inferred, i_var, i_unit, i_lam, i_pair, i_inj, i_app, i_proj, i_case, i_protect, i_mu, i_literal, i_reckon}
 use Rattle.calculus.proofs.Inference.{inferred_infer}
 use Rattle.calculus.proofs.Results.{result_least}
 use Rattle.calculus.proofs.SecureTyping.{SecureContext, sc_empty, sc_extend, table_parts}
@@ -70,8 +74,8 @@ module _ {S : Security} {tab : ℕ → Ty} (L : Laws S) (T : Table S tab) where
   var_below : {Γ Δ : List Ty} {t : Ty} (n : ℕ) → Narrower S Γ Δ → lookup Δ n ≡ some t → InferredBelow S tab Γ (var n) t
   var_below n N h = lookup_narrower n N h λ s e p. record { least = s; inferred = i_var e; below = subtype_directed L p }
 
-  unit_below : {Γ : List Ty} (k : Property) → So (S.secure k) → InferredBelow S tab Γ (unit k) (one k)
-  unit_below k h = record { least = one k; inferred = i_unit h; below = d_one (L.le_refl k h) }
+  unit_below : {Γ : List Ty} (k : Property) → So (S.secure k) → InferredBelow S tab Γ (unit k) (leaf one k)
+  unit_below k h = record { least = leaf one k; inferred = i_unit h; below = d_leaf (L.le_refl k h) }
 
   lam_below : {Γ : List Ty} {t : Ty} (k : Property) (i : ℕ) (e : Term) → So (S.secure k) → InferredBelow S tab (tab i ∷ Γ) e t
       → So (fits (node function k (tab i) t)) → InferredBelow S tab Γ (lam k i e) (node function k (tab i) t)
@@ -137,6 +141,22 @@ module _ {S : Security} {tab : ℕ → Ty} (L : Laws S) (T : Table S tab) where
       → So (S.absorbs k (S.caller k w) (top t)) → InferredBelow S tab (tab i ∷ Γ) e (tab i) → InferredBelow S tab Γ (mu w i e) (tab i)
   mu_below w i e m h x = record { least = tab i; inferred = i_mu e m h x.inferred x.below; below = directed_refl L below (tab i) (T.secure i) }
 
+  literal_below : {Γ : List Ty} (k : Property) (n : ℕ) → So (S.secure k) → InferredBelow S tab Γ (literal k n) (leaf number k)
+  literal_below k n h = record { least = leaf number k; inferred = i_literal h; below = d_leaf (L.le_refl k h) }
+
+  reckons_below : {o : Operation} {k k' : Property} {t : Ty} → So (S.le k' k) → Reckons tab o k t → (t' : Ty) × Reckons tab o k' t' × Directed S below t' t
+  reckons_below p a_number = (_, a_number, d_leaf p)
+  reckons_below p (a_flag {i = i} e) =
+      let x = table_parts T i e in
+      (_, a_flag e, d_node p (directed_refl L below _ x.left) (directed_refl L below _ x.right))
+
+  reckon_below : {Γ : List Ty} {o : Operation} {a b : Term} {k l : Property} {s t u : Ty} (w : Reader) → Inferred S tab Γ a s
+      → Directed S below s (leaf number k) → So (S.permits k w) → Inferred S tab Γ b t → Directed S below t (leaf number l) → So (S.permits l w)
+      → Reckons tab o (of_both S w k l) u → InferredBelow S tab Γ (reckon o w a b) u
+  reckon_below w p (d_leaf h) m q (d_leaf g) n x =
+      let y = reckons_below (of_both_mono L w _ _ _ _ h m g n) x in
+      record { least = y.0; inferred = i_reckon p (L.permits_mono _ _ w h m) q (L.permits_mono _ _ w g n) y.1; below = y.2 }
+
   extend_table : {Γ Δ : List Ty} (i : ℕ) → Narrower S Γ Δ → Narrower S (tab i ∷ Γ) (tab i ∷ Δ)
   extend_table i N = n_extend (subtype_reflexive L (tab i) (T.secure i)) N
 
@@ -158,6 +178,9 @@ module _ {S : Security} {tab : ℕ → Ty} (L : Laws S) (T : Table S tab) where
       (λ s z. typed_inferred {Γ = s ∷ Γ} q (n_extend (directed_subtype z) N)) (λ t z. typed_inferred {Γ = t ∷ Γ} q' (n_extend (directed_subtype z) N))
   typed_inferred {Γ = Γ} (t_protect {m = m} h p) N = protect_below m h (typed_inferred {Γ = Γ} p N)
   typed_inferred {Γ = Γ} (t_mu {w = w} {i = i} e m h p) N = mu_below w i e m h (typed_inferred {Γ = tab i ∷ Γ} p (extend_table i N))
+  typed_inferred {Γ = Γ} (t_literal {k = k} {n = n} h) N = literal_below k n h
+  typed_inferred {Γ = Γ} (t_reckon {w = w} p m q n x) N =
+      let y = typed_inferred {Γ = Γ} p N in let z = typed_inferred {Γ = Γ} q N in reckon_below w y.inferred y.below m z.inferred z.below n x
 
   same_context : {Γ : List Ty} → SecureContext S Γ → Narrower S Γ Γ
   same_context sc_empty = n_empty

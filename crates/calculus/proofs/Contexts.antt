@@ -16,6 +16,8 @@ use Rattle.calculus.specs.Reduction.{
   pair_right,
   in_protect,
   in_case,
+  reckon_left,
+  reckon_right,
   plug,
   Outcome,
   operand_first,
@@ -34,6 +36,8 @@ compose (pair_left k E b) F = pair_left k (compose E F) b
 compose (pair_right k v h E) F = pair_right k v h (compose E F)
 compose (in_protect m E) F = in_protect m (compose E F)
 compose (in_case w i E a b) F = in_case w i (compose E F) a b
+compose (reckon_left o w E b) F = reckon_left o w (compose E F) b
+compose (reckon_right o w v h E) F = reckon_right o w v h (compose E F)
 
 pub plug_compose : (E F : Context) (e : Term) → plug (compose E F) e ≡ plug E (plug F e)
 unfolding plug compose
@@ -46,6 +50,8 @@ plug_compose (pair_left k E b) F e = rw (plug_compose E F e)
 plug_compose (pair_right k v h E) F e = rw (plug_compose E F e)
 plug_compose (in_protect m E) F e = rw (plug_compose E F e)
 plug_compose (in_case w i E a b) F e = rw (plug_compose E F e)
+plug_compose (reckon_left o w E b) F e = rw (plug_compose E F e)
+plug_compose (reckon_right o w v h E) F e = rw (plug_compose E F e)
 
 module _ (S : Security) (tab : ℕ → Ty) where
   operand_plug : (f : Term → Term) (E : Context) (x y next : Outcome) → So (unfinished x) → y ≡ within (plug E) x
@@ -63,3 +69,5 @@ module _ (S : Security) (tab : ℕ → Ty) where
   plug_step (pair_right k v g E) e x h p = operand_value _ _ _ (value_step S tab v g) ∙ operand_plug _ E x _ _ h (plug_step E e x h p)
   plug_step (in_protect m E) e x h p = operand_plug _ E x _ _ h (plug_step E e x h p)
   plug_step (in_case w i E a b) e x h p = operand_plug _ E x _ _ h (plug_step E e x h p)
+  plug_step (reckon_left o w E b) e x h p = operand_plug _ E x _ _ h (plug_step E e x h p)
+  plug_step (reckon_right o w v g E) e x h p = operand_value _ _ _ (value_step S tab v g) ∙ operand_plug _ E x _ _ h (plug_step E e x h p)

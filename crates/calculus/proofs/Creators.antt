@@ -14,6 +14,7 @@ pub record Least (G : Groups) : Type 0 where
   pub leq : So (G.leq zero zero)
   pub join : G.join zero zero ≡ zero
   pub meet : (g : ℕ) → G.meet zero g ≡ zero
+  pub meet_with : (g : ℕ) → G.meet g zero ≡ zero
 
 also_true : (b : Bool) → (b && true) ≡ b
 also_true true = refl
@@ -30,6 +31,7 @@ module _ (G : Groups) (caller : Property → Reader → Reader) (tab : ℕ → T
     meet = λ k l. rw X.join;
     raise = λ k m. rw (X.meet zero);
     influence = λ k w. rw (X.meet w);
+    reckoning = λ w k l. rw (X.meet w, X.meet_with w, X.meet zero);
     caller = λ i w. refl;
     nothing = refl;
   }
@@ -45,6 +47,7 @@ module _ (G : Groups) (caller : Property → Reader → Reader) (tab : ℕ → T
     meet = λ k l. refl;
     raise = λ k m. refl;
     influence = λ k w. refl;
+    reckoning = λ w k l. refl;
     caller = λ i w. sym (unread (top (tab i)) w);
     nothing = refl;
   }

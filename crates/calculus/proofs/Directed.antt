@@ -1,13 +1,14 @@
 -- Table 2 without its rule of transitivity, as derivations that know their direction: one rule stands for every former.
 -- The relation and the test both agree with them, so every other proof goes by cases here.
-use mathlib.Core.Path.{◌≡◌, refl, ap}
+use mathlib.Core.Path.{◌≡◌, refl}
 use mathlib.Core.Bool.{So, false≢true}
 use Rattle.calculus.specs.Security.{Property, Security, Laws}
-use Rattle.calculus.specs.Types.{Former, sum, product, function, Ty, one, node, same, secure_t}
+use Rattle.calculus.specs.Types.{Leaf, one, number, Former, sum, product, function, Ty, leaf, node, same_leaf, same, secure_t}
 use Rattle.calculus.specs.Subtyping.{
   Subtype,
   s_trans,
   s_unit,
+  s_number,
   s_sum,
   s_product,
   s_function,
@@ -22,11 +23,21 @@ use Rattle.calculus.specs.Subtyping.{
 use Rattle.calculus.proofs.Booleans.{both, and_left, and_right}
 
 pub data Directed (S : Security) : Direction → Ty → Ty → Type 0 where
-  d_one : {d : Direction} {k l : Property} → So (le_toward S d k l) → Directed S d (one k) (one l)
+  d_leaf : {d : Direction} {b : Leaf} {k l : Property} → So (le_toward S d k l) → Directed S d (leaf b k) (leaf b l)
   d_node : {d : Direction} {f : Former} {k l : Property} {s t s' t' : Ty} → So (le_toward S d k l)
       → Directed S (leftward f d) s s' → Directed S d t t' → Directed S d (node f k s t) (node f l s' t')
 
 -- The test.
+
+pub same_leaf_refl : (b : Leaf) → So (same_leaf b b)
+same_leaf_refl one = refl
+same_leaf_refl number = refl
+
+pub same_leaf_eq : (b b' : Leaf) → So (same_leaf b b') → b ≡ b'
+same_leaf_eq one one h = refl
+same_leaf_eq one number h = absurd (false≢true h)
+same_leaf_eq number one h = absurd (false≢true h)
+same_leaf_eq number number h = refl
 
 pub same_refl : (f : Former) → So (same f f)
 same_refl sum = refl
@@ -46,14 +57,14 @@ same_eq function function h = refl
 
 pub directed_test : {S : Security} {d : Direction} {s t : Ty} → Directed S d s t → So (subtype S d s t)
 unfolding subtype
-directed_test (d_one h) = h
+directed_test (d_leaf {b = b} h) = both (same_leaf_refl b) h
 directed_test (d_node {f = f} h p q) = both (same_refl f) (both h (both (directed_test p) (directed_test q)))
 
 pub test_directed : {S : Security} (d : Direction) (s t : Ty) → So (subtype S d s t) → Directed S d s t
 unfolding subtype
-test_directed d (one k) (one l) h = d_one h
-test_directed d (one k) (node f l s t) h = absurd (false≢true h)
-test_directed d (node f k s t) (one l) h = absurd (false≢true h)
+test_directed d (leaf b k) (leaf b' l) h = rw (← same_leaf_eq b b' (and_left _ _ h)) (d_leaf (and_right (same_leaf b b') _ h))
+test_directed d (leaf b k) (node f l s t) h = absurd (false≢true h)
+test_directed d (node f k s t) (leaf b l) h = absurd (false≢true h)
 test_directed {S} d (node f k s t) (node g l s' t') h =
     let h1 = and_right (same f g) _ h in
     let h2 = and_right (le_toward S d k l) _ h1 in
@@ -73,7 +84,7 @@ leftward_opposite product d = refl
 leftward_opposite function d = refl
 
 pub directed_opposite : {S : Security} {d : Direction} {s t : Ty} → Directed S d s t → Directed S (opposite d) t s
-directed_opposite {S} (d_one {d = d} h) = d_one (le_opposite S d _ _ h)
+directed_opposite {S} (d_leaf {d = d} h) = d_leaf (le_opposite S d _ _ h)
 directed_opposite {S} (d_node {d = d} {f = f} h p q) =
     d_node (le_opposite S d _ _ h) (rw (leftward_opposite f d) at (directed_opposite p)) (directed_opposite q)
 
@@ -86,7 +97,7 @@ module _ {S : Security} (L : Laws S) where
 
   pub directed_refl : (d : Direction) (s : Ty) → So (secure_t S s) → Directed S d s s
   unfolding secure_t
-  directed_refl d (one k) h = d_one (le_refl d k h)
+  directed_refl d (leaf b k) h = d_leaf (le_refl d k h)
   directed_refl d (node f k s t) h =
       let h1 = and_right (S.secure k) _ h in
       d_node (le_refl d k (and_left _ _ h)) (directed_refl (leftward f d) s (and_left _ _ h1)) (directed_refl d t (and_right (secure_t S s) _ h1))
@@ -96,7 +107,7 @@ module _ {S : Security} (L : Laws S) where
   le_trans above k l m p q = L.le_trans m l k q p
 
   pub directed_trans : {d : Direction} {s t u : Ty} → Directed S d s t → Directed S d t u → Directed S d s u
-  directed_trans (d_one {d = d} p) (d_one q) = d_one (le_trans d _ _ _ p q)
+  directed_trans (d_leaf {d = d} p) (d_leaf q) = d_leaf (le_trans d _ _ _ p q)
   directed_trans (d_node {d = d} p a b) (d_node q a' b') = d_node (le_trans d _ _ _ p q) (directed_trans a a') (directed_trans b b')
 
   le_antisym : (d : Direction) (k l : Property) → So (le_toward S d k l) → So (le_toward S d l k) → k ≡ l
@@ -106,9 +117,10 @@ module _ {S : Security} (L : Laws S) where
   -- by the test, which reads the two formers apart
   test_antisym : (d : Direction) (s t : Ty) → So (subtype S d s t) → So (subtype S d t s) → s ≡ t
   unfolding subtype
-  test_antisym d (one k) (one l) p q = ap one (le_antisym d k l p q)
-  test_antisym d (one k) (node g l s' t') p q = absurd (false≢true p)
-  test_antisym d (node f k s t) (one l) p q = absurd (false≢true p)
+  test_antisym d (leaf b k) (leaf b' l) p q =
+      rw (same_leaf_eq b b' (and_left _ _ p), le_antisym d k l (and_right (same_leaf b b') _ p) (and_right (same_leaf b' b) _ q))
+  test_antisym d (leaf b k) (node g l s' t') p q = absurd (false≢true p)
+  test_antisym d (node f k s t) (leaf b l) p q = absurd (false≢true p)
   test_antisym d (node f k s t) (node g l s' t') p q =
       let e = same_eq f g (and_left _ _ p) in
       let p1 = and_right (same f g) _ p in
@@ -131,9 +143,11 @@ abbrev Toward : Security → Direction → Ty → Ty → Type 0
 Toward S below s t = Subtype S s t
 Toward S above s t = Subtype S t s
 
-toward_one : (S : Security) (d : Direction) (k l : Property) → So (le_toward S d k l) → Toward S d (one k) (one l)
-toward_one S below k l h = s_unit h
-toward_one S above k l h = s_unit h
+toward_leaf : (S : Security) (b : Leaf) (d : Direction) (k l : Property) → So (le_toward S d k l) → Toward S d (leaf b k) (leaf b l)
+toward_leaf S one below k l h = s_unit h
+toward_leaf S one above k l h = s_unit h
+toward_leaf S number below k l h = s_number h
+toward_leaf S number above k l h = s_number h
 
 toward_node : (S : Security) (f : Former) (d : Direction) (k l : Property) (s t s' t' : Ty) → So (le_toward S d k l)
     → Toward S (leftward f d) s s' → Toward S d t t' → Toward S d (node f k s t) (node f l s' t')
@@ -145,7 +159,7 @@ toward_node S function below k l s t s' t' h p q = s_function h p q
 toward_node S function above k l s t s' t' h p q = s_function h p q
 
 directed_toward : {S : Security} {d : Direction} {s t : Ty} → Directed S d s t → Toward S d s t
-directed_toward {S} (d_one {d = d} h) = toward_one S d _ _ h
+directed_toward {S} (d_leaf {d = d} {b = b} h) = toward_leaf S b d _ _ h
 directed_toward {S} (d_node {d = d} {f = f} h p q) = toward_node S f d _ _ _ _ _ _ h (directed_toward p) (directed_toward q)
 
 pub directed_subtype : {S : Security} {s t : Ty} → Directed S below s t → Subtype S s t
@@ -153,7 +167,8 @@ directed_subtype p = directed_toward p
 
 pub subtype_directed : {S : Security} (L : Laws S) {s t : Ty} → Subtype S s t → Directed S below s t
 subtype_directed L (s_trans p q) = directed_trans L (subtype_directed L p) (subtype_directed L q)
-subtype_directed L (s_unit h) = d_one h
+subtype_directed L (s_unit h) = d_leaf h
+subtype_directed L (s_number h) = d_leaf h
 subtype_directed L (s_sum h p q) = d_node h (subtype_directed L p) (subtype_directed L q)
 subtype_directed L (s_product h p q) = d_node h (subtype_directed L p) (subtype_directed L q)
 subtype_directed L (s_function h p q) = d_node h (directed_opposite (subtype_directed L p)) (subtype_directed L q)

@@ -8,24 +8,30 @@ use Rattle.calculus.specs.Types.{Ty}
 use Rattle.calculus.specs.Terms.{Term, is_value}
 use Rattle.calculus.specs.Reduction.{step}
 use Rattle.calculus.specs.Typing.{HasType, Table}
+use Rattle.calculus.specs.Numbers.{of_both}
 use Rattle.calculus.specs.Erasure.{public, no_influence, erased, erase_t, erase, erase_o}
 use Rattle.calculus.proofs.RelabelledTerms.{relabel_value}
 use Rattle.calculus.proofs.Relabelling.{Keeps, relabel_step}
 use Rattle.calculus.proofs.Reduction.{denied_step}
 use Rattle.calculus.proofs.Progress.{never_denied}
 
--- One group: raised by itself, read by itself and called by itself it stays itself, and it may read itself.
+-- One group: raised by itself, read by itself and called by itself it stays itself, what it makes starts with it, and it may read itself.
 pub record OneGroup (S : Security) : Type 0 where
   pub raise : S.raise public no_influence ≡ public
+  pub fresh : S.fresh zero ≡ public
   pub permits : So (S.permits public zero)
   pub influence : S.influence public zero ≡ no_influence
   pub caller : S.caller public zero ≡ zero
+
+reckoned_erased : (S : Security) → OneGroup S → of_both S zero public public ≡ public
+reckoned_erased S g = cc (g.fresh, g.influence, g.raise)
 
 erasure_keeps : (S S' : Security) (tab : ℕ → Ty) → OneGroup S' → Keeps erased S S' tab
 erasure_keeps S S' tab g = record {
   raise = λ k m. sym g.raise;
   permits = λ k w h. g.permits;
   influence = λ k w. sym g.influence;
+  reckoning = λ w k l. sym (reckoned_erased S' g);
   caller = λ i w. sym g.caller;
 }
 

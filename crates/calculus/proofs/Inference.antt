@@ -7,12 +7,14 @@ use Prim.Native.Nat.{ℕ}
 use Rattle.calculus.specs.Security.{Security}
 use Rattle.calculus.specs.Types.{sum, product, function, Ty, node, fits, parts}
 use Rattle.calculus.specs.Subtyping.{below, subtype}
-use Rattle.calculus.specs.Terms.{choose, Term, var, unit, lam, pair, inj, app, proj, case, protect, mu}
+use Rattle.calculus.specs.Terms.{choose, Term, var, unit, lam, pair, inj, app, proj, case, protect, mu, literal, reckon}
+use Rattle.calculus.specs.Numbers.{of_both, reckoned_type, number_of}
 use Rattle.calculus.specs.Typing.{result, recurs, infer}
 use Rattle.calculus.proofs.Booleans.{both, and_left, and_right}
 use Rattle.calculus.proofs.Directed.{directed_test, test_directed}
+use Rattle.calculus.proofs.Numbers.{number_some, reckons_type, type_reckons}
 use Rattle.calculus.proofs.Answers.{when_holds, bind_some, when_some, parts_some}
-use Rattle.calculus.proofs.Inferred.{Inferred, i_var, i_unit, i_lam, i_pair, i_inj, i_app, i_proj, i_case, i_protect, i_mu}
+use Rattle.calculus.proofs.Inferred.{Inferred, i_var, i_unit, i_lam, i_pair, i_inj, i_app, i_proj, i_case, i_protect, i_mu, i_literal, i_reckon}
 
 pub inferred_infer : {S : Security} {tab : ℕ → Ty} {Γ : List Ty} {e : Term} {t : Ty} → Inferred S tab Γ e t → infer S tab Γ e ≡ some t
 unfolding infer
@@ -26,6 +28,8 @@ inferred_infer (i_proj p m) = rw (inferred_infer p) (when_holds _ m)
 inferred_infer (i_case p m q q' x) = rw (inferred_infer p, inferred_infer q, inferred_infer q', x) (when_holds _ m)
 inferred_infer (i_protect h p) = rw (inferred_infer p) (when_holds _ h)
 inferred_infer (i_mu e m h p s) = rw (inferred_infer p, e) (when_holds _ (both (both m h) (rw e at (directed_test s))))
+inferred_infer (i_literal h) = when_holds _ h
+inferred_infer (i_reckon p m q n x) = rw (inferred_infer p, inferred_infer q, reckons_type x) (when_holds _ (both m n))
 
 pub infer_inferred : {S : Security} {tab : ℕ → Ty} {Γ : List Ty} (e : Term) (t : Ty) → infer S tab Γ e ≡ some t → Inferred S tab Γ e t
 unfolding infer
@@ -83,3 +87,17 @@ infer_inferred {S} {tab} {Γ} (mu w i b) t h =
     let y = and_left (recurs S z w) _ x in
     rw (← e) (i_mu i_is (and_left _ _ y) (and_right (S.permits z.own (S.caller z.own w)) _ y) (infer_inferred b s p)
     (test_directed below _ _ (and_right (recurs S z w) _ x)))
+infer_inferred {S} (literal k n) t h =
+    when_some (S.secure k) _ h λ x e.
+    rw (← e) (i_literal x)
+infer_inferred {S} {tab} {Γ} (reckon o w a b) t h =
+    bind_some (infer S tab Γ a) _ h λ s p h1.
+    bind_some (number_of s) _ h1 λ k y h2.
+    number_some s y λ s_is.
+    bind_some (infer S tab Γ b) _ h2 λ u q h3.
+    bind_some (number_of u) _ h3 λ l z h4.
+    number_some u z λ u_is.
+    bind_some (reckoned_type tab o (of_both S w k l)) _ h4 λ v r h5.
+    when_some (S.permits k w && S.permits l w) _ h5 λ x e.
+    rw (← e) (i_reckon (rw s_is at (infer_inferred {S = S} {tab = tab} {Γ = Γ} a s p)) (and_left _ _ x)
+    (rw u_is at (infer_inferred {S = S} {tab = tab} {Γ = Γ} b u q)) (and_right (S.permits k w) _ x) (type_reckons o r))

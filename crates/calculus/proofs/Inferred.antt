@@ -5,15 +5,16 @@ use mathlib.Core.List.{List, ◌∷◌}
 use mathlib.Core.Option.{some}
 use Prim.Native.Nat.{ℕ}
 use Rattle.calculus.specs.Security.{Property, Reader, Indirect, Security}
-use Rattle.calculus.specs.Types.{sum, product, function, Ty, one, node, top, raise_t, fits}
+use Rattle.calculus.specs.Types.{one, number, sum, product, function, Ty, leaf, node, top, raise_t, fits}
 use Rattle.calculus.specs.Subtyping.{below}
-use Rattle.calculus.specs.Terms.{Side, choose, Term, var, unit, lam, pair, inj, app, proj, case, protect, mu}
+use Rattle.calculus.specs.Terms.{Side, choose, Operation, Term, var, unit, lam, pair, inj, app, proj, case, protect, mu, literal, reckon}
+use Rattle.calculus.specs.Numbers.{of_both, Reckons}
 use Rattle.calculus.specs.Typing.{lookup, result}
 use Rattle.calculus.proofs.Directed.{Directed}
 
 pub data Inferred (S : Security) (tab : ℕ → Ty) : List Ty → Term → Ty → Type 0 where
   i_var : {Γ : List Ty} {n : ℕ} {t : Ty} → lookup Γ n ≡ some t → Inferred S tab Γ (var n) t
-  i_unit : {Γ : List Ty} {k : Property} → So (S.secure k) → Inferred S tab Γ (unit k) (one k)
+  i_unit : {Γ : List Ty} {k : Property} → So (S.secure k) → Inferred S tab Γ (unit k) (leaf one k)
   i_lam : {Γ : List Ty} {k : Property} {i : ℕ} {e : Term} {t : Ty} → So (S.secure k) → Inferred S tab (tab i ∷ Γ) e t
       → So (fits (node function k (tab i) t)) → Inferred S tab Γ (lam k i e) (node function k (tab i) t)
   i_pair : {Γ : List Ty} {k : Property} {a b : Term} {s t : Ty} → So (S.secure k) → Inferred S tab Γ a s → Inferred S tab Γ b t
@@ -31,3 +32,7 @@ pub data Inferred (S : Security) (tab : ℕ → Ty) : List Ty → Term → Ty �
       → Inferred S tab Γ (protect m e) (raise_t S t m)
   i_mu : {Γ : List Ty} {w : Reader} {i : ℕ} {e : Term} {k : Property} {s t u : Ty} → tab i ≡ node function k s t → So (S.permits k (S.caller k w))
       → So (S.absorbs k (S.caller k w) (top t)) → Inferred S tab (tab i ∷ Γ) e u → Directed S below u (tab i) → Inferred S tab Γ (mu w i e) (tab i)
+  i_literal : {Γ : List Ty} {k : Property} {n : ℕ} → So (S.secure k) → Inferred S tab Γ (literal k n) (leaf number k)
+  i_reckon : {Γ : List Ty} {o : Operation} {w : Reader} {a b : Term} {k l : Property} {t : Ty} → Inferred S tab Γ a (leaf number k)
+      → So (S.permits k w) → Inferred S tab Γ b (leaf number l) → So (S.permits l w) → Reckons tab o (of_both S w k l) t
+      → Inferred S tab Γ (reckon o w a b) t

@@ -5,13 +5,14 @@ pub mod Sides
 pub mod Directed
 pub mod Subtyping
 pub mod Raising
+pub mod Answers
+pub mod Numbers
 pub mod Outcomes
 pub mod Values
 pub mod Redexes
 pub mod Contexts
 pub mod Agreement
 pub mod Reduction
-pub mod Answers
 pub mod Common
 pub mod Inferred
 pub mod Inference
@@ -31,3 +32,4 @@ pub mod Relabelling
 pub mod Erasure
 pub mod RelabelledTypes
 pub mod Creators
+pub mod Examples

@@ -5,15 +5,17 @@ use mathlib.Core.List.{[], ◌∷◌}
 use mathlib.Core.Option.{some}
 use Prim.Native.Nat.{ℕ, zero}
 use Rattle.calculus.specs.Security.{Property, Reader, Indirect, Security, Laws}
-use Rattle.calculus.specs.Types.{Ty, top, raise_t}
+use Rattle.calculus.specs.Types.{one, Ty, leaf, top, raise_t}
 use Rattle.calculus.specs.Subtyping.{Subtype}
-use Rattle.calculus.specs.Terms.{Side, choose, Term, protect, is_value, subst, raise_value}
-use Rattle.calculus.specs.Reduction.{Contracts, c_app, c_proj, c_case, c_mu, c_protect, Reduces, moved, step}
-use Rattle.calculus.specs.Typing.{HasType, t_unit, t_lam, t_pair, t_protect, t_mu, Table, infer}
+use Rattle.calculus.specs.Terms.{Side, first, second, choose, Operation, Term, unit, protect, is_value, subst, raise_value}
+use Rattle.calculus.specs.Numbers.{side, compared, reckoned, Reckons, a_number, a_flag}
+use Rattle.calculus.specs.Reduction.{Contracts, c_app, c_proj, c_case, c_mu, c_reckon, c_protect, Reduces, moved, step}
+use Rattle.calculus.specs.Typing.{HasType, t_unit, t_lam, t_pair, t_inj, t_protect, t_mu, t_literal, Table, infer}
 use Rattle.calculus.proofs.Sides.{choose_both}
+use Rattle.calculus.proofs.Numbers.{of_both_secure}
 use Rattle.calculus.proofs.Raising.{raise_fits}
-use Rattle.calculus.proofs.Inferred.{Inferred, i_var, i_unit, i_lam, i_pair, i_inj, i_app, i_proj, i_case, i_protect, i_mu}
-use Rattle.calculus.proofs.SecureTyping.{sc_empty, sc_extend, side_secure, table_parts, typed_secure}
+use Rattle.calculus.proofs.Inferred.{Inferred, i_var, i_unit, i_lam, i_pair, i_inj, i_app, i_proj, i_case, i_protect, i_mu, i_literal, i_reckon}
+use Rattle.calculus.proofs.SecureTyping.{sc_empty, sc_extend, top_secure, side_secure, table_parts, typed_secure}
 use Rattle.calculus.proofs.Soundness.{subsumption, inj_typed, branches_typed, infer_sound}
 use Rattle.calculus.proofs.Completeness.{n_empty, typed_inferred, infer_complete}
 use Rattle.calculus.proofs.Substitution.{substitution}
@@ -44,6 +46,22 @@ module _ {S : Security} {tab : ℕ → Ty} (L : Laws S) (T : Table S tab) where
   raised_typed m g x (i_case q y r r' s) = absurd (false≢true x)
   raised_typed m g x (i_protect h q) = absurd (false≢true x)
   raised_typed m g x (i_mu e y h q s) = absurd (false≢true x)
+  raised_typed m g x (i_literal {k = k} h) = t_literal (L.raise_secure k m h g)
+  raised_typed m g x (i_reckon p y q z r) = absurd (false≢true x)
+
+  -- a unit with the groups of a side that is a unit
+  flag_typed : (d : Side) (p q : Property) → So (S.secure p) → So (S.secure q)
+      → HasType S tab [] (unit (top (choose d (leaf one p) (leaf one q)))) (choose d (leaf one p) (leaf one q))
+  flag_typed first p q h g = t_unit h
+  flag_typed second p q h g = t_unit g
+
+  reckoned_typed : {o : Operation} {k : Property} {t : Ty} (m n : ℕ) → So (S.secure k) → Reckons tab o k t → HasType S tab [] (reckoned tab o k m n) t
+  unfolding reckoned
+  reckoned_typed m n h a_number = t_literal h
+  reckoned_typed m n h (a_flag {i = i} {p = p} {q = q} e) =
+      let x = table_parts T i e in
+      let u = flag_typed (compared m n) p q (top_secure S _ x.left) (top_secure S _ x.right) in
+      t_inj {d = compared m n} h e (rw (← ap (λ (t : Ty). top (side (compared m n) t)) e) at u)
 
   -- lemma A.4
   contraction : {e e' : Term} {t : Ty} → Contracts S tab e e' → Inferred S tab [] e t → HasType S tab [] e' t
@@ -59,6 +77,8 @@ module _ {S : Security} {tab : ℕ → Ty} (L : Laws S) (T : Table S tab) where
   contraction (c_mu {i = i} x) (i_mu y m a p s) =
       let q = subsumption (bound_typed L T (tab i) (T.secure i) p) s (T.secure i) in
       rw (ap top (sym x ∙ y)) (substitution (unrolled_typed L T i y m a (t_mu y m a q)) [] q)
+  contraction (c_reckon {w = w} {k = k} {l = l} {m = m} {n = n} x y) (i_reckon (i_literal h) g (i_literal h') g' z) =
+      reckoned_typed m n (of_both_secure L w k l h g h' g') z
   contraction (c_protect {m = m} x) (i_protect h p) = raised_typed m h x p
 
   inferred_preservation : {e e' : Term} {t : Ty} → Inferred S tab [] e t → Reduces S tab e e' → HasType S tab [] e' t

@@ -5,8 +5,9 @@ use mathlib.Core.List.{List, []}
 use mathlib.Core.Option.{none-ne-some}
 use Prim.Native.Nat.{ℕ}
 use Rattle.calculus.specs.Security.{Security, Laws}
-use Rattle.calculus.specs.Types.{Former, sum, product, function, Ty, one, node, same, parts}
+use Rattle.calculus.specs.Types.{Former, sum, product, function, Ty, leaf, node, same, exists, parts}
 use Rattle.calculus.specs.Terms.{Term, is_value}
+use Rattle.calculus.specs.Numbers.{literal_of, number_of}
 use Rattle.calculus.specs.Reduction.{Reduces, Outcome, value, moved, denied, stuck, step}
 use Rattle.calculus.specs.Stuck.{
   built_by,
@@ -14,16 +15,19 @@ use Rattle.calculus.specs.Stuck.{
   denied_app,
   denied_proj,
   denied_case,
+  denied_reckon,
   Wrong,
   wrong_var,
   wrong_app,
   wrong_proj,
   wrong_case,
+  wrong_reckon,
   wrong_mu,
   At,
 }
 use Rattle.calculus.specs.Typing.{lookup, HasType, Table}
-use Rattle.calculus.proofs.Inferred.{Inferred, i_var, i_unit, i_lam, i_pair, i_inj, i_app, i_proj, i_case, i_protect, i_mu}
+use Rattle.calculus.proofs.Booleans.{both}
+use Rattle.calculus.proofs.Inferred.{Inferred, i_var, i_unit, i_lam, i_pair, i_inj, i_app, i_proj, i_case, i_protect, i_mu, i_literal, i_reckon}
 use Rattle.calculus.proofs.Completeness.{n_empty, typed_inferred}
 use Rattle.calculus.proofs.TypedContexts.{filled}
 use Rattle.calculus.proofs.Agreement.{Says, step_says}
@@ -31,7 +35,7 @@ use Rattle.calculus.proofs.Reduction.{step_denied, step_stuck}
 
 -- is the type of this form?
 abbrev formed : Former → Ty → Bool
-formed f (one k) = false
+formed f (leaf b k) = false
 formed f (node g k s t) = same f g
 
 -- Canonical forms: the kind of a value is the form of its type.
@@ -48,6 +52,25 @@ canonical_forms f x (i_proj p m) = absurd (false≢true x)
 canonical_forms f x (i_case p m q q' r) = absurd (false≢true x)
 canonical_forms f x (i_protect h p) = absurd (false≢true x)
 canonical_forms f x (i_mu e m h p s) = absurd (false≢true x)
+canonical_forms f x (i_literal h) = refl
+canonical_forms f x (i_reckon p m q n y) = absurd (false≢true x)
+
+-- and the literals are the values of a number's type
+pub canonical_numbers : {S : Security} {tab : ℕ → Ty} {Γ : List Ty} {v : Term} {t : Ty} → So (is_value v) → Inferred S tab Γ v t
+    → exists (literal_of v) ≡ exists (number_of t)
+unfolding is_value literal_of
+canonical_numbers x (i_var h) = absurd (false≢true x)
+canonical_numbers x (i_unit h) = refl
+canonical_numbers x (i_lam h p g) = refl
+canonical_numbers x (i_pair h p q g) = refl
+canonical_numbers x (i_inj h e p s) = refl
+canonical_numbers x (i_app p q s m) = absurd (false≢true x)
+canonical_numbers x (i_proj p m) = absurd (false≢true x)
+canonical_numbers x (i_case p m q q' r) = absurd (false≢true x)
+canonical_numbers x (i_protect h p) = absurd (false≢true x)
+canonical_numbers x (i_mu e m h p s) = absurd (false≢true x)
+canonical_numbers x (i_literal h) = refl
+canonical_numbers x (i_reckon p m q n y) = absurd (false≢true x)
 
 abbrev Untyped : Security → (ℕ → Ty) → (Term → Type 0) → Type 0
 Untyped S tab P = (e : Term) (t : Ty) → P e → Inferred S tab [] e t → ⊥
@@ -57,6 +80,7 @@ module _ {S : Security} {tab : ℕ → Ty} where
   denied_untyped (denied_app x g) (i_app (i_lam h p f) q s m) = false≢true (sym g ∙ m)
   denied_untyped (denied_proj x y g) (i_proj (i_pair h p q f) m) = false≢true (sym g ∙ m)
   denied_untyped (denied_case x g) (i_case (i_inj h e p z) m q q' r) = false≢true (sym g ∙ m)
+  denied_untyped (denied_reckon g) (i_reckon (i_literal h) m (i_literal h') n y) = false≢true (sym g ∙ both m n)
 
   wrong_untyped : {e : Term} {t : Ty} → Wrong tab e → Inferred S tab [] e t → ⊥
   unfolding lookup
@@ -64,6 +88,7 @@ module _ {S : Security} {tab : ℕ → Ty} where
   wrong_untyped (wrong_app x y g) (i_app p q s m) = false≢true (sym g ∙ canonical_forms function x p)
   wrong_untyped (wrong_proj x g) (i_proj p m) = false≢true (sym g ∙ canonical_forms product x p)
   wrong_untyped (wrong_case x g) (i_case p m q q' r) = false≢true (sym g ∙ canonical_forms sum x p)
+  wrong_untyped (wrong_reckon x y g) (i_reckon p m q n z) = false≢true (sym g ∙ both (canonical_numbers x p) (canonical_numbers y q))
   wrong_untyped (wrong_mu g) (i_mu e m h p s) = none-ne-some _ (sym g ∙ ap (parts function) e)
 
   module _ (L : Laws S) (T : Table S tab) where

@@ -89,6 +89,9 @@ module _ {G : Groups} (X : Lattice G) where
           c = meet_comm X k.c m.ic n.ic c (ic_group m x) (ic_group n y) i;
           ic = meet_comm X k.ic m.ic n.ic d (ic_group m x) (ic_group n y) i;
         };
+    fresh_secure = λ k w m.
+        let g = X.self_right _ _ m in
+        both (X.self_left _ _ (X.bottom _ g)) g;
     permits_mono = λ k l w p q. le_parts k l p λ a b c d. X.trans _ _ _ a q;
     influence_mono = λ k l w p q. le_parts k l p λ a b c d. both b (meet_mono X _ _ _ _ d (X.self_right _ _ q));
     influence_secure = λ k w h q.

@@ -1,17 +1,19 @@
 -- What the step function does at the position that reduces next: table 1, a reading denied, or a wrong kind, and the three exclude one another.
 use mathlib.Core.Path.{◌≡◌, refl, sym, ap, ◌∙◌}
-use mathlib.Core.Bool.{Bool, true, false, So, true≢false}
-use mathlib.Core.Option.{none-ne-some}
+use mathlib.Core.Bool.{Bool, true, false, ◌&&◌, So, true≢false}
+use mathlib.Core.Option.{Option, none, some, none-ne-some}
 use Prim.Native.Nat.{ℕ}
 use Rattle.calculus.specs.Security.{Property, Reader, Security}
-use Rattle.calculus.specs.Types.{sum, product, function, Ty, one, node, parts}
-use Rattle.calculus.specs.Terms.{Side, Term, var, unit, lam, pair, inj, app, proj, case, protect, mu, is_value}
+use Rattle.calculus.specs.Types.{sum, product, function, Ty, leaf, node, parts}
+use Rattle.calculus.specs.Terms.{Side, Operation, Term, var, unit, lam, pair, inj, app, proj, case, protect, mu, literal, reckon, is_value}
+use Rattle.calculus.specs.Numbers.{Literal, literal_of}
 use Rattle.calculus.specs.Reduction.{
   Contracts,
   c_app,
   c_proj,
   c_case,
   c_mu,
+  c_reckon,
   c_protect,
   Outcome,
   moved,
@@ -23,6 +25,7 @@ use Rattle.calculus.specs.Reduction.{
   project,
   branch,
   unroll,
+  calculate,
   step,
 }
 use Rattle.calculus.specs.Stuck.{
@@ -31,14 +34,17 @@ use Rattle.calculus.specs.Stuck.{
   denied_app,
   denied_proj,
   denied_case,
+  denied_reckon,
   Wrong,
   wrong_var,
   wrong_app,
   wrong_proj,
   wrong_case,
+  wrong_reckon,
   wrong_mu,
 }
 use Rattle.calculus.proofs.Booleans.{and_left, and_right}
+use Rattle.calculus.proofs.Numbers.{literal_some}
 use Rattle.calculus.proofs.Outcomes.{unfinished}
 use Rattle.calculus.proofs.Values.{value_step}
 
@@ -70,6 +76,8 @@ module _ (S : Security) (tab : ℕ → Ty) where
   apply_redex w (case u i e a b) v h g = sticking (wrong_app h g refl)
   apply_redex w (protect m e) v h g = sticking (wrong_app h g refl)
   apply_redex w (mu u i e) v h g = sticking (wrong_app h g refl)
+  apply_redex w (literal k n) v h g = sticking (wrong_app h g refl)
+  apply_redex w (reckon o u a b) v h g = sticking (wrong_app h g refl)
 
   pair_values : (k : Property) (a b : Term) → So (is_value (pair k a b)) → So (is_value a) × So (is_value b)
   unfolding is_value
@@ -88,6 +96,8 @@ module _ (S : Security) (tab : ℕ → Ty) where
   project_redex d w (case u i e a b) h = sticking (wrong_proj h refl)
   project_redex d w (protect m e) h = sticking (wrong_proj h refl)
   project_redex d w (mu u i e) h = sticking (wrong_proj h refl)
+  project_redex d w (literal k n) h = sticking (wrong_proj h refl)
+  project_redex d w (reckon o u a b) h = sticking (wrong_proj h refl)
 
   inj_value : (d : Side) (k : Property) (i : ℕ) (e : Term) → So (is_value (inj d k i e)) → So (is_value e)
   unfolding is_value
@@ -105,29 +115,45 @@ module _ (S : Security) (tab : ℕ → Ty) where
   branch_redex w j (case u i e f g) a b h = sticking (wrong_case h refl)
   branch_redex w j (protect m e) a b h = sticking (wrong_case h refl)
   branch_redex w j (mu u i e) a b h = sticking (wrong_case h refl)
+  branch_redex w j (literal k n) a b h = sticking (wrong_case h refl)
+  branch_redex w j (reckon o u e f) a b h = sticking (wrong_case h refl)
 
   pub unroll_redex : (w : Reader) (i : ℕ) (e : Term) (t : Ty) → tab i ≡ t → Redex S tab (mu w i e) (unroll S w i e t)
   unfolding unroll
-  unroll_redex w i e (one k) h = sticking (wrong_mu (ap (parts function) h))
+  unroll_redex w i e (leaf b k) h = sticking (wrong_mu (ap (parts function) h))
   unroll_redex w i e (node sum k s t) h = sticking (wrong_mu (ap (parts function) h))
   unroll_redex w i e (node product k s t) h = sticking (wrong_mu (ap (parts function) h))
   unroll_redex w i e (node function k s t) h = contracting (c_mu h)
 
+  pub calculate_redex : (o : Operation) (w : Reader) (a b : Term) (x y : Option Literal) → So (is_value a) → So (is_value b) → literal_of a ≡ x → literal_of b ≡ y
+      → Redex S tab (reckon o w a b) (calculate S tab o w x y)
+  unfolding calculate
+  calculate_redex o w a b none y h g p q = sticking (wrong_reckon h g (rw p))
+  calculate_redex o w a b (some x) none h g p q = sticking (wrong_reckon h g (rw (p, q)))
+  calculate_redex o w a b (some x) (some y) h g p q =
+      literal_some a p λ a_is.
+      literal_some b q λ b_is.
+      rw (a_is, b_is)
+      (reading_redex (S.permits x.own w && S.permits y.own w)
+      (λ z. c_reckon (and_left _ _ z) (and_right (S.permits x.own w) _ z)) denied_reckon)
+
   -- Where the kind is wrong, the outcome is no other.
 
   wrong_contracts : {e e' : Term} → Contracts S tab e e' → Wrong tab e → ⊥
-  unfolding built_by
+  unfolding built_by literal_of
   wrong_contracts (c_app x g) (wrong_app v u h) = true≢false h
   wrong_contracts (c_proj x y g) (wrong_proj v h) = true≢false h
   wrong_contracts (c_case x g) (wrong_case v h) = true≢false h
+  wrong_contracts (c_reckon x y) (wrong_reckon v u h) = true≢false h
   wrong_contracts (c_mu x) (wrong_mu h) = none-ne-some _ (sym h ∙ ap (parts function) x)
   wrong_contracts (c_protect _) w = elim w [ ]
 
   wrong_denied : {e : Term} → Denied S e → Wrong tab e → ⊥
-  unfolding built_by
+  unfolding built_by literal_of
   wrong_denied (denied_app x g) (wrong_app v u h) = true≢false h
   wrong_denied (denied_proj x y g) (wrong_proj v h) = true≢false h
   wrong_denied (denied_case x g) (wrong_case v h) = true≢false h
+  wrong_denied (denied_reckon g) (wrong_reckon v u h) = true≢false h
 
   wrong_stuck : {e : Term} {x : Outcome} → Redex S tab e x → Wrong tab e → x ≡ stuck
   wrong_stuck (contracting c) w = absurd (wrong_contracts c w)
@@ -135,18 +161,20 @@ module _ (S : Security) (tab : ℕ → Ty) where
   wrong_stuck (sticking v) w = refl
 
   contracts_step : {e e' : Term} → Contracts S tab e e' → step S tab e ≡ moved e'
-  unfolding step operand_first apply project branch unroll reading
+  unfolding step operand_first apply project branch unroll calculate literal_of reading
   contracts_step (c_app {v = v} x g) = rw (value_step S tab v x, g)
   contracts_step (c_proj {v = v} {v' = v'} x y g) = rw (value_step S tab v x, value_step S tab v' y, g)
   contracts_step (c_case {v = v} x g) = rw (value_step S tab v x, g)
   contracts_step (c_mu x) = rw x
+  contracts_step (c_reckon x y) = rw (x, y)
   contracts_step (c_protect {v = v} x) = rw (value_step S tab v x)
 
   denied_step : {e : Term} → Denied S e → step S tab e ≡ denied
-  unfolding step operand_first apply project branch reading
+  unfolding step operand_first apply project branch calculate literal_of reading
   denied_step (denied_app {v = v} x g) = rw (value_step S tab v x, g)
   denied_step (denied_proj {v = v} {v' = v'} x y g) = rw (value_step S tab v x, value_step S tab v' y, g)
   denied_step (denied_case {v = v} x g) = rw (value_step S tab v x, g)
+  denied_step (denied_reckon g) = rw g
 
   wrong_step : {e : Term} → Wrong tab e → step S tab e ≡ stuck
   unfolding step operand_first
@@ -156,6 +184,9 @@ module _ (S : Security) (tab : ℕ → Ty) where
   wrong_step (wrong_proj {d = d} {w = w} {v = v} x h) = rw (value_step S tab v x) (wrong_stuck (project_redex d w v x) (wrong_proj x h))
   wrong_step (wrong_case {w = w} {i = i} {v = v} {a = a} {b = b} x h) =
       rw (value_step S tab v x) (wrong_stuck (branch_redex w i v a b x) (wrong_case x h))
+  wrong_step (wrong_reckon {o = o} {w = w} {a = a} {b = b} x y h) =
+      rw (value_step S tab a x, value_step S tab b y)
+      (wrong_stuck (calculate_redex o w a b (literal_of a) (literal_of b) x y refl refl) (wrong_reckon x y h))
   wrong_step (wrong_mu {w = w} {i = i} {e = e} h) = wrong_stuck (unroll_redex w i e (tab i) refl) (wrong_mu h)
 
   pub redex_step : {e : Term} {x : Outcome} → Redex S tab e x → step S tab e ≡ x

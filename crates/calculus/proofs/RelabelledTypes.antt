@@ -4,10 +4,11 @@ use mathlib.Core.Bool.{Bool, true, false}
 use mathlib.Core.Option.{Option, none, some}
 use Prim.Native.Nat.{ℕ}
 use Rattle.calculus.specs.Security.{Property, Reader, Indirect, Security}
-use Rattle.calculus.specs.Types.{Former, Ty, one, node, top, same, raise_t, size_t, when, ◌>>=◌}
+use Rattle.calculus.specs.Types.{Leaf, Former, Ty, leaf, node, top, same_leaf, same, raise_t, size_t, when, ◌>>=◌}
 use Rattle.calculus.specs.Subtyping.{Direction, below, above, leftward, le_toward, subtype}
 use Rattle.calculus.specs.Common.{bound, common}
 use Rattle.calculus.specs.Terms.{Term}
+use Rattle.calculus.specs.Numbers.{of_both}
 use Rattle.calculus.specs.Reduction.{step}
 use Rattle.calculus.specs.Relabelling.{Labels, relabel_t, relabel, relabel_o}
 use Rattle.calculus.specs.Erasure.{public}
@@ -22,23 +23,24 @@ pub record Agrees (R : Labels) (S S' : Security) (tab : ℕ → Ty) : Type 0 whe
   pub meet : (k l : Property) → R.property (S.meet k l) ≡ S'.meet (R.property k) (R.property l)
   pub raise : (k : Property) (m : Indirect) → R.property (S.raise k m) ≡ S'.raise (R.property k) (R.indirect m)
   pub influence : (k : Property) (w : Reader) → R.indirect (S.influence k w) ≡ S'.influence (R.property k) (R.reader w)
+  pub reckoning : (w : Reader) (k l : Property) → R.property (of_both S w k l) ≡ of_both S' (R.reader w) (R.property k) (R.property l)
   pub caller : (i : ℕ) (w : Reader) → R.reader (S.caller (top (tab i)) w) ≡ S'.caller (R.property (top (tab i))) (R.recursion i w)
   pub nothing : R.property public ≡ public
 
-pub relabel_top : (R : Labels) (t : Ty) → top (relabel_t R t) ≡ R.property (top t)
-unfolding relabel_t
-relabel_top R (one k) = refl
-relabel_top R (node f k s t) = refl
-
 pub relabel_size_t : (R : Labels) (t : Ty) → size_t (relabel_t R t) ≡ size_t t
 unfolding size_t relabel_t
-relabel_size_t R (one k) = refl
+relabel_size_t R (leaf b k) = refl
 relabel_size_t R (node f k s t) = rw (relabel_size_t R s, relabel_size_t R t)
 
 -- the relabelled type, if there is one
 abbrev pub relabel_found : Labels → Option Ty → Option Ty
 relabel_found R none = none
 relabel_found R (some t) = some (relabel_t R t)
+
+leaf_found : (R : Labels) (b : Leaf) (x : Bool) (k : Property) → when x (leaf b (R.property k)) ≡ relabel_found R (when x (leaf b k))
+unfolding relabel_t
+leaf_found R b true k = refl
+leaf_found R b false k = refl
 
 both_found : (R : Labels) (f : Former) (b : Bool) (k : Property) (x y : Option Ty)
     → ◌>>=◌ (relabel_found R x) (λ s. ◌>>=◌ (relabel_found R y) (λ t. when b (node f (R.property k) s t)))
@@ -56,14 +58,14 @@ module _ {R : Labels} {S S' : Security} {tab : ℕ → Ty} (agrees : Agrees R S 
 
   pub relabel_subtype : (d : Direction) (s t : Ty) → subtype S' d (relabel_t R s) (relabel_t R t) ≡ subtype S d s t
   unfolding subtype relabel_t
-  relabel_subtype d (one k) (one l) = relabel_le d k l
-  relabel_subtype d (one k) (node f l s t) = refl
-  relabel_subtype d (node f k s t) (one l) = refl
+  relabel_subtype d (leaf b k) (leaf b' l) = rw (relabel_le d k l)
+  relabel_subtype d (leaf b k) (node f l s t) = refl
+  relabel_subtype d (node f k s t) (leaf b l) = refl
   relabel_subtype d (node f k s t) (node g l s' t') = rw (relabel_le d k l, relabel_subtype (leftward f d) s s', relabel_subtype d t t')
 
   pub relabel_raise_t : (t : Ty) (m : Indirect) → raise_t S' (relabel_t R t) (R.indirect m) ≡ relabel_t R (raise_t S t m)
   unfolding relabel_t
-  relabel_raise_t (one k) m = rw (agrees.raise k m)
+  relabel_raise_t (leaf b k) m = rw (agrees.raise k m)
   relabel_raise_t (node f k s t) m = rw (agrees.raise k m)
 
   relabel_bound : (d : Direction) (k l : Property) → bound S' d (R.property k) (R.property l) ≡ R.property (bound S d k l)
@@ -72,9 +74,9 @@ module _ {R : Labels} {S S' : Security} {tab : ℕ → Ty} (agrees : Agrees R S 
 
   pub relabel_common : (d : Direction) (s t : Ty) → common S' d (relabel_t R s) (relabel_t R t) ≡ relabel_found R (common S d s t)
   unfolding common relabel_t
-  relabel_common d (one k) (one l) = rw (relabel_bound d k l)
-  relabel_common d (one k) (node f l s t) = refl
-  relabel_common d (node f k s t) (one l) = refl
+  relabel_common d (leaf b k) (leaf b' l) = rw (relabel_bound d k l) (leaf_found R b (same_leaf b b') (bound S d k l))
+  relabel_common d (leaf b k) (node f l s t) = refl
+  relabel_common d (node f k s t) (leaf b l) = refl
   relabel_common d (node f k s t) (node g l s' t') =
       rw (relabel_bound d k l, relabel_common (leftward f d) s s', relabel_common d t t')
       (both_found R f (same f g) (bound S d k l) (common S (leftward f d) s s') (common S d t t'))
@@ -84,6 +86,7 @@ module _ {R : Labels} {S S' : Security} {tab : ℕ → Ty} (agrees : Agrees R S 
     raise = agrees.raise;
     permits = λ k w h. rw (agrees.permits k w) h;
     influence = agrees.influence;
+    reckoning = agrees.reckoning;
     caller = agrees.caller;
   }
 

@@ -5,11 +5,13 @@ use mathlib.Core.List.{List, [], ◌∷◌}
 use mathlib.Core.Option.{some, some-injective, none-ne-some}
 use Prim.Native.Nat.{ℕ, suc, zero}
 use Rattle.calculus.specs.Security.{Property, Reader, Security, Laws}
-use Rattle.calculus.specs.Types.{Former, Ty, one, node, top, raise_t, secure_t}
-use Rattle.calculus.specs.Terms.{Side, choose, Term}
-use Rattle.calculus.specs.Typing.{lookup, HasType, t_sub, t_var, t_unit, t_lam, t_pair, t_inj, t_app, t_proj, t_case, t_protect, t_mu, Table}
+use Rattle.calculus.specs.Types.{Leaf, Former, Ty, leaf, node, top, raise_t, secure_t}
+use Rattle.calculus.specs.Terms.{Side, choose, Operation, Term}
+use Rattle.calculus.specs.Numbers.{Reckons, a_number, a_flag}
+use Rattle.calculus.specs.Typing.{lookup, HasType, t_sub, t_var, t_unit, t_lam, t_pair, t_inj, t_app, t_proj, t_case, t_protect, t_mu, t_literal, t_reckon, Table}
 use Rattle.calculus.proofs.Booleans.{both, and_left, and_right}
 use Rattle.calculus.proofs.Sides.{choose_each}
+use Rattle.calculus.proofs.Numbers.{of_both_secure}
 use Rattle.calculus.proofs.Raising.{raise_secure}
 
 pub data SecureContext (S : Security) : List Ty → Type 0 where
@@ -36,15 +38,15 @@ secure_parts S f k s t h =
 
 pub top_secure : (S : Security) (t : Ty) → So (secure_t S t) → So (S.secure (top t))
 unfolding secure_t
-top_secure S (one k) h = h
+top_secure S (leaf b k) h = h
 top_secure S (node f k s t) h = and_left _ _ h
 
 pub side_secure : {S : Security} {k : Property} {s t : Ty} (d : Side) → SecureParts S k s t → So (secure_t S (choose d s t))
 side_secure {S} d x = choose_each (λ u. So (secure_t S u)) d x.left x.right
 
-secure_one : (S : Security) (k : Property) → So (S.secure k) → So (secure_t S (one k))
+secure_leaf : (S : Security) (b : Leaf) (k : Property) → So (S.secure k) → So (secure_t S (leaf b k))
 unfolding secure_t
-secure_one S k h = h
+secure_leaf S b k h = h
 
 secure_node : (S : Security) (f : Former) (k : Property) (s t : Ty) → So (S.secure k) → So (secure_t S s) → So (secure_t S t)
     → So (secure_t S (node f k s t))
@@ -61,10 +63,14 @@ module _ {S : Security} {tab : ℕ → Ty} (L : Laws S) (T : Table S tab) where
       → So (secure_t S (raise_t S t (S.influence k w)))
   read_secure k w t h m g = raise_secure L t _ g (L.influence_secure k w h m)
 
+  reckons_secure : {o : Operation} {k : Property} {t : Ty} → So (S.secure k) → Reckons tab o k t → So (secure_t S t)
+  reckons_secure h a_number = secure_leaf S _ _ h
+  reckons_secure h (a_flag {i = i} e) = let x = table_parts T i e in secure_node S _ _ _ _ h x.left x.right
+
   pub typed_secure : {Γ : List Ty} {e : Term} {t : Ty} → SecureContext S Γ → HasType S tab Γ e t → So (secure_t S t)
   typed_secure C (t_sub p b h) = h
   typed_secure C (t_var {n = n} h) = lookup_secure n C h
-  typed_secure C (t_unit h) = secure_one S _ h
+  typed_secure C (t_unit h) = secure_leaf S _ _ h
   typed_secure C (t_lam {i = i} h p f) = secure_node S _ _ _ _ h (T.secure i) (typed_secure (sc_extend (T.secure i) C) p)
   typed_secure C (t_pair h p q f) = secure_node S _ _ _ _ h (typed_secure C p) (typed_secure C q)
   typed_secure C (t_inj {i = i} h e p) = let x = table_parts T i e in secure_node S _ _ _ _ h x.left x.right
@@ -75,3 +81,6 @@ module _ {S : Security} {tab : ℕ → Ty} (L : Laws S) (T : Table S tab) where
       let x = secure_parts S _ _ _ _ (typed_secure C p) in read_secure _ w _ x.own m (typed_secure (sc_extend x.left C) q)
   typed_secure C (t_protect h p) = raise_secure L _ _ (typed_secure C p) h
   typed_secure C (t_mu {i = i} e m h p) = T.secure i
+  typed_secure C (t_literal h) = secure_leaf S _ _ h
+  typed_secure C (t_reckon {w = w} {k = k} {l = l} p m q n x) =
+      reckons_secure (of_both_secure L w k l (top_secure S _ (typed_secure C p)) m (top_secure S _ (typed_secure C q)) n) x

@@ -8,9 +8,9 @@ use Rattle.calculus.specs.Security.{Property, Reader, Security, Laws}
 use Rattle.calculus.specs.Types.{sum, function, Ty, node, raise_t, secure_t}
 use Rattle.calculus.specs.Subtyping.{below}
 use Rattle.calculus.specs.Terms.{Side, choose, Term, inj, app, case}
-use Rattle.calculus.specs.Typing.{HasType, t_sub, t_var, t_unit, t_lam, t_pair, t_inj, t_app, t_proj, t_case, t_protect, t_mu, Table, Result, result, infer}
+use Rattle.calculus.specs.Typing.{HasType, t_sub, t_var, t_unit, t_lam, t_pair, t_inj, t_app, t_proj, t_case, t_protect, t_mu, t_literal, t_reckon, Table, Result, result, infer}
 use Rattle.calculus.proofs.Directed.{Directed, directed_subtype}
-use Rattle.calculus.proofs.Inferred.{Inferred, i_var, i_unit, i_lam, i_pair, i_inj, i_app, i_proj, i_case, i_protect, i_mu}
+use Rattle.calculus.proofs.Inferred.{Inferred, i_var, i_unit, i_lam, i_pair, i_inj, i_app, i_proj, i_case, i_protect, i_mu, i_literal, i_reckon}
 use Rattle.calculus.proofs.Inference.{infer_inferred}
 use Rattle.calculus.proofs.Results.{result_bound}
 use Rattle.calculus.proofs.SecureTyping.{SecureContext, sc_extend, secure_parts, side_secure, table_parts, typed_secure}
@@ -59,6 +59,8 @@ module _ {S : Security} {tab : ℕ → Ty} (L : Laws S) (T : Table S tab) where
       case_typed C e m (inferred_typed (sc_extend x.left C) q) (inferred_typed (sc_extend x.right C) q') y
   inferred_typed C (i_protect h p) = t_protect h (inferred_typed C p)
   inferred_typed C (i_mu {i = i} e m h p s) = t_mu e m h (subsumption (inferred_typed (sc_extend (T.secure i) C) p) s (T.secure i))
+  inferred_typed C (i_literal h) = t_literal h
+  inferred_typed C (i_reckon p m q n x) = t_reckon (inferred_typed C p) m (inferred_typed C q) n x
 
   pub infer_sound : {Γ : List Ty} (e : Term) (t : Ty) → SecureContext S Γ → infer S tab Γ e ≡ some t → HasType S tab Γ e t
   infer_sound e t C h = inferred_typed C (infer_inferred e t h)

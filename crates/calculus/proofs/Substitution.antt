@@ -9,7 +9,7 @@ use lib.Dec.{eqb, eqb-zero-suc, eqb-suc-suc}
 use Rattle.calculus.specs.Security.{Security}
 use Rattle.calculus.specs.Types.{Ty}
 use Rattle.calculus.specs.Terms.{Term, var, subst}
-use Rattle.calculus.specs.Typing.{lookup, HasType, t_sub, t_var, t_unit, t_lam, t_pair, t_inj, t_app, t_proj, t_case, t_protect, t_mu}
+use Rattle.calculus.specs.Typing.{lookup, HasType, t_sub, t_var, t_unit, t_lam, t_pair, t_inj, t_app, t_proj, t_case, t_protect, t_mu, t_literal, t_reckon}
 use Rattle.calculus.proofs.Weakening.{weakening}
 
 -- a variable is the outermost one, or one of the others
@@ -43,6 +43,8 @@ module _ {S : Security} {tab : ℕ → Ty} {v : Term} {s : Ty} (hv : HasType S t
       (substitution_in (a ∷ Δ) q (ap (λ Γ. a ∷ Γ) E)) (substitution_in (b ∷ Δ) q' (ap (λ Γ. b ∷ Γ) E))
   substitution_in Δ (t_protect h p) E = t_protect h (substitution_in Δ p E)
   substitution_in Δ (t_mu {i = i} e m h p) E = t_mu e m h (substitution_in (tab i ∷ Δ) p (ap (λ Γ. tab i ∷ Γ) E))
+  substitution_in Δ (t_literal h) E = t_literal h
+  substitution_in Δ (t_reckon p m q n x) E = t_reckon (substitution_in Δ p E) m (substitution_in Δ q E) n x
 
   pub substitution : (Δ : List Ty) {e : Term} {t : Ty} → HasType S tab (Δ ++ (s ∷ [])) e t → HasType S tab Δ (subst (length Δ) v e) t
   substitution Δ p = substitution_in Δ p refl

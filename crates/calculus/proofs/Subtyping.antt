@@ -3,7 +3,7 @@ use mathlib.Core.Path.{◌≡◌, refl, ap, ◌∙◌}
 use mathlib.Core.Bool.{So}
 use Rattle.calculus.specs.Security.{Security, Laws}
 use Rattle.calculus.specs.Types.{Ty, secure_t, size_t, fits, type_limit}
-use Rattle.calculus.specs.Subtyping.{Subtype, s_trans, s_unit, s_sum, s_product, s_function, Direction, below, opposite, subtype}
+use Rattle.calculus.specs.Subtyping.{Subtype, s_trans, s_unit, s_number, s_sum, s_product, s_function, Direction, below, opposite, subtype}
 use Rattle.calculus.proofs.Directed.{
   directed_test,
   test_directed,
@@ -27,6 +27,7 @@ pub subtype_size : {S : Security} {s t : Ty} → Subtype S s t → size_t s ≡ 
 unfolding size_t
 subtype_size (s_trans p q) = subtype_size p ∙ subtype_size q
 subtype_size (s_unit h) = refl
+subtype_size (s_number h) = refl
 subtype_size (s_sum h p q) = rw (subtype_size p, subtype_size q)
 subtype_size (s_product h p q) = rw (subtype_size p, subtype_size q)
 subtype_size (s_function h p q) = rw (subtype_size p, subtype_size q)

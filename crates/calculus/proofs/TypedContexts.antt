@@ -5,9 +5,9 @@ use Prim.Native.Nat.{ℕ}
 use Rattle.calculus.specs.Security.{Security, Laws}
 use Rattle.calculus.specs.Types.{Ty, secure_t}
 use Rattle.calculus.specs.Terms.{Term}
-use Rattle.calculus.specs.Reduction.{Context, hole, app_left, app_right, in_proj, in_inj, pair_left, pair_right, in_protect, in_case, plug}
-use Rattle.calculus.specs.Typing.{HasType, t_pair, t_proj, t_protect, Table}
-use Rattle.calculus.proofs.Inferred.{Inferred, i_pair, i_inj, i_app, i_proj, i_case, i_protect}
+use Rattle.calculus.specs.Reduction.{Context, hole, app_left, app_right, in_proj, in_inj, pair_left, pair_right, in_protect, in_case, reckon_left, reckon_right, plug}
+use Rattle.calculus.specs.Typing.{HasType, t_pair, t_proj, t_protect, t_reckon, Table}
+use Rattle.calculus.proofs.Inferred.{Inferred, i_pair, i_inj, i_app, i_proj, i_case, i_protect, i_reckon}
 use Rattle.calculus.proofs.SecureTyping.{sc_empty, sc_extend, secure_parts, typed_secure}
 use Rattle.calculus.proofs.Soundness.{inferred_typed, inj_typed, app_typed, case_typed}
 
@@ -41,3 +41,5 @@ module _ {S : Security} {tab : ℕ → Ty} (L : Laws S) (T : Table S tab) where
   filled (in_case w i E a b) (i_case p m q q' y) =
       let x = secure_parts S _ _ _ _ (typed_secure L T sc_empty (closed_typed p)) in
       framed (λ e' h. case_typed L T sc_empty h m (bound_typed _ x.left q) (bound_typed _ x.right q') y) (filled E p)
+  filled (reckon_left o w E b) (i_reckon p m q n x) = framed (λ e' h. t_reckon h m (closed_typed q) n x) (filled E p)
+  filled (reckon_right o w v g E) (i_reckon p m q n x) = framed (λ e' h. t_reckon (closed_typed p) m h n x) (filled E q)

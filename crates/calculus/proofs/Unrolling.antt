@@ -5,12 +5,12 @@ use mathlib.Core.List.{[], ◌∷◌}
 use mathlib.Core.Option.{Option, some}
 use Prim.Native.Nat.{ℕ, suc, zero}
 use Rattle.calculus.specs.Security.{Property, Reader, Security, Laws}
-use Rattle.calculus.specs.Types.{function, Ty, one, node, top, raise_t, secure_t}
+use Rattle.calculus.specs.Types.{function, Ty, leaf, node, top, raise_t, secure_t}
 use Rattle.calculus.specs.Subtyping.{below}
 use Rattle.calculus.specs.Terms.{Term, var, app, mu}
 use Rattle.calculus.specs.Reduction.{unrolled}
 use Rattle.calculus.specs.Typing.{lookup, HasType, t_var, t_lam, t_app, Table}
-use Rattle.calculus.proofs.Directed.{Directed, d_one, d_node, directed_refl}
+use Rattle.calculus.proofs.Directed.{Directed, d_leaf, d_node, directed_refl}
 use Rattle.calculus.proofs.SecureTyping.{secure_parts, table_parts}
 use Rattle.calculus.proofs.Soundness.{subsumption}
 use Rattle.calculus.proofs.Weakening.{weakening}
@@ -20,7 +20,7 @@ module _ {S : Security} {tab : ℕ → Ty} (L : Laws S) (T : Table S tab) where
   absorbed : (k : Property) (w : Reader) (t : Ty) → So (S.secure k) → So (secure_t S t) → So (S.permits k w) → So (S.absorbs k w (top t))
       → Directed S below (raise_t S t (S.influence k w)) t
   unfolding secure_t
-  absorbed k w (one l) h g m a = d_one (L.absorption k l w h g m a)
+  absorbed k w (leaf b l) h g m a = d_leaf (L.absorption k l w h g m a)
   absorbed k w (node f l s t) h g m a =
       let x = secure_parts S f l s t g in
       d_node (L.absorption k l w h x.own m a) (directed_refl L _ s x.left) (directed_refl L below t x.right)

@@ -4,7 +4,7 @@ use mathlib.Core.Bool.{So, false≢true}
 use Prim.Native.Nat.{ℕ}
 use Rattle.calculus.specs.Security.{Security}
 use Rattle.calculus.specs.Types.{Ty}
-use Rattle.calculus.specs.Terms.{Term, var, unit, lam, pair, inj, app, proj, case, protect, mu, is_value}
+use Rattle.calculus.specs.Terms.{Term, var, unit, lam, pair, inj, app, proj, case, protect, mu, literal, reckon, is_value}
 use Rattle.calculus.specs.Reduction.{value, step, operand_first}
 use Rattle.calculus.proofs.Booleans.{and_left, and_right}
 
@@ -20,3 +20,5 @@ value_step S tab (proj d w e) h = absurd (false≢true h)
 value_step S tab (case w i e a b) h = absurd (false≢true h)
 value_step S tab (protect m e) h = absurd (false≢true h)
 value_step S tab (mu w i e) h = absurd (false≢true h)
+value_step S tab (literal k n) h = refl
+value_step S tab (reckon o w a b) h = absurd (false≢true h)

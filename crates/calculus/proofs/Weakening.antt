@@ -6,7 +6,7 @@ use Prim.Native.Nat.{ℕ, suc, zero}
 use Rattle.calculus.specs.Security.{Security}
 use Rattle.calculus.specs.Types.{Ty}
 use Rattle.calculus.specs.Terms.{Term}
-use Rattle.calculus.specs.Typing.{lookup, HasType, t_sub, t_var, t_unit, t_lam, t_pair, t_inj, t_app, t_proj, t_case, t_protect, t_mu}
+use Rattle.calculus.specs.Typing.{lookup, HasType, t_sub, t_var, t_unit, t_lam, t_pair, t_inj, t_app, t_proj, t_case, t_protect, t_mu, t_literal, t_reckon}
 
 lookup_longer : (Γ Δ : List Ty) (n : ℕ) {t : Ty} → lookup Γ n ≡ some t → lookup (Γ ++ Δ) n ≡ some t
 unfolding lookup
@@ -26,3 +26,5 @@ weakening Δ (t_proj p m) = t_proj (weakening Δ p) m
 weakening Δ (t_case p m r q q') = t_case (weakening Δ p) m r (weakening Δ q) (weakening Δ q')
 weakening Δ (t_protect h p) = t_protect h (weakening Δ p)
 weakening Δ (t_mu e m h p) = t_mu e m h (weakening Δ p)
+weakening Δ (t_literal h) = t_literal h
+weakening Δ (t_reckon p m q n x) = t_reckon (weakening Δ p) m (weakening Δ q) n x

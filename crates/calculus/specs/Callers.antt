@@ -8,6 +8,7 @@ called_as caller S = record {
   le_i = S.le_i;
   join = S.join;
   meet = S.meet;
+  fresh = S.fresh;
   raise = S.raise;
   permits = S.permits;
   influence = S.influence;

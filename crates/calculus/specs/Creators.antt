@@ -19,6 +19,7 @@ readers G = record {
   le_i = λ m n. G.leq m.ir n.ir;
   join = λ k l. record { r = G.join k.r l.r; ir = G.join k.ir l.ir; c = zero; ic = zero };
   meet = λ k l. record { r = G.meet k.r l.r; ir = G.meet k.ir l.ir; c = zero; ic = zero };
+  fresh = λ w. record { r = zero; ir = zero; c = zero; ic = zero };
   raise = λ k m. record { r = G.join k.r m.ir; ir = G.join k.ir m.ir; c = zero; ic = zero };
   permits = λ k w. G.leq k.r w;
   influence = λ k w. record { ir = k.ir; ic = zero };

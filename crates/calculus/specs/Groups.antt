@@ -38,6 +38,8 @@ properties G = record {
   -- "Common types use meets and joins turned round."
   join = λ k l. record { r = G.join k.r l.r; ir = G.join k.ir l.ir; c = G.meet k.c l.c; ic = G.meet k.ic l.ic };
   meet = λ k l. record { r = G.meet k.r l.r; ir = G.meet k.ir l.ir; c = G.join k.c l.c; ic = G.join k.ic l.ic };
+  -- "The result starts with r and ir 0 and the node's own group as c and ic."
+  fresh = λ w. record { r = zero; ir = zero; c = w; ic = w };
   -- "Raising by (g, m) also meets m into c and ic."
   raise = λ k m. record { r = G.join k.r m.ir; ir = G.join k.ir m.ir; c = G.meet k.c m.ic; ic = G.meet k.ic m.ic };
   permits = λ k w. G.leq k.r w;

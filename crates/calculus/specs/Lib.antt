@@ -4,6 +4,7 @@ pub mod Types
 pub mod Subtyping
 pub mod Common
 pub mod Terms
+pub mod Numbers
 pub mod Reduction
 pub mod Stuck
 pub mod Typing

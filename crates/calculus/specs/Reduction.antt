@@ -1,9 +1,11 @@
 -- Table 1 and section 2.2: reduction, as a relation with evaluation contexts and as a function.
-use Rattle.std.specs.Prelude.{◌≡◌, Bool, true, false, ℕ, suc, zero}
+use Rattle.std.specs.Prelude.{◌≡◌, Bool, true, false, ◌&&◌, ℕ, suc, zero}
 use Rattle.std.proofs.Math.Bool.{So}
+use Rattle.std.proofs.Math.Option.{Option, none, some}
 use Rattle.calculus.specs.Security.{Property, Reader, Indirect, Security}
-use Rattle.calculus.specs.Types.{sum, product, function, Ty, one, node}
-use Rattle.calculus.specs.Terms.{Side, choose, Term, var, unit, lam, pair, inj, app, proj, case, protect, mu, is_value, subst, raise_value}
+use Rattle.calculus.specs.Types.{sum, product, function, Ty, leaf, node}
+use Rattle.calculus.specs.Terms.{Side, choose, Operation, Term, var, unit, lam, pair, inj, app, proj, case, protect, mu, literal, reckon, is_value, subst, raise_value}
+use Rattle.calculus.specs.Numbers.{Literal, literal_of, of_both, reckoned}
 
 -- (λx : s₁. ((μf : s. e)_r' x)_r')_(r, ir), which stands for f when (μf : s. e)_r' unrolls. The left side of type i is type i + 1.
 -- Item 6: "Studios want the unrolled application's group written. Byte 1 of a recursion now holds it."
@@ -20,9 +22,13 @@ pub data Contracts (S : Security) (tab : ℕ → Ty) : Term → Term → Type 0 
       → Contracts S tab (case w j (inj d k i v) a b) (protect (S.influence k w) (subst zero v (choose d a b)))
   c_mu : {w : Reader} {i : ℕ} {e : Term} {k : Property} {s t : Ty} → tab i ≡ node function k s t
       → Contracts S tab (mu w i e) (subst zero (unrolled S w i k e) e)
+  -- Item 13: "Kinds 13 and 14 carry the node's group, evaluate left first, and read both operands in one step."
+  c_reckon : {o : Operation} {w : Reader} {k l : Property} {m n : ℕ} → So (S.permits k w) → So (S.permits l w)
+      → Contracts S tab (reckon o w (literal k m) (literal l n)) (reckoned tab o (of_both S w k l) m n)
   c_protect : {m : Indirect} {v : Term} → So (is_value v) → Contracts S tab (protect m v) (raise_value S v m)
 
 -- E ::= [ ] | (E e)_r | (v E)_r | (proj_i E)_r | (inj_i E)_κ | ⟨E, e⟩_κ | ⟨v, E⟩_κ | (protect_ir E) | (case E of ..)_r
+--   | (E + e)_r | (v + E)_r | (E < e)_r | (v < E)_r
 pub data Context : Type 0 where
   hole : Context
   app_left : Reader → Context → Term → Context
@@ -33,6 +39,8 @@ pub data Context : Type 0 where
   pair_right : Property → (v : Term) → So (is_value v) → Context → Context
   in_protect : Indirect → Context → Context
   in_case : Reader → ℕ → Context → Term → Term → Context
+  reckon_left : Operation → Reader → Context → Term → Context
+  reckon_right : Operation → Reader → (v : Term) → So (is_value v) → Context → Context
 
 -- E[e]
 unfoldable pub plug : Context → Term → Term
@@ -45,6 +53,8 @@ plug (pair_left k E b) e = pair k (plug E e) b
 plug (pair_right k v h E) e = pair k v (plug E e)
 plug (in_protect m E) e = protect m (plug E e)
 plug (in_case w i E a b) e = case w i (plug E e) a b
+plug (reckon_left o w E b) e = reckon o w (plug E e) b
+plug (reckon_right o w v h E) e = reckon o w v (plug E e)
 
 -- E[e] → E[e'] where e → e' by table 1.
 pub record Reduces (S : Security) (tab : ℕ → Ty) (e e' : Term) : Type 0 where
@@ -88,6 +98,8 @@ apply S w (proj d u e) v = stuck
 apply S w (case u i e a b) v = stuck
 apply S w (protect m e) v = stuck
 apply S w (mu u i e) v = stuck
+apply S w (literal k n) v = stuck
+apply S w (reckon o u a b) v = stuck
 
 -- (proj_d v)_w of a value
 unfoldable pub project : Security → Side → Reader → Term → Outcome
@@ -101,6 +113,8 @@ project S d w (proj c u e) = stuck
 project S d w (case u i e a b) = stuck
 project S d w (protect m e) = stuck
 project S d w (mu u i e) = stuck
+project S d w (literal k n) = stuck
+project S d w (reckon o u a b) = stuck
 
 -- (case v of inj₁(x). a | inj₂(x). b)_w of a value
 unfoldable pub branch : Security → Reader → Term → Term → Term → Outcome
@@ -114,13 +128,22 @@ branch S w (proj d u e) a b = stuck
 branch S w (case u i e f g) a b = stuck
 branch S w (protect m e) a b = stuck
 branch S w (mu u i e) a b = stuck
+branch S w (literal k n) a b = stuck
+branch S w (reckon o u e f) a b = stuck
 
 -- μf : s. e, where s has to be a function type
 unfoldable pub unroll : Security → Reader → ℕ → Term → Ty → Outcome
-unroll S w i e (one k) = stuck
+unroll S w i e (leaf b k) = stuck
 unroll S w i e (node sum k s t) = stuck
 unroll S w i e (node product k s t) = stuck
 unroll S w i e (node function k s t) = moved (subst zero (unrolled S w i k e) e)
+
+-- (v + v')_w or (v < v')_w of two values: a wrong kind comes before a reader that may not
+unfoldable pub calculate : Security → (ℕ → Ty) → Operation → Reader → Option Literal → Option Literal → Outcome
+calculate S tab o w none y = stuck
+calculate S tab o w (some x) none = stuck
+calculate S tab o w (some x) (some y) =
+    reading (S.permits x.own w && S.permits y.own w) (reckoned tab o (of_both S w x.own y.own) x.value y.value)
 
 -- One step: "left to right, never inside a function or branch".
 unfoldable pub step : Security → (ℕ → Ty) → Term → Outcome
@@ -134,3 +157,7 @@ step S tab (proj d w e) = operand_first (step S tab e) (λ x. proj d w x) (proje
 step S tab (case w i e a b) = operand_first (step S tab e) (λ x. case w i x a b) (branch S w e a b)
 step S tab (protect m e) = operand_first (step S tab e) (λ x. protect m x) (moved (raise_value S e m))
 step S tab (mu w i e) = unroll S w i e (tab i)
+step S tab (literal k n) = value
+step S tab (reckon o w a b) =
+    operand_first (step S tab a) (λ e. reckon o w e b)
+    (operand_first (step S tab b) (λ e. reckon o w a e) (calculate S tab o w (literal_of a) (literal_of b)))

@@ -1,8 +1,8 @@
 -- Types and terms that differ in labels only: every property, reader and indirect reader is replaced, and nothing else.
 use Rattle.std.specs.Prelude.{ℕ}
 use Rattle.calculus.specs.Security.{Property, Reader, Indirect}
-use Rattle.calculus.specs.Types.{Ty, one, node}
-use Rattle.calculus.specs.Terms.{Term, var, unit, lam, pair, inj, app, proj, case, protect, mu}
+use Rattle.calculus.specs.Types.{Ty, leaf, node}
+use Rattle.calculus.specs.Terms.{Term, var, unit, lam, pair, inj, app, proj, case, protect, mu, literal, reckon}
 use Rattle.calculus.specs.Reduction.{Outcome, value, moved, denied, stuck}
 
 -- what becomes of each label
@@ -14,7 +14,7 @@ pub record Labels : Type 0 where
   pub recursion : ℕ → Reader → Reader
 
 unfoldable pub relabel_t : Labels → Ty → Ty
-relabel_t R (one k) = one (R.property k)
+relabel_t R (leaf b k) = leaf b (R.property k)
 relabel_t R (node f k s t) = node f (R.property k) (relabel_t R s) (relabel_t R t)
 
 unfoldable pub relabel : Labels → Term → Term
@@ -28,6 +28,8 @@ relabel R (proj d w e) = proj d (R.reader w) (relabel R e)
 relabel R (case w i e a b) = case (R.reader w) i (relabel R e) (relabel R a) (relabel R b)
 relabel R (protect m e) = protect (R.indirect m) (relabel R e)
 relabel R (mu w i e) = mu (R.recursion i w) i (relabel R e)
+relabel R (literal k n) = literal (R.property k) n
+relabel R (reckon o w a b) = reckon o (R.reader w) (relabel R a) (relabel R b)
 
 abbrev pub relabel_o : Labels → Outcome → Outcome
 relabel_o R value = value

@@ -28,6 +28,8 @@ pub record Security : Type 0 where
   -- κ ⊔ κ' and κ ⊓ κ': the least property at or above both, and the greatest at or below both
   pub join : Property → Property → Property
   pub meet : Property → Property → Property
+  -- what the result of a sum or comparison labelled with this group starts with
+  pub fresh : Reader → Property
   -- κ • (ir, ic)
   pub raise : Property → Indirect → Property
   -- r ⊑ r': may a destructor labelled r' read an object with this property?
@@ -60,6 +62,7 @@ pub record Laws (S : Security) : Type 0 where
   pub raise_secure : (k : Property) (m : Indirect) → So (S.secure k) → So (S.secure_i m) → So (S.secure (S.raise k m))
   pub raise_comm : (k : Property) (m n : Indirect) → So (S.secure k) → So (S.secure_i m) → So (S.secure_i n)
       → S.raise (S.raise k m) n ≡ S.raise (S.raise k n) m
+  pub fresh_secure : (k : Property) (w : Reader) → So (S.permits k w) → So (S.secure (S.fresh w))
   pub permits_mono : (k l : Property) (w : Reader) → So (S.le k l) → So (S.permits l w) → So (S.permits k w)
   pub influence_mono : (k l : Property) (w : Reader) → So (S.le k l) → So (S.permits l w) → So (S.le_i (S.influence k w) (S.influence l w))
   pub influence_secure : (k : Property) (w : Reader) → So (S.secure k) → So (S.permits k w) → So (S.secure_i (S.influence k w))

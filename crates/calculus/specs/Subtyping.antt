@@ -2,12 +2,13 @@
 use Rattle.std.specs.Prelude.{Bool, false, ◌&&◌}
 use Rattle.std.proofs.Math.Bool.{So}
 use Rattle.calculus.specs.Security.{Property, Security}
-use Rattle.calculus.specs.Types.{Former, sum, product, function, Ty, one, node, same}
+use Rattle.calculus.specs.Types.{one, number, Former, sum, product, function, Ty, leaf, node, same_leaf, same}
 
 -- Table 2 as printed: s ≤ s'.
 pub data Subtype (S : Security) : Ty → Ty → Type 0 where
   s_trans : {s t u : Ty} → Subtype S s t → Subtype S t u → Subtype S s u
-  s_unit : {k l : Property} → So (S.le k l) → Subtype S (one k) (one l)
+  s_unit : {k l : Property} → So (S.le k l) → Subtype S (leaf one k) (leaf one l)
+  s_number : {k l : Property} → So (S.le k l) → Subtype S (leaf number k) (leaf number l)
   s_sum : {k l : Property} {s t s' t' : Ty} → So (S.le k l) → Subtype S s s' → Subtype S t t' → Subtype S (node sum k s t) (node sum l s' t')
   s_product : {k l : Property} {s t s' t' : Ty} → So (S.le k l) → Subtype S s s' → Subtype S t t'
       → Subtype S (node product k s t) (node product l s' t')
@@ -34,7 +35,7 @@ le_toward S below k l = S.le k l
 le_toward S above k l = S.le l k
 
 unfoldable pub subtype : Security → Direction → Ty → Ty → Bool
-subtype S d (one k) (one l) = le_toward S d k l
-subtype S d (one k) (node f l s t) = false
-subtype S d (node f k s t) (one l) = false
+subtype S d (leaf b k) (leaf b' l) = same_leaf b b' && le_toward S d k l
+subtype S d (leaf b k) (node f l s t) = false
+subtype S d (node f k s t) (leaf b l) = false
 subtype S d (node f k s t) (node f' l s' t') = same f f' && (le_toward S d k l && (subtype S (leftward f d) s s' && subtype S d t t'))

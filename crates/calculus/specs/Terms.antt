@@ -10,6 +10,11 @@ abbrev pub choose : {A : Type 0} → Side → A → A → A
 choose first a b = a
 choose second a b = b
 
+-- Item 13: "sum of two" and "first less than second; its number names a sum of two units".
+pub data Operation : Type 0 where
+  plus : Operation
+  less : ℕ → Operation
+
 -- "A variable's number counts binders outward, 0 the nearest": de Bruijn numbers. A type is named by its index in a types table.
 pub data Term : Type 0 where
   var : ℕ → Term
@@ -29,8 +34,12 @@ pub data Term : Type 0 where
   protect : Indirect → Term → Term
   -- (μf : s. e)_r: label of the application that unrolling makes, function type, body under one binder
   mu : Reader → ℕ → Term → Term
+  -- n_κ, item 13: "literal, a value: its groups, number"
+  literal : Property → ℕ → Term
+  -- (e + e')_r or (e < e')_r: operation, label, two operands
+  reckon : Operation → Reader → Term → Term → Term
 
--- "Values: units, functions, and pairs and injections of values."
+-- "Values: units, functions, and pairs and injections of values", and literals.
 unfoldable pub is_value : Term → Bool
 is_value (var n) = false
 is_value (unit k) = true
@@ -42,6 +51,8 @@ is_value (proj d w e) = false
 is_value (case w i e a b) = false
 is_value (protect m e) = false
 is_value (mu w i e) = false
+is_value (literal k n) = true
+is_value (reckon o w a b) = false
 
 -- e[v/x] for a closed value v and the variable x that n binders separate from its own. Reduction never goes under a binder,
 -- so x is the only free variable of e: nothing is shifted in v, and no other number falls.
@@ -56,6 +67,8 @@ subst n v (proj d w e) = proj d w (subst n v e)
 subst n v (case w i e a b) = case w i (subst n v e) (subst (suc n) v a) (subst (suc n) v b)
 subst n v (protect m e) = protect m (subst n v e)
 subst n v (mu w i e) = mu w i (subst (suc n) v e)
+subst n v (literal k m) = literal k m
+subst n v (reckon o w a b) = reckon o w (subst n v a) (subst n v b)
 
 -- bv_κ • ir is bv_(κ • ir)
 unfoldable pub raise_value : Security → Term → Indirect → Term
@@ -69,3 +82,5 @@ raise_value S (proj d w e) m = proj d w e
 raise_value S (case w i e a b) m = case w i e a b
 raise_value S (protect n e) m = protect n e
 raise_value S (mu w i e) m = mu w i e
+raise_value S (literal k n) m = literal (S.raise k m) n
+raise_value S (reckon o w a b) m = reckon o w a b

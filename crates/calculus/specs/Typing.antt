@@ -3,10 +3,11 @@ use Rattle.std.specs.Prelude.{◌≡◌, Bool, false, cond, ◌&&◌, List, [], 
 use Rattle.std.proofs.Math.Bool.{So}
 use Rattle.std.proofs.Math.Option.{Option, none, some}
 use Rattle.calculus.specs.Security.{Property, Reader, Indirect, Security}
-use Rattle.calculus.specs.Types.{Former, sum, product, function, Ty, one, node, top, raise_t, secure_t, fits, when, ◌>>=◌, Parts, parts}
+use Rattle.calculus.specs.Types.{one, number, Former, sum, product, function, Ty, leaf, node, top, raise_t, secure_t, fits, when, ◌>>=◌, Parts, parts}
 use Rattle.calculus.specs.Subtyping.{Subtype, subtype, below}
 use Rattle.calculus.specs.Common.{common}
-use Rattle.calculus.specs.Terms.{Side, choose, Term, var, unit, lam, pair, inj, app, proj, case, protect, mu}
+use Rattle.calculus.specs.Terms.{Side, choose, Operation, Term, var, unit, lam, pair, inj, app, proj, case, protect, mu, literal, reckon}
+use Rattle.calculus.specs.Numbers.{of_both, Reckons, reckoned_type, number_of}
 
 -- the type of variable n in a context, whose nearest binder stands first
 unfoldable pub lookup : List Ty → ℕ → Option Ty
@@ -31,7 +32,7 @@ pub data Result (tab : ℕ → Ty) : ℕ → Ty → Type 0 where
 pub data HasType (S : Security) (tab : ℕ → Ty) : List Ty → Term → Ty → Type 0 where
   t_sub : {Γ : List Ty} {e : Term} {s s' : Ty} → HasType S tab Γ e s → Subtype S s s' → So (secure_t S s') → HasType S tab Γ e s'
   t_var : {Γ : List Ty} {n : ℕ} {s : Ty} → lookup Γ n ≡ some s → HasType S tab Γ (var n) s
-  t_unit : {Γ : List Ty} {k : Property} → So (S.secure k) → HasType S tab Γ (unit k) (one k)
+  t_unit : {Γ : List Ty} {k : Property} → So (S.secure k) → HasType S tab Γ (unit k) (leaf one k)
   t_lam : {Γ : List Ty} {k : Property} {i : ℕ} {e : Term} {t : Ty} → So (S.secure k) → HasType S tab (tab i ∷ Γ) e t
       → So (fits (node function k (tab i) t)) → HasType S tab Γ (lam k i e) (node function k (tab i) t)
   t_pair : {Γ : List Ty} {k : Property} {a b : Term} {s t : Ty} → So (S.secure k) → HasType S tab Γ a s → HasType S tab Γ b t
@@ -54,6 +55,11 @@ pub data HasType (S : Security) (tab : ℕ → Ty) : List Ty → Term → Ty →
   -- the group written in it."
   t_mu : {Γ : List Ty} {w : Reader} {i : ℕ} {e : Term} {k : Property} {s t : Ty} → tab i ≡ node function k s t → So (S.permits k (S.caller k w))
       → So (S.absorbs k (S.caller k w) (top t)) → HasType S tab (tab i ∷ Γ) e (tab i) → HasType S tab Γ (mu w i e) (tab i)
+  t_literal : {Γ : List Ty} {k : Property} {n : ℕ} → So (S.secure k) → HasType S tab Γ (literal k n) (leaf number k)
+  -- "20 and 21 are put to each operand."
+  t_reckon : {Γ : List Ty} {o : Operation} {w : Reader} {a b : Term} {k l : Property} {t : Ty} → HasType S tab Γ a (leaf number k)
+      → So (S.permits k w) → HasType S tab Γ b (leaf number l) → So (S.permits l w) → Reckons tab o (of_both S w k l) t
+      → HasType S tab Γ (reckon o w a b) t
 
 -- A table of types as the theory needs it: secure types within the limit, in which the left side of type i is type i + 1.
 pub record Table (S : Security) (tab : ℕ → Ty) : Type 0 where
@@ -72,7 +78,7 @@ recurs S p w = S.permits p.own (S.caller p.own w) && S.absorbs p.own (S.caller p
 -- The least type that the rules give, if any.
 unfoldable pub infer : Security → (ℕ → Ty) → List Ty → Term → Option Ty
 infer S tab Γ (var n) = lookup Γ n
-infer S tab Γ (unit k) = when (S.secure k) (one k)
+infer S tab Γ (unit k) = when (S.secure k) (leaf one k)
 infer S tab Γ (lam k i e) = do
   t ← infer S tab (tab i ∷ Γ) e
   when (S.secure k && fits (node function k (tab i) t)) (node function k (tab i) t)
@@ -103,6 +109,14 @@ infer S tab Γ (case w i e a b) = do
 infer S tab Γ (protect m e) = do
   t ← infer S tab Γ e
   when (S.secure_i m) (raise_t S t m)
+infer S tab Γ (literal k n) = when (S.secure k) (leaf number k)
+infer S tab Γ (reckon o w a b) = do
+  s ← infer S tab Γ a
+  k ← number_of s
+  t ← infer S tab Γ b
+  l ← number_of t
+  u ← reckoned_type tab o (of_both S w k l)
+  when (S.permits k w && S.permits l w) u
 infer S tab Γ (mu w i e) = do
   p ← parts function (tab i)
   t ← infer S tab (tab i ∷ Γ) e

@@ -53,7 +53,7 @@ script_passed rooms g t s octets p =
       types = a.0;
       encoded = w.encoded;
       fit = record {
-        formed = questions_formed g t (term s) (rw w.encoded d.0) (rw w.encoded e.0) (rw w.encoded f.0) (rw w.encoded i.1);
+        formed = questions_formed g t (term s) (rw w.encoded d.0) (rw w.encoded e.0) (rw w.encoded f.0) (rw w.encoded i.1) (rw w.encoded octets);
         small = omega (arith, w.sized, n.limited);
         shallow = q18_depth (term s) (rw w.encoded i.0);
       };

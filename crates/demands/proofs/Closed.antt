@@ -2,25 +2,26 @@
 use mathlib.Core.Path.{◌≡◌, refl, sym, ap, subst, ◌∙◌}
 use mathlib.Core.Bool.{Bool, true, false, and-eq-true_iff, false≢true}
 use mathlib.Core.List.{[], ◌∷◌, ◌++◌, append_assoc}
-use Prim.Native.Nat.{ℕ, ◌≤◌}
+use Prim.Native.Nat.{ℕ, ◌≤◌, ◌/◌, ◌%◌}
 use native.Mathlib.Omega.{arith}
 use Rattle.calculus.specs.Security.{Property}
-use Rattle.calculus.specs.Terms.{Side, first, second, choose, Term, var, unit, lam, pair, inj, app, proj, case, protect, mu, is_value}
+use Rattle.calculus.specs.Terms.{Side, first, second, choose, Term, var, unit, lam, pair, inj, app, proj, case, protect, mu, literal, reckon, is_value}
 use Rattle.rules.specs.Answer.{Bytes}
 use Rattle.rules.specs.Groups.{leq}
 use Rattle.rules.specs.Script.{term}
 use Rattle.rules.specs.Sheet.{sheet}
 use Rattle.rules.specs.Calls.{sheeting}
-use Rattle.demands.specs.Closed.{Closed, closed_unit, closed_function, closed_pair, closed_injection, SameReaders, AlikeOutside, closed_in_both, units, functions, pairs, injections, ClosedObjectsClose}
+use Rattle.demands.specs.Closed.{Closed, closed_unit, closed_function, closed_pair, closed_injection, closed_literal, SameReaders, AlikeOutside, closed_in_both, units, functions, pairs, injections, literals, ClosedObjectsClose}
 
 module _ (g : Bytes) (group : ℕ) where
   -- a closed object is one record, whatever it is
-  closed_sheet : {e : Term} → Closed g group e → sheet g group e ≡ 5 ∷ 0 ∷ 0 ∷ 0 ∷ []
+  closed_sheet : {e : Term} → Closed g group e → sheet g group e ≡ 5 ∷ 0 ∷ 0 ∷ 0 ∷ 0 ∷ 0 ∷ []
   unfolding sheet
   closed_sheet (closed_unit h) = rw h
   closed_sheet (closed_function h) = rw h
   closed_sheet (closed_pair h) = rw h
   closed_sheet (closed_injection h) = rw h
+  closed_sheet (closed_literal h) = rw h
 
   alike_sheets : {a b : Term} → AlikeOutside g group a b → sheet g group a ≡ sheet g group b
   unfolding sheet
@@ -29,6 +30,7 @@ module _ (g : Bytes) (group : ℕ) where
   alike_sheets (functions c) = rw (c.0, c.1)
   alike_sheets (pairs c h h') = rw (c.0, c.1, alike_sheets h, alike_sheets h')
   alike_sheets (injections c h) = rw (c.0, c.1, alike_sheets h)
+  alike_sheets (literals c) = rw (c.0, c.1)
 
   -- a value as a sheet sees it
   data View : Term → Type 0 where
@@ -37,6 +39,7 @@ module _ (g : Bytes) (group : ℕ) where
     open_function : {k : Property} {i : ℕ} {e : Term} → leq g k.r group ≡ true → View (lam k i e)
     open_pair : {k : Property} {a b : Term} → leq g k.r group ≡ true → is_value a ≡ true → is_value b ≡ true → View (pair k a b)
     open_injection : {d : Side} {k : Property} {i : ℕ} {e : Term} → leq g k.r group ≡ true → is_value e ≡ true → View (inj d k i e)
+    open_literal : {k : Property} {n : ℕ} → leq g k.r group ≡ true → View (literal k n)
 
   view : (e : Term) → is_value e ≡ true → View e
   unfolding is_value
@@ -63,20 +66,27 @@ module _ (g : Bytes) (group : ℕ) where
       by : (b : Bool) → leq g k.r group ≡ b → View (inj d k i e)
       by true h = open_injection h v
       by false h = hidden (closed_injection h)
+  view (literal k n) v = by (leq g k.r group) refl
+    where
+      by : (b : Bool) → leq g k.r group ≡ b → View (literal k n)
+      by true h = open_literal h
+      by false h = hidden (closed_literal h)
   view (var n) v = absurd (false≢true v)
   view (app w f a) v = absurd (false≢true v)
   view (proj d w e) v = absurd (false≢true v)
   view (case w i e a b) v = absurd (false≢true v)
   view (protect m e) v = absurd (false≢true v)
   view (mu w i e) v = absurd (false≢true v)
+  view (reckon o w a b) v = absurd (false≢true v)
 
   -- the sheet that a view gives
   abbrev seen : {e : Term} → View e → Bytes
-  seen (hidden h) = 5 ∷ 0 ∷ 0 ∷ 0 ∷ []
-  seen (open_unit {k} h) = 0 ∷ k.r ∷ k.ir ∷ 0 ∷ []
-  seen (open_function {k} h) = 4 ∷ k.r ∷ k.ir ∷ 0 ∷ []
-  seen (open_pair {k} {a} {b} h p q) = 3 ∷ k.r ∷ k.ir ∷ 0 ∷ (sheet g group a ++ sheet g group b)
-  seen (open_injection {d} {k} {i} {e} h p) = choose d 1 2 ∷ k.r ∷ k.ir ∷ 0 ∷ sheet g group e
+  seen (hidden h) = 5 ∷ 0 ∷ 0 ∷ 0 ∷ 0 ∷ 0 ∷ []
+  seen (open_unit {k} h) = 0 ∷ k.r ∷ k.ir ∷ 0 ∷ 0 ∷ 0 ∷ []
+  seen (open_function {k} h) = 4 ∷ k.r ∷ k.ir ∷ 0 ∷ 0 ∷ 0 ∷ []
+  seen (open_pair {k} {a} {b} h p q) = 3 ∷ k.r ∷ k.ir ∷ 0 ∷ 0 ∷ 0 ∷ (sheet g group a ++ sheet g group b)
+  seen (open_injection {d} {k} {i} {e} h p) = choose d 1 2 ∷ k.r ∷ k.ir ∷ 0 ∷ 0 ∷ 0 ∷ sheet g group e
+  seen (open_literal {k} {n} h) = 6 ∷ k.r ∷ k.ir ∷ 0 ∷ n % 256 ∷ n / 256 ∷ []
 
   is_seen : {e : Term} (v : View e) → sheet g group e ≡ seen v
   unfolding sheet
@@ -85,6 +95,7 @@ module _ (g : Bytes) (group : ℕ) where
   is_seen (open_function h) = rw h
   is_seen (open_pair h p q) = rw h
   is_seen (open_injection h p) = rw h
+  is_seen (open_literal h) = rw h
 
   -- what the bytes of a sheet tell: a value but for what is closed, and what follows it
   record Read (a b : Term) (x y : Bytes) : Type 0 where
@@ -101,6 +112,7 @@ module _ (g : Bytes) (group : ℕ) where
   Parts (open_function h) = Unit
   Parts (open_pair {k} {a} {b} h p q) = Readable a × Readable b
   Parts (open_injection {d} {k} {i} {e} h p) = Readable e
+  Parts (open_literal h) = Unit
 
   apart : {a b : Term} {x y xs ys : Bytes} (m n : ℕ) → m ∷ xs ≡ n ∷ ys → (m ≡ n → ⊥) → Read a b x y
   apart m n e d = absurd (d cc)
@@ -116,12 +128,15 @@ module _ (g : Bytes) (group : ℕ) where
   same_side second second e = refl
 
   -- the fields of two first records, and what follows them
-  module _ {r ir r' ir' m n : ℕ} {xs ys : Bytes} (e : m ∷ r ∷ ir ∷ 0 ∷ xs ≡ n ∷ r' ∷ ir' ∷ 0 ∷ ys) where
+  module _ {r ir r' ir' m n lo hi lo' hi' : ℕ} {xs ys : Bytes} (e : m ∷ r ∷ ir ∷ 0 ∷ lo ∷ hi ∷ xs ≡ n ∷ r' ∷ ir' ∷ 0 ∷ lo' ∷ hi' ∷ ys) where
     readers_same : (r ≡ r') × (ir ≡ ir')
     readers_same = (cc, cc)
 
     kinds_same : m ≡ n
     kinds_same = cc
+
+    numbers_same : (lo ≡ lo') × (hi ≡ hi')
+    numbers_same = (cc, cc)
 
     rests_same : xs ≡ ys
     rests_same = cc
@@ -144,6 +159,12 @@ module _ (g : Bytes) (group : ℕ) where
       → Read (inj d k i e) (inj d' l j f) x y
   of_injections {d} {d'} {k} {l} {i} {j} {e} {f} s c r =
       record { alike = subst (λ (o : Side). AlikeOutside g group (inj d k i e) (inj o l j f)) s (injections c r.alike); rest = r.rest }
+
+  same_number : (m n : ℕ) → (m % 256 ≡ n % 256) × (m / 256 ≡ n / 256) → m ≡ n
+  same_number m n h = omega (arith, h.0, h.1)
+
+  of_literals : {k l : Property} {m n : ℕ} {x y : Bytes} → m ≡ n → SameReaders k l → x ≡ y → Read (literal k m) (literal l n) x y
+  of_literals {k} {l} {m} s c r = record { alike = subst (λ (o : ℕ). AlikeOutside g group (literal k m) (literal l o)) s (literals c); rest = r }
 
   read_seen : {a b : Term} (v : View a) (w : View b) → Parts v → (x y : Bytes) → seen v ++ x ≡ seen w ++ y → Read a b x y
   read_seen (hidden h) (hidden h') ih x y e = record { alike = closed_in_both h h'; rest = cc }
@@ -171,6 +192,17 @@ module _ (g : Bytes) (group : ℕ) where
   read_seen (open_injection {d} h p) (open_function h') ih x y e = apart (choose d 1 2) 4 e (λ z. omega (arith, side_kind d))
   read_seen (open_injection {d} h p) (open_pair h' p' q') ih x y e = apart (choose d 1 2) 3 e (λ z. omega (arith, side_kind d))
   read_seen (open_injection {d} h p) (open_injection {d = d'} h' p') ih x y e = of_injections (same_side d d' (kinds_same e)) (readers_same e) (ih _ p' x y (rests_same e))
+  read_seen (hidden h) (open_literal h') ih x y e = apart 5 6 e (λ z. omega arith)
+  read_seen (open_unit h) (open_literal h') ih x y e = apart 0 6 e (λ z. omega arith)
+  read_seen (open_function h) (open_literal h') ih x y e = apart 4 6 e (λ z. omega arith)
+  read_seen (open_pair h p q) (open_literal h') ih x y e = apart 3 6 e (λ z. omega arith)
+  read_seen (open_injection {d} h p) (open_literal h') ih x y e = apart (choose d 1 2) 6 e (λ z. omega (arith, side_kind d))
+  read_seen (open_literal h) (hidden h') ih x y e = apart 6 5 e (λ z. omega arith)
+  read_seen (open_literal h) (open_unit h') ih x y e = apart 6 0 e (λ z. omega arith)
+  read_seen (open_literal h) (open_function h') ih x y e = apart 6 4 e (λ z. omega arith)
+  read_seen (open_literal h) (open_pair h' p' q') ih x y e = apart 6 3 e (λ z. omega arith)
+  read_seen (open_literal h) (open_injection {d = d'} h' p') ih x y e = apart 6 (choose d' 1 2) e (λ z. omega (arith, side_kind d'))
+  read_seen (open_literal {n = m} h) (open_literal {n = n} h') ih x y e = of_literals (same_number m n (numbers_same e)) (readers_same e) (rests_same e)
 
   unit_parts : {k : Property} (v : View (unit k)) → Parts v
   unit_parts (hidden h) = tt
@@ -179,6 +211,10 @@ module _ (g : Bytes) (group : ℕ) where
   function_parts : {k : Property} {i : ℕ} {e : Term} (v : View (lam k i e)) → Parts v
   function_parts (hidden h) = tt
   function_parts (open_function h) = tt
+
+  literal_parts : {k : Property} {n : ℕ} (v : View (literal k n)) → Parts v
+  literal_parts (hidden h) = tt
+  literal_parts (open_literal h) = tt
 
   pair_parts : {k : Property} {a b : Term} → Readable a → Readable b → (v : View (pair k a b)) → Parts v
   pair_parts f s (hidden h) = tt
@@ -200,12 +236,14 @@ module _ (g : Bytes) (group : ℕ) where
       let v = view (pair k a b) p in
       by_view v (pair_parts (readable a both.0) (readable b both.1) v)
   readable (inj d k i e) p = let v = view (inj d k i e) p in by_view v (injection_parts (readable e p) v)
+  readable (literal k n) p = let v = view (literal k n) p in by_view v (literal_parts v)
   readable (var n) p = absurd (false≢true p)
   readable (app w f a) p = absurd (false≢true p)
   readable (proj d w e) p = absurd (false≢true p)
   readable (case w i e a b) p = absurd (false≢true p)
   readable (protect m e) p = absurd (false≢true p)
   readable (mu w i e) p = absurd (false≢true p)
+  readable (reckon o w a b) p = absurd (false≢true p)
 
   read_back : (a b : Term) → is_value a ≡ true → is_value b ≡ true → sheet g group a ≡ sheet g group b → AlikeOutside g group a b
   read_back a b p q e = (readable a p b q [] [] (ap (λ (s : Bytes). s ++ []) e)).alike

@@ -3,12 +3,12 @@ use mathlib.Core.Path.{◌≡◌, refl, sym, ap, subst, ◌∙◌}
 use mathlib.Core.Bool.{true, So, false≢true}
 use mathlib.Core.Option.{Option, none, some}
 use Rattle.calculus.specs.Security.{Security, Laws}
-use Rattle.calculus.specs.Types.{Ty, secure_t}
+use Rattle.calculus.specs.Types.{Ty, secure_t, exists}
 use Rattle.calculus.specs.Subtyping.{Direction, below, above}
 use Rattle.calculus.specs.Common.{common}
 use Rattle.calculus.proofs.Properties.{properties_laws}
 use Rattle.calculus.proofs.Directed.{Directed, directed_opposite, directed_antisym, directed_subtype, subtype_directed}
-use Rattle.calculus.proofs.Common.{common_bound, common_nearest, exists, common_exists, common_size}
+use Rattle.calculus.proofs.Common.{common_bound, common_nearest, common_exists, common_size}
 use Rattle.rules.proofs.Search.{some_inj}
 use Rattle.demands.specs.CommonTypes.{Toward, Nearest, CommonType, CommonTypes}
 use Rattle.demands.proofs.Groups.{lattice}

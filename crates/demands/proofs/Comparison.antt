@@ -7,7 +7,7 @@ use native.Mathlib.Omega.{arith}
 use borrow.Author.Tests.{eqb-true, eq-eqb, lt-ltb}
 use lib.Dec.{eqb}
 use Rattle.calculus.specs.Security.{Property, Security}
-use Rattle.calculus.specs.Types.{Former, sum, product, function, Ty, one, node}
+use Rattle.calculus.specs.Types.{Leaf, one, number, Former, sum, product, function, Ty, leaf, node}
 use Rattle.calculus.specs.Types as formers
 use Rattle.calculus.specs.Subtyping.{Subtype, Direction, leftward, le_toward, subtype}
 use Rattle.calculus.specs.Subtyping as directions
@@ -42,9 +42,12 @@ equal_property k l h =
 
 equal_sound : (s t : Ty) → equal_types s t ≡ true → s ≡ t
 unfolding equal_types
-equal_sound (one k) (one l) h = ap one (equal_property k l h)
-equal_sound (one k) (node f l s t) h = absurd (false≢true h)
-equal_sound (node f k s t) (one l) h = absurd (false≢true h)
+equal_sound (leaf one k) (leaf one l) h = ap (leaf one) (equal_property k l h)
+equal_sound (leaf one k) (leaf number l) h = absurd (false≢true h)
+equal_sound (leaf number k) (leaf one l) h = absurd (false≢true h)
+equal_sound (leaf number k) (leaf number l) h = ap (leaf number) (equal_property k l h)
+equal_sound (leaf b k) (node f l s t) h = absurd (false≢true h)
+equal_sound (node f k s t) (leaf b l) h = absurd (false≢true h)
 equal_sound (node f k s t) (node f' l s' t') h =
     let a = both (formers.same f f') (equal_properties k l && (equal_types s s' && equal_types t t')) h in
     let b = both (equal_properties k l) (equal_types s s' && equal_types t t') a.1 in
@@ -59,7 +62,8 @@ own_property k = and_true (own k.r) (and_true (own k.ir) (and_true (own k.c) (ow
 
 equal_refl : (s : Ty) → equal_types s s ≡ true
 unfolding equal_types
-equal_refl (one k) = own_property k
+equal_refl (leaf one k) = own_property k
+equal_refl (leaf number k) = own_property k
 equal_refl (node f k s t) = and_true (same_refl f) (and_true (own_property k) (and_true (equal_refl s) (equal_refl t)))
 
 -- two tests, each of which implies the other
@@ -157,7 +161,7 @@ module _ (S : Security) where
       least_three (S.le k l) (subtype S d s s') (subtype S directions.below t t') (equal_properties k l) (equal_types s s') (equal_types t t')
 
   nodes : (f : Former) (k l : Property) (s s' t t' : Ty) → comparison_number (comparison S (node f k s t) (node f l s' t'))
-      ≡ min (comparison_number (comparison S (one k) (one l))) (min (comparison_number (left_sides S f s s')) (comparison_number (comparison S t t')))
+      ≡ min (comparison_number (comparison S (leaf one k) (leaf one l))) (min (comparison_number (left_sides S f s s')) (comparison_number (comparison S t t')))
   unfolding subtype equal_types
   nodes sum k l s s' t t' = three directions.below k l s s' t t'
   nodes product k l s s' t t' = three directions.below k l s s' t t'
@@ -174,13 +178,26 @@ module _ (S : Security) where
       (equal_types (node f k s t) (node f' l s' t')))
       (no_former f f' n)
 
+  leaves : (b : Leaf) (k l : Property) → comparison S (leaf b k) (leaf b l) ≡ cond (S.le k l) (cond (equal_properties k l) same below) neither
+  unfolding subtype equal_types
+  leaves one k l = refl
+  leaves number k l = refl
+
+  other_leaves : (b b' : Leaf) (k l : Property) → (b ≡ b' → ⊥) → comparison S (leaf b k) (leaf b' l) ≡ neither
+  unfolding subtype
+  other_leaves one one k l n = absurd (n refl)
+  other_leaves one number k l n = refl
+  other_leaves number one k l n = refl
+  other_leaves number number k l n = absurd (n refl)
+
   pub composes : Composes S
   unfolding subtype equal_types
   composes = record {
-    units = λ k l. refl;
+    leaves = leaves;
     sides = nodes;
-    unit_other = λ f k l s t. refl;
-    other_unit = λ f k l s t. refl;
+    other_leaves = other_leaves;
+    leaf_other = λ b f k l s t. refl;
+    other_leaf = λ b f k l s t. refl;
     others = other_formers;
     alike = λ place s t. (
       λ h. below_related S s t (ask_true 22 place (subtype S directions.below s t) h),

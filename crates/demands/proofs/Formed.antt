@@ -4,11 +4,12 @@ use mathlib.Core.Bool.{◌||◌, So}
 use lib.Dec.{ltb}
 use Prim.Native.Nat.{ℕ, suc, ◌<◌}
 use Rattle.calculus.specs.Security.{Property, Indirect}
-use Rattle.calculus.specs.Terms.{Term, var, unit, lam, pair, inj, app, proj, case, protect, mu}
+use Rattle.calculus.specs.Terms.{plus, less, Term, var, unit, lam, pair, inj, app, proj, case, protect, mu, literal, reckon}
 use Rattle.calculus.specs.Typing.{finds_own}
 use Rattle.rules.specs.Answer.{Bytes}
 use Rattle.rules.specs.Groups.{rows, properties_of}
 use Rattle.rules.specs.Types.{type_count, type_kind}
+use Rattle.rules.specs.Script.{sum_of_units}
 
 -- ir ⊑ r and ic ⊑ c, so all four are groups
 abbrev pub Secure : Bytes → Property → Type 0
@@ -30,3 +31,6 @@ Formed g t n (proj d w e) = (w < rows g) × Formed g t n e
 Formed g t n (case w i e a b) = (w < rows g) × So (finds_own i || ltb i (type_count t)) × Formed g t n e × Formed g t (suc n) a × Formed g t (suc n) b
 Formed g t n (protect m e) = SecureI g m × Formed g t n e
 Formed g t n (mu w i e) = (w < rows g) × (i < type_count t) × (type_kind t i ≡ 3) × Formed g t (suc n) e
+Formed g t n (literal k m) = Secure g k × (m < 65536)
+Formed g t n (reckon plus w a b) = (w < rows g) × Formed g t n a × Formed g t n b
+Formed g t n (reckon (less i) w a b) = (w < rows g) × (i < type_count t) × So (sum_of_units t i) × Formed g t n a × Formed g t n b

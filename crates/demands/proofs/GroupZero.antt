@@ -5,7 +5,7 @@ use mathlib.Core.Option.{Option, none, some}
 use Prim.Native.Nat.{ℕ, zero, suc}
 use borrow.Author.Tests.{lt-ltb}
 use Rattle.calculus.specs.Groups.{Lattice}
-use Rattle.calculus.proofs.Booleans.{and_left}
+use Rattle.calculus.proofs.Booleans.{and_left, and_right}
 use Rattle.calculus.proofs.Creators.{Least}
 use Rattle.rules.specs.Answer.{Bytes, Octets, accepted, last_below}
 use Rattle.rules.specs.Limits.{group_limit}
@@ -39,7 +39,15 @@ module _ (g : Bytes) (octets : Octets g) (passed : groups_check g ≡ accepted t
       go none e = refl
       go (some k) e = only_zero k (and_left (leq g k 0) (leq g k h) (last_passes (below_both g 0 h) group_limit k e))
 
+  meet_with : (h : ℕ) → meet g h 0 ≡ 0
+  unfolding meet
+  meet_with h = go (last_below (below_both g h 0) group_limit) refl
+    where
+      go : (o : Option ℕ) → last_below (below_both g h 0) group_limit ≡ o → or_zero o ≡ 0
+      go none e = refl
+      go (some k) e = only_zero k (and_right (leq g k h) (leq g k 0) (last_passes (below_both g h 0) group_limit k e))
+
   pub group_zero : Least (groups_of g)
   group_zero =
       let own = X.in_table 0 (lt-ltb 0 (rows g) (some_rows g octets passed)) in
-      record { leq = own; join = only_zero (join g 0 0) (X.least 0 0 0 own own); meet = meet_zero }
+      record { leq = own; join = only_zero (join g 0 0) (X.least 0 0 0 own own); meet = meet_zero; meet_with = meet_with }

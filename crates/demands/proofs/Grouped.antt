@@ -6,7 +6,7 @@ use borrow.Author.Tests.{ltb-true, lt-ltb}
 use lib.Dec.{ltb}
 use Rattle.calculus.specs.Security.{Property}
 use Rattle.calculus.specs.Groups.{Lattice}
-use Rattle.calculus.specs.Terms.{first, second, Term, var, unit, lam, pair, inj, app, proj, case, protect, mu}
+use Rattle.calculus.specs.Terms.{first, second, plus, less, Term, var, unit, lam, pair, inj, app, proj, case, protect, mu, literal, reckon}
 use Rattle.calculus.proofs.Booleans.{both, and_left, and_right}
 use Rattle.rules.specs.Answer.{Bytes, accepted}
 use Rattle.rules.specs.Groups.{rows, leq, groups_of}
@@ -30,6 +30,8 @@ module _ (g : Bytes) where
   Grouped (case w i e a b) = w < rows g
   Grouped (protect m e) = SecureI g m
   Grouped (mu w i e) = w < rows g
+  Grouped (literal k n) = Secure g k
+  Grouped (reckon o w a b) = w < rows g
 
   -- question 36 of a node's record
   abbrev Created : Term → Type 0
@@ -54,6 +56,8 @@ module _ (g : Bytes) where
   grouped (case w i e a b) l h = l
   grouped (protect m e) l h = both (lt-ltb _ _ l.0) (lt-ltb _ _ l.1)
   grouped (mu w i e) l h = l
+  grouped (literal k n) l h = both l.4 h
+  grouped (reckon o w a b) l h = l
 
   pub questions_grouped : (e : Term) → q15 g (encode e) ≡ accepted tt → q36_objects g (encode e) ≡ accepted tt → Every term_shape Grouped e
   questions_grouped e a b =
@@ -86,6 +90,8 @@ module _ (g : Bytes) where
     labelled (case w i e a b) h = h
     labelled (protect m e) h = (ltb-true _ _ (and_left _ _ h), ltb-true _ _ (and_right (ltb m.ir (rows g)) _ h))
     labelled (mu w i e) h = h
+    labelled (literal k n) h = label k h
+    labelled (reckon o w a b) h = h
 
   created : (c : Term) → Grouped c → Created c
   unfolding ok36_object
@@ -101,6 +107,9 @@ module _ (g : Bytes) where
   created (case w i e a b) h = refl
   created (protect m e) h = refl
   created (mu w i e) h = refl
+  created (literal k n) h = creators_in_order k h
+  created (reckon plus w a b) h = refl
+  created (reckon (less i) w a b) h = refl
 
   pub grouped_questions : Lattice (groups_of g) → (e : Term) → Every term_shape Grouped e → (q15 g (encode e) ≡ accepted tt) × (q36_objects g (encode e) ≡ accepted tt)
   grouped_questions X e h =

@@ -7,17 +7,19 @@ use Prim.Native.Nat.{ℕ, suc, zero, ◌+◌, ◌<◌}
 use native.Mathlib.Omega.{arith}
 use lib.ListN.{length, get_or}
 use Rattle.calculus.specs.Security.{Property, Reader, Indirect, Security}
-use Rattle.calculus.specs.Types.{Former, sum, product, function, Ty, one, node, top, raise_t, fits, when, Parts, parts}
+use Rattle.calculus.specs.Types.{one, number, Former, sum, product, function, Ty, leaf, node, top, raise_t, fits, when, Parts, parts}
 use Rattle.calculus.specs.Subtyping.{subtype, below}
-use Rattle.calculus.specs.Terms.{Side, choose, Term, var, unit, lam, pair, inj, app, proj, case, protect, mu}
+use Rattle.calculus.specs.Terms.{Side, choose, plus, less, Term, var, unit, lam, pair, inj, app, proj, case, protect, mu, literal, reckon}
 use Rattle.calculus.specs.Typing.{finds_own, lookup, recurs, result, infer}
+use Rattle.calculus.specs.Numbers.{of_both, reckoned_type, number_of}
 use Rattle.calculus.specs.Common.{common}
 use Rattle.calculus.specs.Types as typing
 use Rattle.rules.specs.Answer.{Bytes, Answer, accepted, refused, ◌>>=◌, ◌>>◌, ask}
 use Rattle.rules.specs.Groups.{properties_of}
 use Rattle.rules.specs.Types.{type_at, type_count, type_kind, no_type}
-use Rattle.rules.specs.Script.{size}
-use Rattle.rules.specs.Typing.{has_form, left, right, q20, q21, q22, q23, q24, found_or, typing}
+use Rattle.rules.specs.Script.{sum_of_units, size}
+use Rattle.rules.specs.Typing.{has_form, left, right, q20, q20_number, q21, q22, q23, q24, found_or, number_result, typing}
+use Rattle.rules.proofs.UnitSums.{UnitSum}
 use Rattle.demands.proofs.Formed.{Formed}
 
 -- a found type, without the question and place of a refusal
@@ -47,7 +49,7 @@ only_forget q p false t = refl
 part_forget : (f : Former) (s : Ty) (p : ℕ) (m : Ty → Answer Ty) (h : Parts → Option Ty)
     → ((k : Property) (l r : Ty) → forget (m (node f k l r)) ≡ h (record { own = k; lhs = l; rhs = r }))
     → forget (◌>>◌ (q20 p f s) (m s)) ≡ typing.◌>>=◌ (parts f s) h
-part_forget f (one k) p m h x = refl
+part_forget f (leaf b k) p m h x = refl
 part_forget sum (node sum k l r) p m h x = x k l r
 part_forget sum (node product k l r) p m h x = refl
 part_forget sum (node function k l r) p m h x = refl
@@ -60,7 +62,7 @@ part_forget function (node function k l r) p m h x = x k l r
 
 -- a type of the form f, of which that is known
 known_parts : (f : Former) (s : Ty) → has_form f s ≡ true → parts f s ≡ some (record { own = top s; lhs = left s; rhs = right s })
-known_parts f (one k) e = let x : ◌≡◌ {A = ℕ} 0 1 = cc in absurd (omega arith)
+known_parts f (leaf b k) e = let x : ◌≡◌ {A = ℕ} 0 1 = cc in absurd (omega arith)
 known_parts f (node f' k l r) e = rw e
 
 lookup_is : (Γ : List Ty) (n : ℕ) → n < length Γ → some (get_or Γ n no_type) ≡ lookup Γ n
@@ -222,13 +224,52 @@ mu_rule S a w p m o e f =
     (λ no. dead o (recurring S a w) (λ s. subtype S below s a) (λ s. a) (rw (y, no))))
     (λ no. dead o (recurring S a w) (λ s. subtype S below s a) (λ s. a) (rw no)))
 
+-- question 20 of a number's type
+number_forget : (s : Ty) (p : ℕ) (m : Ty → Answer Ty) (h : Property → Option Ty) → ((k : Property) → forget (m (leaf number k)) ≡ h k)
+    → forget (◌>>◌ (q20_number p s) (m s)) ≡ typing.◌>>=◌ (number_of s) h
+number_forget (leaf one k) p m h x = refl
+number_forget (leaf number k) p m h x = x k
+number_forget (node f k l r) p m h x = refl
+
+-- without leave to read the left operand, what the right one has doesn't matter
+dead_reckon : (o : Option Ty) (b : Bool) (c : Property → Bool) (f : Property → Option Ty) → b ≡ false
+    → none ≡ typing.◌>>=◌ o (λ t. typing.◌>>=◌ (number_of t) (λ l. typing.◌>>=◌ (f l) (λ u. when (b && c l) u)))
+dead_reckon none b c f e = refl
+dead_reckon (some (leaf one k)) b c f e = refl
+dead_reckon (some (node g k l r)) b c f e = refl
+dead_reckon (some (leaf number k)) b c f e = go (f k)
+  where
+    go : (x : Option Ty) → none ≡ typing.◌>>=◌ x (λ u. when (b && c k) u)
+    go none = refl
+    go (some u) = rw e
+
+reckon_rule : (S : Security) (w : Reader) (p : ℕ) (m m' : Answer Ty) (o o' : Option Ty) (f : Property → Ty) (r : Property → Option Ty) → forget m ≡ o
+    → forget m' ≡ o' → ((k : Property) → r k ≡ some (f k))
+    → forget (◌>>=◌ m (λ s. ◌>>◌ (q20_number p s) (◌>>◌ (q21 S p s w)
+    (◌>>=◌ m' (λ t. ◌>>◌ (q20_number p t) (◌>>◌ (q21 S p t w) (accepted (f (of_both S w (top s) (top t))))))))))
+    ≡ typing.◌>>=◌ o (λ s. typing.◌>>=◌ (number_of s) (λ k. typing.◌>>=◌ o' (λ t. typing.◌>>=◌ (number_of t)
+    (λ l. typing.◌>>=◌ (r (of_both S w k l)) (λ u. when (S.permits k w && S.permits l w) u)))))
+reckon_rule S w p m m' o o' f r e e' is =
+    bind_forget m _ o _ e
+    (λ s. number_forget s p
+    (λ s. ◌>>◌ (q21 S p s w) (◌>>=◌ m' (λ t. ◌>>◌ (q20_number p t) (◌>>◌ (q21 S p t w) (accepted (f (of_both S w (top s) (top t)))))))) _
+    (λ k. ask_forget 21 p (S.permits k w) (◌>>=◌ m' (λ t. ◌>>◌ (q20_number p t) (◌>>◌ (q21 S p t w) (accepted (f (of_both S w k (top t))))))) _
+    (λ yes. bind_forget m' _ o' _ e'
+    (λ t. number_forget t p (λ t. ◌>>◌ (q21 S p t w) (accepted (f (of_both S w k (top t))))) _
+    (λ l. rw (is (of_both S w k l)) (last_forget 21 p (S.permits k w) (S.permits l w) (f (of_both S w k l)) yes))))
+    (λ no. dead_reckon o' (S.permits k w) (λ l. S.permits l w) (λ l. r (of_both S w k l)) no)))
+
 module _ (g t : Bytes) (sums : (i : ℕ) → i < type_count t → type_kind t i ≡ 1 → So (has_form sum (type_at t i)))
-    (functions : (i : ℕ) → i < type_count t → type_kind t i ≡ 3 → So (has_form function (type_at t i))) where
+    (functions : (i : ℕ) → i < type_count t → type_kind t i ≡ 3 → So (has_form function (type_at t i)))
+    (units : (i : ℕ) → i < type_count t → So (sum_of_units t i) → UnitSum (type_at t i)) where
   abbrev S : Security
   S = properties_of g
 
   abbrev tab : ℕ → Ty
   tab = type_at t
+
+  flag_type : (i : ℕ) → i < type_count t → So (sum_of_units t i) → (k : Property) → reckoned_type tab (less i) k ≡ some (number_result tab (less i) k)
+  flag_type i l h k = let u = units i l h in rw u.is
 
   pub agree : (Γ : List Ty) (p : ℕ) (e : Term) → Formed g t (length Γ) e → forget (typing S tab Γ p e) ≡ infer S tab Γ e
   unfolding Formed typing infer result
@@ -250,3 +291,10 @@ module _ (g t : Bytes) (sums : (i : ℕ) → i < type_count t → type_kind t i 
       (λ s. agree (s ∷ Γ) (1 + p + size e) a F.3) (λ s. agree (s ∷ Γ) (1 + p + size e + size a) b F.4)
   agree Γ p (protect m e) F = protect_rule S m (typing S tab Γ (1 + p) e) (infer S tab Γ e) (agree Γ (1 + p) e F.1) F.0
   agree Γ p (mu w i e) F = mu_rule S (tab i) w p (typing S tab (tab i ∷ Γ) (1 + p) e) (infer S tab (tab i ∷ Γ) e) (agree (tab i ∷ Γ) (1 + p) e F.3) (functions i F.1 F.2)
+  agree Γ p (literal k n) F = rw F.0
+  agree Γ p (reckon plus w a b) F =
+      reckon_rule S w p (typing S tab Γ (1 + p) a) (typing S tab Γ (1 + p + size a) b) (infer S tab Γ a) (infer S tab Γ b) (number_result tab plus) (reckoned_type tab plus)
+      (agree Γ (1 + p) a F.1) (agree Γ (1 + p + size a) b F.2) (λ k. refl)
+  agree Γ p (reckon (less i) w a b) F =
+      reckon_rule S w p (typing S tab Γ (1 + p) a) (typing S tab Γ (1 + p + size a) b) (infer S tab Γ a) (infer S tab Γ b) (number_result tab (less i)) (reckoned_type tab (less i))
+      (agree Γ (1 + p) a F.3) (agree Γ (1 + p + size a) b F.4) (flag_type i F.1 F.2)

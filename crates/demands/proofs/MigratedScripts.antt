@@ -117,7 +117,7 @@ module _ (t s : Bytes) where
   ok14_same i l = rw (kind_same i, ir_same i, zero_same i, number_same i, c_same i, ic_same i) (go (eqb (kind old i) 11) refl)
     where
       go : (b : Bool) → eqb (kind old i) 11 ≡ b
-          → leb (kind old i) 11 && (eqb (zero_byte old i) 0
+          → leb (kind old i) 14 && (eqb (zero_byte old i) 0
           && ((not (signature_of (kind old i)).r ⇒ eqb (r new i) 0)
           && ((not (signature_of (kind old i)).ir ⇒ eqb (ir old i) 0)
           && ((not (signature_of (kind old i)).number ⇒ eqb (number old i) 0)

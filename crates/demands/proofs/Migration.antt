@@ -8,8 +8,8 @@ use native.Mathlib.Omega.{arith}
 use borrow.Author.Tests.{le-leb, ltb-true}
 use lib.ListN.{length}
 use Rattle.calculus.specs.Security.{Property, Reader, Indirect}
-use Rattle.calculus.specs.Types.{Ty, one, node, top}
-use Rattle.calculus.specs.Terms.{Term, var, unit, lam, pair, inj, app, proj, case, protect, mu}
+use Rattle.calculus.specs.Types.{Ty, leaf, node, top}
+use Rattle.calculus.specs.Terms.{plus, less, Term, var, unit, lam, pair, inj, app, proj, case, protect, mu, literal, reckon}
 use Rattle.calculus.specs.Relabelling.{Labels, relabel_t, relabel}
 use Rattle.calculus.specs.Callers.{as_written}
 use Rattle.calculus.specs.Creators.{uncreated, uncreated_i, rewritten}
@@ -17,7 +17,8 @@ use Rattle.calculus.proofs.Booleans.{both, and_left}
 use Rattle.calculus.proofs.SecureTyping.{top_secure}
 use Rattle.calculus.proofs.Properties.{properties_laws}
 use Rattle.calculus.proofs.Creators.{Least, rewritten_agrees, uncreated_agrees}
-use Rattle.calculus.proofs.RelabelledTypes.{Agrees, relabel_top}
+use Rattle.calculus.proofs.RelabelledTerms.{relabel_top}
+use Rattle.calculus.proofs.RelabelledTypes.{Agrees}
 use Rattle.rules.specs.Answer.{Bytes, Octets, Answer, accepted, refused, ◌>>◌}
 use Rattle.rules.specs.Limits.{old_script_width}
 use Rattle.rules.specs.Groups.{rows, leq, groups_of, properties_of}
@@ -56,7 +57,7 @@ unread item_6 k w = refl
 -- a type has no recursion in it
 no_recursion : (form : Form) (tab : ℕ → Ty) (t : Ty) → relabel_t (rewritten (caller_in form) tab) t ≡ relabel_t (rewritten as_written tab) t
 unfolding relabel_t
-no_recursion form tab (one k) = refl
+no_recursion form tab (leaf b k) = refl
 no_recursion form tab (node f k s t) = rw (no_recursion form tab s, no_recursion form tab t)
 
 callers_length_in : (form : Form) (t s : Bytes) → length (with_callers form t s) ≡ length s
@@ -240,6 +241,9 @@ module _ (form : Form) (g t : Bytes) (octets_g : Octets g) (types : types_check 
   new_formed n (case w i e a b) F = (F.0, F.1, new_formed n e F.2, new_formed (suc n) a F.3, new_formed (suc n) b F.4)
   new_formed n (protect m e) F = (uncreated_secure_i m F.0, new_formed n e F.1)
   new_formed n (mu w i e) F = (called_group form i w F.0, F.1, F.2, new_formed (suc n) e F.3)
+  new_formed n (literal k m) F = (uncreated_secure k F.0, F.1)
+  new_formed n (reckon plus w a b) F = (F.0, new_formed n a F.1, new_formed n b F.2)
+  new_formed n (reckon (less i) w a b) F = (F.0, F.1, F.2, new_formed n a F.3, new_formed n b F.4)
 
   new_fit : (e : Term) → Fit g (widen_types t) e → Fit g (widen_types t) (new_term form t e)
   new_fit e F = record {
@@ -258,6 +262,7 @@ module _ (form : Form) (g t : Bytes) (octets_g : Octets g) (types : types_check 
       let laws = properties_laws X.lattice in
       record {
         raise = λ k m h i. uncreated_secure ((properties_of g).raise k m) (laws.raise_secure k m h i);
+        fresh = λ k w p. both own_zero own_zero;
         influence = λ k w h p. uncreated_secure_i ((properties_of g).influence k w) (laws.influence_secure k w h p);
         caller = earlier_caller form;
       }
@@ -342,7 +347,7 @@ NoCreators u = ((top u).ic ≡ 0) × ((top (right u)).c ≡ 0)
 
 relabelled_creators : (tab : ℕ → Ty) (u : Ty) → NoCreators (relabel_t (rewritten as_written tab) u)
 unfolding relabel_t
-relabelled_creators tab (one k) = (refl, refl)
+relabelled_creators tab (leaf b k) = (refl, refl)
 relabelled_creators tab (node f k s t) = (refl, ap (λ (k : Property). k.c) (relabel_top (rewritten as_written tab) t))
 
 widened_creators : (t : Bytes) (i : ℕ) → NoCreators (type_at (widen_types t) i)

@@ -8,12 +8,13 @@ use native.Mathlib.Omega.{arith}
 use Rattle.calculus.specs.Security.{Property, Reader, Security}
 use Rattle.calculus.specs.Types.{Former, sum, product, function, Ty, node, top, raise_t, fits}
 use Rattle.calculus.specs.Subtyping.{subtype, below}
-use Rattle.calculus.specs.Terms.{Side, choose, Term, var, unit, lam, pair, inj, app, proj, case, protect, mu}
+use Rattle.calculus.specs.Terms.{Side, choose, Term, var, unit, lam, pair, inj, app, proj, case, protect, mu, literal, reckon}
+use Rattle.calculus.specs.Numbers.{of_both}
 use Rattle.calculus.specs.Common.{common}
 use Rattle.calculus.specs.Typing.{finds_own}
 use Rattle.rules.specs.Answer.{Answer, accepted, refused, ◌>>=◌, ◌>>◌, ask}
 use Rattle.rules.specs.Script.{size}
-use Rattle.rules.specs.Typing.{has_form, left, right, q20, q21, q22, q23, q24, found_or, of_typing, typing}
+use Rattle.rules.specs.Typing.{has_form, is_number, left, right, q20, q20_number, q21, q22, q23, q24, found_or, number_result, of_typing, typing}
 
 -- an answer whose refusals are typing's, at a record before `end`
 pub data Placed {A : Type 0} (end : ℕ) : Answer A → Type 0 where
@@ -98,6 +99,16 @@ module _ (S : Security) (end p : ℕ) (l : p < end) where
       → Placed end (◌>>◌ (q21 S p a w) (◌>>◌ (q23 S p a w) (◌>>=◌ m (λ s. ◌>>◌ (q22 S p s a) (accepted a)))))
   mu_placed a w m P = then (q21 S p a w) _ (at_21 a w) (then (q23 S p a w) _ (at_23 a w) (bind m _ P (λ s. then (q22 S p s a) _ (at_22 s a) placed_yes)))
 
+  at_20_number : (s : Ty) → Placed end (q20_number p s)
+  at_20_number s = asked 20 p (is_number s) refl l
+
+  reckon_placed : (w : Reader) (f : Ty → Ty → Ty) (m m' : Answer Ty) → Placed end m → Placed end m'
+      → Placed end (◌>>=◌ m (λ s. ◌>>◌ (q20_number p s) (◌>>◌ (q21 S p s w)
+      (◌>>=◌ m' (λ t. ◌>>◌ (q20_number p t) (◌>>◌ (q21 S p t w) (accepted (f s t))))))))
+  reckon_placed w f m m' P P' =
+      bind m _ P (λ s. then (q20_number p s) _ (at_20_number s) (then (q21 S p s w) _ (at_21 s w)
+      (bind m' _ P' (λ t. then (q20_number p t) _ (at_20_number t) (then (q21 S p t w) _ (at_21 t w) placed_yes)))))
+
 pub typing_placed : (S : Security) (tab : ℕ → Ty) (end : ℕ) (Γ : List Ty) (p : ℕ) (e : Term) → p + size e ≤ end → Placed end (typing S tab Γ p e)
 unfolding typing size
 typing_placed S tab end Γ p (var n) l = placed_yes
@@ -115,6 +126,10 @@ typing_placed S tab end Γ p (case w i e a b) l =
     (λ s. typing_placed S tab end (s ∷ Γ) (1 + p + size e + size a) b (omega arith))
 typing_placed S tab end Γ p (protect m e) l = bind (typing S tab Γ (1 + p) e) _ (typing_placed S tab end Γ (1 + p) e (omega arith)) (λ s. placed_yes)
 typing_placed S tab end Γ p (mu w i e) l = mu_placed S end p (omega arith) (tab i) _ (typing S tab (tab i ∷ Γ) (1 + p) e) (typing_placed S tab end (tab i ∷ Γ) (1 + p) e (omega arith))
+typing_placed S tab end Γ p (literal k n) l = placed_yes
+typing_placed S tab end Γ p (reckon o w a b) l =
+    reckon_placed S end p (omega arith) w (λ s t. number_result tab o (of_both S w (top s) (top t))) (typing S tab Γ (1 + p) a) (typing S tab Γ (1 + p + size a) b)
+    (typing_placed S tab end Γ (1 + p) a (omega arith)) (typing_placed S tab end Γ (1 + p + size a) b (omega arith))
 
 refused_number : {A : Type 0} {q q' p p' : ℕ} → ◌≡◌ {A = Answer A} (refused q p) (refused q' p') → q ≡ q'
 refused_number e = cc

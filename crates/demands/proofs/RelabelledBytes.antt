@@ -3,7 +3,7 @@
 use mathlib.Core.Path.{◌≡◌, refl, sym, ap, ◌∙◌}
 use mathlib.Core.List.{List, [], ◌∷◌, ◌++◌, append_assoc, append-nil, map}
 use Prim.Native.Nat.{ℕ}
-use Rattle.calculus.specs.Terms.{Term, var, unit, lam, pair, inj, app, proj, case, protect, mu}
+use Rattle.calculus.specs.Terms.{Term, var, unit, lam, pair, inj, app, proj, case, protect, mu, literal, reckon}
 use Rattle.calculus.specs.Relabelling.{Labels, relabel}
 use Rattle.rules.specs.Answer.{Bytes}
 use Rattle.rules.specs.Script.{encode, size, depth, counts}
@@ -23,6 +23,8 @@ relabel_size R (proj d w e) = rw (relabel_size R e)
 relabel_size R (case w i e a b) = rw (relabel_size R e, relabel_size R a, relabel_size R b)
 relabel_size R (protect m e) = rw (relabel_size R e)
 relabel_size R (mu w i e) = rw (relabel_size R e)
+relabel_size R (literal k n) = refl
+relabel_size R (reckon o w a b) = rw (relabel_size R a, relabel_size R b)
 
 pub relabel_depth : (R : Labels) (e : Term) → depth (relabel R e) ≡ depth e
 unfolding depth relabel
@@ -36,6 +38,8 @@ relabel_depth R (proj d w e) = rw (relabel_depth R e)
 relabel_depth R (case w i e a b) = rw (relabel_depth R e, relabel_depth R a, relabel_depth R b)
 relabel_depth R (protect m e) = rw (relabel_depth R e)
 relabel_depth R (mu w i e) = rw (relabel_depth R e)
+relabel_depth R (literal k n) = refl
+relabel_depth R (reckon o w a b) = rw (relabel_depth R a, relabel_depth R b)
 
 pub relabel_counts : (R : Labels) (wide : ℕ → ℕ → ℕ) (deeper bound : ℕ → ℕ) (n : ℕ) (e : Term) → counts wide deeper bound n (relabel R e) ≡ counts wide deeper bound n e
 unfolding counts relabel
@@ -50,6 +54,8 @@ relabel_counts R v f b n (case w i e x y) =
     rw (relabel_counts R v f b (f (v i n)) e, relabel_counts R v f b (b (v i n)) x, relabel_counts R v f b (b (v i n)) y)
 relabel_counts R v f b n (protect m e) = rw (relabel_counts R v f b (f n) e)
 relabel_counts R v f b n (mu w i e) = rw (relabel_counts R v f b (b n) e)
+relabel_counts R v f b n (literal k m) = refl
+relabel_counts R v f b n (reckon o w x y) = rw (relabel_counts R v f b (f n) x, relabel_counts R v f b (f n) y)
 
 relabel_operands : (R : Labels) (e : Term) → term_operands (relabel R e) ≡ map (relabel R) (term_operands e)
 unfolding relabel
@@ -63,6 +69,8 @@ relabel_operands R (proj d w e) = refl
 relabel_operands R (case w i e a b) = refl
 relabel_operands R (protect m e) = refl
 relabel_operands R (mu w i e) = refl
+relabel_operands R (literal k n) = refl
+relabel_operands R (reckon o w a b) = refl
 
 -- `change` goes record by record, and relabels each node of which Q holds.
 module _ (R : Labels) (change : Bytes → Bytes) (Q : Term → Type 0)

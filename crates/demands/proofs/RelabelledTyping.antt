@@ -5,20 +5,21 @@ use mathlib.Core.List.{List, [], ◌∷◌, map}
 use mathlib.Core.Option.{Option, none, some}
 use Prim.Native.Nat.{ℕ, suc, zero, ◌+◌}
 use lib.ListN.{get_or}
-use Rattle.calculus.specs.Security.{Reader, Security}
-use Rattle.calculus.specs.Types.{Former, sum, product, function, Ty, one, node, top, raise_t}
+use Rattle.calculus.specs.Security.{Property, Reader, Security}
+use Rattle.calculus.specs.Types.{one, number, Former, sum, product, function, Ty, leaf, node, top, raise_t}
 use Rattle.calculus.specs.Subtyping.{below}
 use Rattle.calculus.specs.Common.{common}
 use Rattle.calculus.specs.Typing.{finds_own}
-use Rattle.calculus.specs.Terms.{Side, first, second, choose, Term, var, unit, lam, pair, inj, app, proj, case, protect, mu}
+use Rattle.calculus.specs.Terms.{Side, first, second, choose, Operation, plus, less, Term, var, unit, lam, pair, inj, app, proj, case, protect, mu, literal, reckon}
+use Rattle.calculus.specs.Numbers.{of_both}
 use Rattle.calculus.specs.Reduction.{Outcome, value, moved, denied, stuck, step}
 use Rattle.calculus.specs.Relabelling.{Labels, relabel_t, relabel, relabel_o}
-use Rattle.calculus.proofs.RelabelledTerms.{relabel_value}
-use Rattle.calculus.proofs.RelabelledTypes.{Agrees, relabel_top, relabel_size_t, relabel_found, relabel_subtype, relabel_raise_t, relabel_common, agreed_step}
+use Rattle.calculus.proofs.RelabelledTerms.{relabel_top, relabel_value}
+use Rattle.calculus.proofs.RelabelledTypes.{Agrees, relabel_size_t, relabel_found, relabel_subtype, relabel_raise_t, relabel_common, agreed_step}
 use Rattle.rules.specs.Answer.{Answer, accepted, refused, ◌>>=◌, ◌>>◌, ask}
 use Rattle.rules.specs.Types.{no_type}
 use Rattle.rules.specs.Script.{size}
-use Rattle.rules.specs.Typing.{has_form, left, right, q20, q21, q22, q23, q24, q22_of_branch, found_or, branch_type, typing}
+use Rattle.rules.specs.Typing.{has_form, is_number, left, right, q20, q20_number, q21, q22, q23, q24, q22_of_branch, found_or, branch_type, number_result, typing}
 use Rattle.rules.specs.Step.{End, at_value, moves, may_not, wrong_kind, too_big, exceeds, limited, step_in}
 use Rattle.rules.specs.Run.{Ran, one_step_more, run}
 use Rattle.demands.proofs.RelabelledBytes.{relabel_size, relabel_depth}
@@ -51,22 +52,27 @@ after_question R (refused q p) b x y e h = rw e
 
 relabel_form : (R : Labels) (f : Former) (t : Ty) → has_form f (relabel_t R t) ≡ has_form f t
 unfolding relabel_t
-relabel_form R f (one k) = refl
+relabel_form R f (leaf b k) = refl
 relabel_form R f (node g k s t) = refl
+
+relabel_number : (R : Labels) (t : Ty) → is_number (relabel_t R t) ≡ is_number t
+unfolding relabel_t
+relabel_number R (leaf b k) = refl
+relabel_number R (node f k s t) = refl
 
 module _ {R : Labels} {S S' : Security} {tab : ℕ → Ty} (agrees : Agrees R S S' tab) (fixed : (i : ℕ) → relabel_t R (tab i) ≡ tab i) where
   no_type_kept : relabel_t R no_type ≡ no_type
   unfolding relabel_t
-  no_type_kept = ap one agrees.nothing
+  no_type_kept = ap (leaf one) agrees.nothing
 
   relabel_left : (t : Ty) → left (relabel_t R t) ≡ relabel_t R (left t)
   unfolding relabel_t
-  relabel_left (one k) = sym no_type_kept
+  relabel_left (leaf b k) = sym no_type_kept
   relabel_left (node f k s t) = refl
 
   relabel_right : (t : Ty) → right (relabel_t R t) ≡ relabel_t R (right t)
   unfolding relabel_t
-  relabel_right (one k) = sym no_type_kept
+  relabel_right (leaf b k) = sym no_type_kept
   relabel_right (node f k s t) = refl
 
   relabel_nearest : (Γ : List Ty) (n : ℕ) → get_or (map (relabel_t R) Γ) n no_type ≡ relabel_t R (get_or Γ n no_type)
@@ -76,6 +82,9 @@ module _ {R : Labels} {S S' : Security} {tab : ℕ → Ty} (agrees : Agrees R S 
 
   same_20 : (p : ℕ) (f : Former) (s : Ty) → q20 p f (relabel_t R s) ≡ q20 p f s
   same_20 p f s = ap (ask 20 p) (relabel_form R f s)
+
+  same_20_number : (p : ℕ) (s : Ty) → q20_number p (relabel_t R s) ≡ q20_number p s
+  same_20_number p s = ap (ask 20 p) (relabel_number R s)
 
   same_21 : (p : ℕ) (s : Ty) (w : Reader) → q21 S' p (relabel_t R s) (R.reader w) ≡ q21 S p s w
   same_21 p s w = rw (relabel_top R s, agrees.permits (top s) w)
@@ -127,6 +136,16 @@ module _ {R : Labels} {S S' : Security} {tab : ℕ → Ty} (agrees : Agrees R S 
 
   fixed_side : (d : Side) (i : ℕ) → relabel_t R (choose d (left (tab i)) (right (tab i))) ≡ choose d (left (tab i)) (right (tab i))
   fixed_side d i = sym (relabel_side d (tab i)) ∙ ap (λ (t : Ty). choose d (left t) (right t)) (fixed i)
+
+  relabel_both : (w : Reader) (s t : Ty)
+      → of_both S' (R.reader w) (top (relabel_t R s)) (top (relabel_t R t)) ≡ R.property (of_both S w (top s) (top t))
+  relabel_both w s t = rw (relabel_top R s, relabel_top R t) (sym (agrees.reckoning w (top s) (top t)))
+
+  relabel_result : (o : Operation) (k k' : Property) → k' ≡ R.property k → number_result tab o k' ≡ relabel_t R (number_result tab o k)
+  unfolding relabel_t
+  relabel_result plus k k' e = ap (leaf number) e
+  relabel_result (less i) k k' e =
+      rw e (ap₂ (λ (a b : Ty). node sum (R.property k) a b) (sym (fixed_side first i)) (sym (fixed_side second i)))
 
   -- one more binder
   under : {s' : Ty} {x : Answer Ty} (s : Ty) (Γ : List Ty) (p : ℕ) (e : Term) → s' ≡ relabel_t R s
@@ -191,6 +210,16 @@ module _ {R : Labels} {S S' : Security} {tab : ℕ → Ty} (agrees : Agrees R S 
       (after_question R (q23 S p (tab i) (S.caller (top (tab i)) w)) _ _ _ (fixed_23 p i (S.caller (top (tab i)) w))
       (after_type R (typing S tab (tab i ∷ Γ) (1 + p) e) _ _ _ (under (tab i) Γ (1 + p) e (sym (fixed i)) (relabel_typing (tab i ∷ Γ) (1 + p) e)) λ t.
       after_question R (q22 S p t (tab i)) _ (accepted (tab i)) _ (fixed_22 p i t) (ap accepted (sym (fixed i))))))
+  relabel_typing Γ p (literal k n) = refl
+  relabel_typing Γ p (reckon o w a b) =
+      rw (relabel_size R a)
+      (after_type R (typing S tab Γ (1 + p) a) _ _ _ (relabel_typing Γ (1 + p) a) λ s.
+      after_question R (q20_number p s) _ _ _ (same_20_number p s)
+      (after_question R (q21 S p s w) _ _ _ (same_21 p s w)
+      (after_type R (typing S tab Γ (1 + p + size a) b) _ _ _ (relabel_typing Γ (1 + p + size a) b) λ t.
+      after_question R (q20_number p t) _ _ _ (same_20_number p t)
+      (after_question R (q21 S p t w) _ (accepted (number_result tab o (of_both S w (top s) (top t)))) _ (same_21 p t w)
+      (ap accepted (relabel_result o (of_both S w (top s) (top t)) _ (relabel_both w s t)))))))
 
   relabel_exceeds : (room : ℕ) (e : Term) → exceeds room (relabel R e) ≡ exceeds room e
   unfolding exceeds

@@ -70,7 +70,7 @@ module _ (g t s : Bytes) (octets_g : Octets g) (octets_s : Octets s) where
   known q = tables g t octets_g (passed q).types
 
   same_type : script_check [] g t s ≡ accepted tt → forget (typing S tab [] 0 (term s)) ≡ infer S tab [] (term s)
-  same_type q = agree g t (known q).sums (known q).functions [] 0 (term s) (passed q).fit.formed
+  same_type q = agree g t (known q).sums (known q).functions (known q).units [] 0 (term s) (passed q).fit.formed
 
   -- the verdict is typing's answer
   goes_typing : script_check [] g t s ≡ accepted tt → verdict g t s ≡ typing S tab [] 0 (term s)

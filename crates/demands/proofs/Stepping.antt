@@ -1,15 +1,17 @@
 -- A step keeps what questions 15, 36, 16 and 19 ask: every term that a run reaches is formed as the script is.
 use mathlib.Core.Path.{◌≡◌, refl, sym, subst}
 use mathlib.Core.Bool.{Bool, true, false, cond, So}
-use Prim.Native.Nat.{ℕ, suc, ◌<◌, ◌≤◌}
+use Prim.Native.Nat.{ℕ, suc, ◌+◌, ◌<◌, ◌≤◌, min}
 use native.Mathlib.Omega.{arith}
-use borrow.Author.Tests.{eqb-false, ltb-true}
+use borrow.Author.Tests.{eqb-true, eqb-false, ltb-true}
 use lib.Dec.{eqb}
 use Rattle.calculus.specs.Security.{Property, Reader, Indirect, Security}
-use Rattle.calculus.specs.Terms.{Side, first, second, choose, Term, var, unit, lam, pair, inj, app, proj, case, protect, mu, raise_value}
+use Rattle.calculus.specs.Types.{Ty, leaf, node, top, secure_t}
+use Rattle.calculus.specs.Terms.{Side, first, second, choose, Operation, plus, less, Term, var, unit, lam, pair, inj, app, proj, case, protect, mu, literal, reckon, raise_value}
 use Rattle.calculus.specs.Terms as terms
-use Rattle.calculus.specs.Reduction.{unrolled, Contracts, c_app, c_proj, c_case, c_mu, c_protect, Context, hole, app_left, app_right, in_proj, in_inj, pair_left, pair_right, in_protect, in_case, plug, moved, step}
-use Rattle.calculus.proofs.Booleans.{and_left}
+use Rattle.calculus.specs.Reduction.{unrolled, Contracts, c_app, c_proj, c_case, c_mu, c_reckon, c_protect, Context, hole, app_left, app_right, in_proj, in_inj, pair_left, pair_right, in_protect, in_case, reckon_left, reckon_right, plug, moved, step}
+use Rattle.calculus.specs.Numbers.{of_both, number_limit, side, compared, reckoned}
+use Rattle.calculus.proofs.Booleans.{and_left, and_right}
 use Rattle.calculus.proofs.Properties.{properties_laws}
 use Rattle.calculus.proofs.Reduction.{step_reduces}
 use Rattle.calculus.proofs.SecureTyping.{table_parts}
@@ -33,6 +35,9 @@ formed_weaken g t n m (case w i e a b) l F =
     (F.0, F.1, formed_weaken g t n m e l F.2, formed_weaken g t (suc n) (suc m) a (omega arith) F.3, formed_weaken g t (suc n) (suc m) b (omega arith) F.4)
 formed_weaken g t n m (protect i e) l F = (F.0, formed_weaken g t n m e l F.1)
 formed_weaken g t n m (mu w i e) l F = (F.0, F.1, F.2, formed_weaken g t (suc n) (suc m) e (omega arith) F.3)
+formed_weaken g t n m (literal k x) l F = F
+formed_weaken g t n m (reckon plus w a b) l F = (F.0, formed_weaken g t n m a l F.1, formed_weaken g t n m b l F.2)
+formed_weaken g t n m (reckon (less i) w a b) l F = (F.0, F.1, F.2, formed_weaken g t n m a l F.3, formed_weaken g t n m b l F.4)
 
 -- a closed term for the last variable
 pub formed_subst : (g t : Bytes) (n : ℕ) (v e : Term) → Formed g t 0 v → Formed g t (suc n) e → Formed g t n (terms.subst n v e)
@@ -54,6 +59,9 @@ formed_subst g t n v (proj d w e) H F = (F.0, formed_subst g t n v e H F.1)
 formed_subst g t n v (case w i e a b) H F = (F.0, F.1, formed_subst g t n v e H F.2, formed_subst g t (suc n) v a H F.3, formed_subst g t (suc n) v b H F.4)
 formed_subst g t n v (protect m e) H F = (F.0, formed_subst g t n v e H F.1)
 formed_subst g t n v (mu w i e) H F = (F.0, F.1, F.2, formed_subst g t (suc n) v e H F.3)
+formed_subst g t n v (literal k m) H F = F
+formed_subst g t n v (reckon plus w a b) H F = (F.0, formed_subst g t n v a H F.1, formed_subst g t n v b H F.2)
+formed_subst g t n v (reckon (less i) w a b) H F = (F.0, F.1, F.2, formed_subst g t n v a H F.3, formed_subst g t n v b H F.4)
 
 formed_choose : (g t : Bytes) (n : ℕ) (d : Side) (a b : Term) → Formed g t n a → Formed g t n b → Formed g t n (choose d a b)
 formed_choose g t n first a b A B = A
@@ -71,10 +79,15 @@ formed_plug g t (pair_left k E b) e F = let x = formed_plug g t E e F.1 in (x.0,
 formed_plug g t (pair_right k v h E) e F = let x = formed_plug g t E e F.2 in (x.0, λ e' F'. (F.0, F.1, x.1 e' F'))
 formed_plug g t (in_protect m E) e F = let x = formed_plug g t E e F.1 in (x.0, λ e' F'. (F.0, x.1 e' F'))
 formed_plug g t (in_case w i E a b) e F = let x = formed_plug g t E e F.2 in (x.0, λ e' F'. (F.0, F.1, x.1 e' F', F.3, F.4))
+formed_plug g t (reckon_left plus w E b) e F = let x = formed_plug g t E e F.1 in (x.0, λ e' F'. (F.0, x.1 e' F', F.2))
+formed_plug g t (reckon_left (less i) w E b) e F = let x = formed_plug g t E e F.3 in (x.0, λ e' F'. (F.0, F.1, F.2, x.1 e' F', F.4))
+formed_plug g t (reckon_right plus w v h E) e F = let x = formed_plug g t E e F.2 in (x.0, λ e' F'. (F.0, F.1, x.1 e' F'))
+formed_plug g t (reckon_right (less i) w v h E) e F = let x = formed_plug g t E e F.4 in (x.0, λ e' F'. (F.0, F.1, F.2, F.3, x.1 e' F'))
 
 -- Rules by which what is made of groups of the table is one too.
 pub record Stays (g : Bytes) (S : Security) : Type 0 where
   pub raise : (k : Property) (m : Indirect) → Secure g k → SecureI g m → Secure g (S.raise k m)
+  pub fresh : (k : Property) (w : Reader) → So (S.permits k w) → Secure g (S.fresh w)
   pub influence : (k : Property) (w : Reader) → Secure g k → So (S.permits k w) → SecureI g (S.influence k w)
   pub caller : (k : Property) (w : Reader) → k.r < rows g → w < rows g → S.caller k w < rows g
 
@@ -82,10 +95,15 @@ module _ {g t : Bytes} (X : Tables g t) where
   pub properties_stay : Stays g (properties_of g)
   properties_stay =
       let laws = properties_laws X.lattice in
-      record { raise = laws.raise_secure; influence = laws.influence_secure; caller = λ k w r l. l }
+      record { raise = laws.raise_secure; fresh = laws.fresh_secure; influence = laws.influence_secure; caller = λ k w r l. l }
 
   r_group : (k : Property) → Secure g k → k.r < rows g
   r_group k h = ltb-true _ _ (X.lattice.groups_only _ _ (X.lattice.self_right _ _ (and_left _ _ h)))
+
+  top_secure : (u : Ty) → So (secure_t (properties_of g) u) → Secure g (top u)
+  unfolding secure_t
+  top_secure (leaf b k) h = h
+  top_secure (node f k s u) h = and_left _ _ h
 
   module _ {S : Security} (stays : Stays g S) where
     formed_raise : (n : ℕ) (v : Term) (m : Indirect) → SecureI g m → Formed g t n v → Formed g t n (raise_value S v m)
@@ -100,6 +118,28 @@ module _ {g t : Bytes} (X : Tables g t) where
     formed_raise n (case w i e a b) m l F = F
     formed_raise n (protect i e) m l F = F
     formed_raise n (mu w i e) m l F = F
+    formed_raise n (literal k x) m l F = (stays.raise k m F.0 l, F.1)
+    formed_raise n (reckon o w a b) m l F = F
+
+    both_secure : (k l : Property) (w : Reader) → Secure g k → Secure g l → So (S.permits k w) → So (S.permits l w) → Secure g (of_both S w k l)
+    both_secure k l w h h' p p' =
+        stays.raise _ _ (stays.raise _ _ (stays.fresh k w p) (stays.influence k w h p)) (stays.influence l w h' p')
+
+    bounded : (m n : ℕ) → min (m + n) number_limit < 65536
+    bounded m n = omega arith
+
+    side_secure : (d : Side) (u : Ty) → So (secure_t (properties_of g) u) → Secure g (top (side d u))
+    unfolding secure_t
+    side_secure d (leaf b k) h = h
+    side_secure first (node f k s u) h = top_secure s (and_left _ _ (and_right ((properties_of g).secure k) _ h))
+    side_secure second (node f k s u) h = top_secure u (and_right (secure_t (properties_of g) s) _ (and_right ((properties_of g).secure k) _ h))
+
+    formed_reckoned : (o : Operation) (w : Reader) (k l : Property) (m n : ℕ) → So (S.permits k w) → So (S.permits l w)
+        → Formed g t 0 (reckon o w (literal k m) (literal l n)) → Formed g t 0 (reckoned (type_at t) o (of_both S w k l) m n)
+    unfolding Formed reckoned
+    formed_reckoned plus w k l m n p q F = (both_secure k l w F.1.0 F.2.0 p q, bounded m n)
+    formed_reckoned (less i) w k l m n p q F =
+        (both_secure k l w F.3.0 F.4.0 p q, F.1, eqb-true _ _ (and_left _ _ F.2), side_secure (compared m n) (type_at t i) (X.table.secure i))
 
     formed_contracts : {e e' : Term} → Contracts S (type_at t) e e' → Formed g t 0 e → Formed g t 0 e'
     unfolding Formed
@@ -113,6 +153,7 @@ module _ {g t : Bytes} (X : Tables g t) where
         (own, X.next i F.1 F.2, (stays.caller k w (r_group k own) F.0, formed_weaken g t 0 1 (mu w i e) (omega arith) F, omega arith))
         F.3
     formed_contracts (c_protect {m = m} {v = v} x) F = formed_raise 0 v m F.0 F.1
+    formed_contracts (c_reckon {o = o} {w = w} {k = k} {l = l} {m = m} {n = n} p q) F = formed_reckoned o w k l m n p q F
 
     pub formed_step : (e e' : Term) → step S (type_at t) e ≡ moved e' → Formed g t 0 e → Formed g t 0 e'
     formed_step e e' h F =

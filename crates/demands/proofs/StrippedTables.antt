@@ -58,9 +58,9 @@ module _ (t : Bytes) where
   ok9_kept : (n i : ℕ) → ok9 n t i ≡ true → ok9 (rows one_group) (strip_types t) i ≡ true
   unfolding ok9
   ok9_kept n i h =
-      let a = both (leb (type_kind t i) 3) _ h in
+      let a = both (leb (type_kind t i) 4) _ h in
       let b = both (eqb (type_zero t i) 0) _ a.1 in
-      and_true (ap (λ (k : ℕ). leb k 3) (strip_type_kind t i) ∙ a.0)
+      and_true (ap (λ (k : ℕ). leb k 4) (strip_type_kind t i) ∙ a.0)
       (and_true (ap (λ (z : ℕ). eqb z 0) (strip_type_zero t i) ∙ b.0)
       (and_true (the_group (strip_type_r t i)) (and_true (the_group (strip_type_ir t i)) (and_true (the_group (strip_type_c t i)) (the_group (strip_type_ic t i))))))
     where

@@ -8,7 +8,7 @@ use native.Mathlib.Omega.{arith}
 use lib.ListN.{get_or, drop}
 use Rattle.calculus.specs.Security.{Property}
 use Rattle.calculus.specs.Types.{Ty}
-use Rattle.calculus.specs.Terms.{Term, var, unit, lam, pair, inj, app, proj, case, protect, mu}
+use Rattle.calculus.specs.Terms.{plus, less, Term, var, unit, lam, pair, inj, app, proj, case, protect, mu, literal, reckon}
 use Rattle.calculus.specs.Relabelling.{relabel_t, relabel}
 use Rattle.calculus.specs.Erasure.{public, erased, erase_t, erase}
 use Rattle.rules.specs.Answer.{Bytes, byte}
@@ -68,6 +68,9 @@ strip_head (proj d w e) s = strip_record _ _ _ _ _ _ _ _ s
 strip_head (case w i e a b) s = strip_record _ _ _ _ _ _ _ _ s
 strip_head (protect m e) s = strip_record _ _ _ _ _ _ _ _ s
 strip_head (mu w i e) s = strip_record _ _ _ _ _ _ _ _ s
+strip_head (literal k n) s = strip_record _ _ _ _ _ _ _ _ s
+strip_head (reckon plus w a b) s = strip_record _ _ _ _ _ _ _ _ s
+strip_head (reckon (less i) w a b) s = strip_record _ _ _ _ _ _ _ _ s
 
 pub strip_encode : (e : Term) → strip_script (encode e) ≡ encode (erase e)
 unfolding strip_from
@@ -83,7 +86,8 @@ erase_make zero k s t = refl
 erase_make (suc zero) k s t = refl
 erase_make (suc (suc zero)) k s t = refl
 erase_make (suc (suc (suc zero))) k s t = refl
-erase_make (suc (suc (suc (suc n)))) k s t = refl
+erase_make (suc (suc (suc (suc zero)))) k s t = refl
+erase_make (suc (suc (suc (suc (suc n))))) k s t = refl
 
 erase_at : (ts : List Ty) (i : ℕ) → get_or (map erase_t ts) i no_type ≡ erase_t (get_or ts i no_type)
 unfolding relabel_t

@@ -8,8 +8,10 @@ use Rattle.calculus.specs.Typing.{Table}
 use Rattle.rules.specs.Answer.{Bytes}
 use Rattle.rules.specs.Groups.{groups_of, properties_of}
 use Rattle.rules.specs.Types.{type_count, type_kind, type_at}
+use Rattle.rules.specs.Script.{sum_of_units}
 use Rattle.rules.specs.Typing.{has_form}
 use Rattle.rules.proofs.TypePlaces.{Standing}
+use Rattle.rules.proofs.UnitSums.{UnitSum}
 
 pub record Tables (g t : Bytes) : Type 0 where
   pub lattice : Lattice (groups_of g)
@@ -19,4 +21,5 @@ pub record Tables (g t : Bytes) : Type 0 where
   -- a record's kind is its type's form, and the left side of a function stands in the table too
   pub sums : (i : ℕ) → i < type_count t → type_kind t i ≡ 1 → So (has_form sum (type_at t i))
   pub functions : (i : ℕ) → i < type_count t → type_kind t i ≡ 3 → So (has_form function (type_at t i))
+  pub units : (i : ℕ) → i < type_count t → So (sum_of_units t i) → UnitSum (type_at t i)
   pub next : (i : ℕ) → i < type_count t → type_kind t i ≡ 3 → suc i < type_count t

@@ -65,7 +65,7 @@ module _ (g t : Bytes) (types : types_check g t ≡ accepted tt) (X : Tables g t
       let L = properties_laws X.lattice in
       let c = infer_complete L X.table e type sc_empty h in (
         c.0,
-        fit_verdict e F ∙ found_accepted (typing S tab [] 0 e) (agree g t X.sums X.functions [] 0 e F.formed ∙ c.1),
+        fit_verdict e F ∙ found_accepted (typing S tab [] 0 e) (agree g t X.sums X.functions X.units [] 0 e F.formed ∙ c.1),
         subst (λ (u : Term). HasType S tab [] u c.0) (sym (term_encode e)) (infer_sound L X.table e c.0 sc_empty c.1),
         c.2,
       )

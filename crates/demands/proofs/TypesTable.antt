@@ -14,6 +14,7 @@ use Rattle.rules.proofs.PrefixLaws.{size_positive}
 use Rattle.rules.proofs.TypeCode.{type_code}
 use Rattle.rules.proofs.TypePlaces.{Standing, kind_at, of_kind}
 use Rattle.rules.proofs.TypeTables.{Passes, passes, standing}
+use Rattle.rules.proofs.UnitSums.{unit_sum}
 use Rattle.rules.proofs.SecureTables.{secure_table}
 use Rattle.rules.proofs.Asked.{and_then}
 use Rattle.calculus.proofs.Directed.{same_refl}
@@ -51,5 +52,6 @@ tables g t octets passed =
       stands = standing t P;
       sums = λ i l. formed_so sum t i (standing t P i l);
       functions = λ i l. formed_so function t i (standing t P i l);
+      units = unit_sum t P;
       next = λ i l. next_in function t i (standing t P i l);
     }

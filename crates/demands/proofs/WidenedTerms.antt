@@ -43,7 +43,8 @@ module _ (caller : Property → Reader → Reader) (tab : ℕ → Ty) where
   made_type (suc zero) r ir a b = refl
   made_type (suc (suc zero)) r ir a b = refl
   made_type (suc (suc (suc zero))) r ir a b = refl
-  made_type (suc (suc (suc (suc k)))) r ir a b = refl
+  made_type (suc (suc (suc (suc zero)))) r ir a b = refl
+  made_type (suc (suc (suc (suc (suc k))))) r ir a b = refl
 
   after_record : (k r ir : ℕ) (ts : List Ty) → map (relabel_t R) ts ≡ ts
       → map (relabel_t R) (make_type k (record { r = r; ir = ir; c = 0; ic = 0 }) (get_or ts 0 no_type) (get_or ts 1 no_type) ∷ drop (sides k) ts)
@@ -88,7 +89,10 @@ module _ (caller : Property → Reader → Reader) (tab : ℕ → Ty) where
   made (suc (suc (suc (suc (suc (suc (suc (suc (suc zero))))))))) r r' ir n a b d h = rw (h.1 (λ e. omega arith))
   made (suc (suc (suc (suc (suc (suc (suc (suc (suc (suc zero)))))))))) r r' ir n a b d h = refl
   made (suc (suc (suc (suc (suc (suc (suc (suc (suc (suc (suc zero))))))))))) r r' ir n a b d h = rw (h.0 refl)
-  made (suc (suc (suc (suc (suc (suc (suc (suc (suc (suc (suc (suc k)))))))))))) r r' ir n a b d h = refl
+  made (suc (suc (suc (suc (suc (suc (suc (suc (suc (suc (suc (suc zero)))))))))))) r r' ir n a b d h = rw (h.1 (λ e. omega arith))
+  made (suc (suc (suc (suc (suc (suc (suc (suc (suc (suc (suc (suc (suc zero))))))))))))) r r' ir n a b d h = rw (h.1 (λ e. omega arith))
+  made (suc (suc (suc (suc (suc (suc (suc (suc (suc (suc (suc (suc (suc (suc zero)))))))))))))) r r' ir n a b d h = rw (h.1 (λ e. omega arith))
+  made (suc (suc (suc (suc (suc (suc (suc (suc (suc (suc (suc (suc (suc (suc (suc k))))))))))))))) r r' ir n a b d h = refl
 
   -- in front of the terms that follow it
   in_front : (k r r' ir n : ℕ) (ts ts' : List Term) → Put k n r r' → ts' ≡ map (relabel R) ts

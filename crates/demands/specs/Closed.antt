@@ -2,7 +2,7 @@
 -- Nothing is said of how a value came about: steps, ends and lengths of runs may depend on what is closed.
 use Rattle.std.specs.Prelude.{◌≡◌, true, false, ◌↔◌, [], ℕ}
 use Rattle.calculus.specs.Security.{Property}
-use Rattle.calculus.specs.Terms.{Side, Term, unit, lam, pair, inj, is_value}
+use Rattle.calculus.specs.Terms.{Side, Term, unit, lam, pair, inj, literal, is_value}
 use Rattle.rules.specs.Answer.{Bytes, accepted}
 use Rattle.rules.specs.Groups.{leq}
 use Rattle.rules.specs.Script.{term}
@@ -15,13 +15,14 @@ pub data Closed (g : Bytes) (group : ℕ) : Term → Type 0 where
   closed_function : {k : Property} {i : ℕ} {e : Term} → leq g k.r group ≡ false → Closed g group (lam k i e)
   closed_pair : {k : Property} {a b : Term} → leq g k.r group ≡ false → Closed g group (pair k a b)
   closed_injection : {d : Side} {k : Property} {i : ℕ} {e : Term} → leq g k.r group ≡ false → Closed g group (inj d k i e)
+  closed_literal : {k : Property} {n : ℕ} → leq g k.r group ≡ false → Closed g group (literal k n)
 
 -- the same groups, as far as a sheet shows them
 abbrev pub SameReaders : Property → Property → Type 0
 SameReaders k l = (k.r ≡ l.r) × (k.ir ≡ l.ir)
 
 -- Two values that differ only inside objects closed in both: at each place both are closed, whatever stands there, or they have
--- the same kind, r and ir, and parts that differ only so. A sheet shows neither c and ic nor the number of a type nor a function's body,
+-- the same kind, r, ir and, of literals, number, and parts that differ only so. A sheet shows neither c and ic nor the number of a type nor a function's body,
 -- so these may be any.
 pub data AlikeOutside (g : Bytes) (group : ℕ) : Term → Term → Type 0 where
   closed_in_both : {a b : Term} → Closed g group a → Closed g group b → AlikeOutside g group a b
@@ -31,6 +32,7 @@ pub data AlikeOutside (g : Bytes) (group : ℕ) : Term → Term → Type 0 where
       → AlikeOutside g group (pair k a b) (pair l a' b')
   injections : {d : Side} {k l : Property} {i i' : ℕ} {e e' : Term} → SameReaders k l → AlikeOutside g group e e'
       → AlikeOutside g group (inj d k i e) (inj d l i' e')
+  literals : {k l : Property} {n : ℕ} → SameReaders k l → AlikeOutside g group (literal k n) (literal l n)
 
 -- Of two values that pass questions 2 to 19, for every group and every room.
 pub record ClosedCloses (g t s s' : Bytes) (group : ℕ) : Type 0 where

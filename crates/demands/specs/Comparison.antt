@@ -1,7 +1,7 @@
 -- Document 02, item 2: what the comparison of two types promises.
 use Rattle.std.specs.Prelude.{◌≡◌, cond, ◌↔◌, ℕ, ◌<◌, min}
 use Rattle.calculus.specs.Security.{Property, Security}
-use Rattle.calculus.specs.Types.{Former, sum, product, function, Ty, one, node}
+use Rattle.calculus.specs.Types.{Leaf, one, Former, sum, product, function, Ty, leaf, node}
 use Rattle.calculus.specs.Subtyping.{Subtype}
 use Rattle.rules.specs.Answer.{Bytes, Octets, accepted}
 use Rattle.rules.specs.Groups.{properties_of}
@@ -28,13 +28,14 @@ left_sides S function s s' = comparison S s' s
 
 -- The answer of two types from their first records and their sides, over any order of groups.
 pub record Composes (S : Security) : Type 0 where
-  pub units : (k l : Property) → comparison S (one k) (one l) ≡ cond (S.le k l) (cond (equal_properties k l) same below) neither
+  pub leaves : (b : Leaf) (k l : Property) → comparison S (leaf b k) (leaf b l) ≡ cond (S.le k l) (cond (equal_properties k l) same below) neither
   -- the least of three answers: of the first records alone, of the left sides and of the right sides
   pub sides : (f : Former) (k l : Property) (s s' t t' : Ty) → comparison_number (comparison S (node f k s t) (node f l s' t'))
-      ≡ min (comparison_number (comparison S (one k) (one l))) (min (comparison_number (left_sides S f s s')) (comparison_number (comparison S t t')))
+      ≡ min (comparison_number (comparison S (leaf one k) (leaf one l))) (min (comparison_number (left_sides S f s s')) (comparison_number (comparison S t t')))
   -- different kinds
-  pub unit_other : (f : Former) (k l : Property) (s t : Ty) → comparison S (one k) (node f l s t) ≡ neither
-  pub other_unit : (f : Former) (k l : Property) (s t : Ty) → comparison S (node f k s t) (one l) ≡ neither
+  pub other_leaves : (b b' : Leaf) (k l : Property) → (b ≡ b' → ⊥) → comparison S (leaf b k) (leaf b' l) ≡ neither
+  pub leaf_other : (b : Leaf) (f : Former) (k l : Property) (s t : Ty) → comparison S (leaf b k) (node f l s t) ≡ neither
+  pub other_leaf : (b : Leaf) (f : Former) (k l : Property) (s t : Ty) → comparison S (node f k s t) (leaf b l) ≡ neither
   pub others : (f f' : Former) (k l : Property) (s s' t t' : Ty) → (f ≡ f' → ⊥) → comparison S (node f k s t) (node f' l s' t') ≡ neither
   -- "Checking takes same and below alike."
   pub alike : (place : ℕ) (s t : Ty) → (q22 S place s t ≡ accepted tt) ↔ (comparison S s t ≡ neither → ⊥)

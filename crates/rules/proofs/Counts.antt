@@ -5,7 +5,7 @@ use mathlib.Core.List.{List, [], ◌∷◌, ◌++◌, append-nil}
 use Prim.Native.Nat.{ℕ, suc, ◌+◌, ◌*◌, ◌<◌}
 use native.Mathlib.Omega.{arith}
 use lib.ListN.{length, get_or}
-use Rattle.calculus.specs.Terms.{Term, var, unit, lam, pair, inj, app, proj, case, protect, mu}
+use Rattle.calculus.specs.Terms.{Term, var, unit, lam, pair, inj, app, proj, case, protect, mu, literal, reckon}
 use Rattle.rules.specs.Answer.{Bytes, byte}
 use Rattle.rules.specs.Limits.{script_width}
 use Rattle.rules.specs.Script.{encode, size, counts}
@@ -59,6 +59,8 @@ module _ (wide : ℕ → ℕ → ℕ) (deeper bound : ℕ → ℕ) where
   under n (case w i e a b) = deeper (wide i n) ∷ bound (wide i n) ∷ bound (wide i n) ∷ []
   under n (protect m e) = deeper n ∷ []
   under n (mu w i e) = bound n ∷ []
+  under n (literal k m) = []
+  under n (reckon o w a b) = deeper n ∷ deeper n ∷ []
 
   under_length : (n : ℕ) (e : Term) → length (under n e) ≡ length (term_operands e)
   under_length n (var m) = refl
@@ -71,6 +73,8 @@ module _ (wide : ℕ → ℕ → ℕ) (deeper bound : ℕ → ℕ) where
   under_length n (case w i e a b) = refl
   under_length n (protect m e) = refl
   under_length n (mu w i e) = refl
+  under_length n (literal k m) = refl
+  under_length n (reckon o w a b) = refl
 
   abbrev pub numbered : ℕ × Term → List (ℕ × Term)
   numbered p = zip (under p.0 p.1) (term_operands p.1)
@@ -97,6 +101,8 @@ module _ (wide : ℕ → ℕ → ℕ) (deeper bound : ℕ → ℕ) where
   counts_is n (case w i e a b) = rw (append-nil (counts wide deeper bound (bound (wide i n)) b))
   counts_is n (protect m e) = rw (append-nil (counts wide deeper bound (deeper n) e))
   counts_is n (mu w i e) = rw (append-nil (counts wide deeper bound (bound n) e))
+  counts_is n (literal k m) = refl
+  counts_is n (reckon o w a b) = rw (append-nil (counts wide deeper bound (deeper n) b))
 
   abbrev pub count_code : Code counted
   count_code =

@@ -5,7 +5,7 @@ use Prim.Native.Nat.{ℕ, suc, ◌+◌, ◌≤◌, ◌<◌}
 use native.Mathlib.Omega.{arith}
 use borrow.Author.Tests.{leb-true, le-leb}
 use lib.ListN.{get_or}
-use Rattle.calculus.specs.Terms.{Term, var, unit, lam, pair, inj, app, proj, case, protect, mu}
+use Rattle.calculus.specs.Terms.{Term, var, unit, lam, pair, inj, app, proj, case, protect, mu, literal, reckon}
 use Rattle.calculus.specs.Typing.{finds_own}
 use Rattle.rules.specs.Answer.{Bytes, accepted}
 use Rattle.rules.specs.Limits.{depth_limit}
@@ -54,6 +54,8 @@ module _ (limit : ℕ) where
       (arith, wide_weight i n, lows_depth e m (every_below h).0, lows_depth a m (every_below h).1.0, lows_depth b m (every_below h).1.1.0)
   lows_depth (protect m e) n h = omega (arith, lows_depth e (suc n) (every_below h).0)
   lows_depth (mu w i e) n h = omega (arith, lows_depth e (suc n) (every_below h).0)
+  lows_depth (literal k m) n h = omega (arith, every_here h)
+  lows_depth (reckon o w a b) n h = omega (arith, lows_depth a (suc n) (every_below h).0, lows_depth b (suc n) (every_below h).1.0)
 
   depth_lows : (e : Term) (n : ℕ) → n + depth e ≤ suc limit → Lows n e
   unfolding depth
@@ -71,6 +73,8 @@ module _ (limit : ℕ) where
       every_node (omega arith) (depth_lows e m (omega arith), (depth_lows a m (omega arith), (depth_lows b m (omega arith), tt)))
   depth_lows (protect m e) n h = every_node (omega arith) (depth_lows e (suc n) (omega arith), tt)
   depth_lows (mu w i e) n h = every_node (omega arith) (depth_lows e (suc n) (omega arith), tt)
+  depth_lows (literal k m) n h = every_node (omega arith) tt
+  depth_lows (reckon o w a b) n h = every_node (omega arith) (depth_lows a (suc n) (omega arith), (depth_lows b (suc n) (omega arith), tt))
 
   -- every entry of the depths against the depth
   pub depths_depth : (e : Term) → ((j : ℕ) → j < size e → get_or (depths e) j 0 ≤ limit) → depth e ≤ limit

@@ -24,9 +24,11 @@ pub mod TypePlaces
 pub mod Pending
 pub mod TypeTables
 pub mod SecureTables
+pub mod UnitSums
 pub mod Cases
 pub mod CallExamples
 pub mod WordExamples
 pub mod FoundExamples
 pub mod CreatorExamples
+pub mod NumberExamples
 pub mod Examples

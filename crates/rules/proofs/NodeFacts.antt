@@ -5,12 +5,12 @@ use Prim.Native.Nat.{ℕ, ◌+◌, ◌*◌, ◌/◌, ◌%◌, ◌<◌}
 use borrow.Author.Tests.{ltb-true, lt-ltb, eqb-true, eq-eqb}
 use lib.Dec.{eqb, ltb}
 use Rattle.calculus.specs.Security.{Property, Indirect}
-use Rattle.calculus.specs.Terms.{first, second, Term, var, unit, lam, pair, inj, app, proj, case, protect, mu}
+use Rattle.calculus.specs.Terms.{first, second, plus, less, Term, var, unit, lam, pair, inj, app, proj, case, protect, mu, literal, reckon}
 use Rattle.calculus.specs.Typing.{finds_own}
 use Rattle.rules.specs.Answer.{Bytes}
 use Rattle.rules.specs.Groups.{rows, leq}
 use Rattle.rules.specs.Types.{type_count, type_kind}
-use Rattle.rules.specs.Script.{ok15, ok16}
+use Rattle.rules.specs.Script.{sum_of_units, ok15, ok16}
 use Rattle.rules.proofs.TermCode.{term_head, two_bytes}
 
 module _ (g : Bytes) where
@@ -28,6 +28,8 @@ module _ (g : Bytes) where
   Labelled (case w i e a b) = w < rows g
   Labelled (protect m e) = (m.ir < rows g) × (m.ic < rows g)
   Labelled (mu w i e) = w < rows g
+  Labelled (literal k n) = Label k
+  Labelled (reckon o w a b) = w < rows g
 
   abbrev Asked : Property → Bool
   Asked k = ltb k.r (rows g) && (ltb k.ir (rows g) && (ltb k.c (rows g) && (ltb k.ic (rows g) && leq g k.ir k.r)))
@@ -71,6 +73,9 @@ module _ (g : Bytes) where
   labelled (case w i e a b) h = group w h
   labelled (protect m e) h = two_groups m h
   labelled (mu w i e) h = group w h
+  labelled (literal k n) h = label k h
+  labelled (reckon plus w a b) h = group w h
+  labelled (reckon (less i) w a b) h = group w h
 
   pub labelled_ok15 : (c : Term) → Labelled c → ok15 g (term_head c) 0 ≡ true
   unfolding ok15
@@ -86,11 +91,18 @@ module _ (g : Bytes) where
   labelled_ok15 (case w i e a b) h = ungroup w h
   labelled_ok15 (protect m e) h = untwo_groups m h
   labelled_ok15 (mu w i e) h = ungroup w h
+  labelled_ok15 (literal k n) h = unlabel k h
+  labelled_ok15 (reckon plus w a b) h = ungroup w h
+  labelled_ok15 (reckon (less i) w a b) h = ungroup w h
 
 module _ (t : Bytes) where
   -- the type with this index is of a kind
   abbrev pub OfKind : ℕ → ℕ → Type 0
   OfKind k i = (i < type_count t) × (type_kind t i ≡ k)
+
+  -- and that of a sum of two units
+  abbrev pub OfUnits : ℕ → Type 0
+  OfUnits i = (i < type_count t) × (sum_of_units t i ≡ true)
 
   abbrev pub Named : Term → Type 0
   Named (var n) = Unit {0}
@@ -103,6 +115,9 @@ module _ (t : Bytes) where
   Named (case w i e a b) = (finds_own i || ltb i (type_count t)) ≡ true
   Named (protect m e) = Unit {0}
   Named (mu w i e) = OfKind 3 i
+  Named (literal k n) = Unit {0}
+  Named (reckon plus w a b) = Unit {0}
+  Named (reckon (less i) w a b) = OfUnits i
 
   -- the number as its record holds it
   abbrev Stored : (ℕ → Bool) → ℕ → Type 0
@@ -117,11 +132,11 @@ module _ (t : Bytes) where
   abbrev exists : ℕ → Bool
   exists n = ltb n (type_count t) && true
 
-  abbrev is_sum : ℕ → Bool
-  is_sum n = ltb n (type_count t) && (eqb (type_kind t n) 1 && true)
+  abbrev is_kind : ℕ → ℕ → Bool
+  is_kind k n = ltb n (type_count t) && (eqb (type_kind t n) k && true)
 
-  abbrev is_function : ℕ → Bool
-  is_function n = ltb n (type_count t) && eqb (type_kind t n) 3
+  abbrev is_of_units : ℕ → Bool
+  is_of_units n = ltb n (type_count t) && sum_of_units t n
 
   abbrev found_or_exists : ℕ → Bool
   found_or_exists n = (finds_own n || ltb n (type_count t)) && true
@@ -135,15 +150,15 @@ module _ (t : Bytes) where
   existing : (i : ℕ) → Stored exists i → i < type_count t
   existing i h = ltb-true i (type_count t) ((and-eq-true_iff _ _).0 (stored exists i h)).0
 
-  a_sum : (i : ℕ) → Stored is_sum i → OfKind 1 i
-  a_sum i h =
-      let a = (and-eq-true_iff _ _).0 (stored is_sum i h) in
-      (ltb-true i (type_count t) a.0, eqb-true (type_kind t i) 1 ((and-eq-true_iff _ _).0 a.1).0)
+  of_kind : (k i : ℕ) → Stored (is_kind k) i → OfKind k i
+  of_kind k i h =
+      let a = (and-eq-true_iff _ _).0 (stored (is_kind k) i h) in
+      (ltb-true i (type_count t) a.0, eqb-true (type_kind t i) k ((and-eq-true_iff _ _).0 a.1).0)
 
-  a_function : (i : ℕ) → Stored is_function i → OfKind 3 i
-  a_function i h =
-      let a = (and-eq-true_iff _ _).0 (stored is_function i h) in
-      (ltb-true i (type_count t) a.0, eqb-true (type_kind t i) 3 a.1)
+  of_units : (i : ℕ) → Stored is_of_units i → OfUnits i
+  of_units i h =
+      let a = (and-eq-true_iff (ltb i (type_count t)) (sum_of_units t i)).0 (stored is_of_units i h) in
+      (ltb-true i (type_count t) a.0, a.1)
 
   pub named : (c : Term) → ok16 t (term_head c) 0 ≡ true → Named c
   unfolding ok16
@@ -151,24 +166,27 @@ module _ (t : Bytes) where
   named (unit k) h = tt
   named (lam k i e) h = existing i h
   named (pair k a b) h = tt
-  named (inj first k i e) h = a_sum i h
-  named (inj second k i e) h = a_sum i h
+  named (inj first k i e) h = of_kind 1 i h
+  named (inj second k i e) h = of_kind 1 i h
   named (app w f a) h = tt
   named (proj first w e) h = tt
   named (proj second w e) h = tt
   named (case w i e a b) h = finding i h
   named (protect m e) h = tt
-  named (mu w i e) h = a_function i h
+  named (mu w i e) h = of_kind 3 i h
+  named (literal k n) h = tt
+  named (reckon plus w a b) h = tt
+  named (reckon (less i) w a b) h = of_units i h
 
   store_index : (i : ℕ) → i < type_count t → Stored exists i
   store_index i h = store exists i ((and-eq-true_iff _ _).1 (lt-ltb i (type_count t) h, refl))
 
-  store_sum : (i : ℕ) → OfKind 1 i → Stored is_sum i
-  store_sum i h =
-      store is_sum i ((and-eq-true_iff _ _).1 (lt-ltb i (type_count t) h.0, (and-eq-true_iff _ _).1 (eq-eqb (type_kind t i) 1 h.1, refl)))
+  store_kind : (k i : ℕ) → OfKind k i → Stored (is_kind k) i
+  store_kind k i h =
+      store (is_kind k) i ((and-eq-true_iff _ _).1 (lt-ltb i (type_count t) h.0, (and-eq-true_iff _ _).1 (eq-eqb (type_kind t i) k h.1, refl)))
 
-  store_function : (i : ℕ) → OfKind 3 i → Stored is_function i
-  store_function i h = store is_function i ((and-eq-true_iff _ _).1 (lt-ltb i (type_count t) h.0, eq-eqb (type_kind t i) 3 h.1))
+  store_units : (i : ℕ) → OfUnits i → Stored is_of_units i
+  store_units i h = store is_of_units i ((and-eq-true_iff (ltb i (type_count t)) (sum_of_units t i)).1 (lt-ltb i (type_count t) h.0, h.1))
 
   pub named_ok16 : (c : Term) → Named c → ok16 t (term_head c) 0 ≡ true
   unfolding ok16
@@ -176,11 +194,14 @@ module _ (t : Bytes) where
   named_ok16 (unit k) h = refl
   named_ok16 (lam k i e) h = store_index i h
   named_ok16 (pair k a b) h = refl
-  named_ok16 (inj first k i e) h = store_sum i h
-  named_ok16 (inj second k i e) h = store_sum i h
+  named_ok16 (inj first k i e) h = store_kind 1 i h
+  named_ok16 (inj second k i e) h = store_kind 1 i h
   named_ok16 (app w f a) h = refl
   named_ok16 (proj first w e) h = refl
   named_ok16 (proj second w e) h = refl
   named_ok16 (case w i e a b) h = store_finding i h
   named_ok16 (protect m e) h = refl
-  named_ok16 (mu w i e) h = store_function i h
+  named_ok16 (mu w i e) h = store_kind 3 i h
+  named_ok16 (literal k n) h = refl
+  named_ok16 (reckon plus w a b) h = refl
+  named_ok16 (reckon (less i) w a b) h = store_units i h

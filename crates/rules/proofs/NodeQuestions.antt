@@ -5,7 +5,7 @@ use mathlib.Core.List.{[]}
 use Prim.Native.Nat.{ℕ, ◌+◌}
 use native.Mathlib.Omega.{arith}
 use native.Mathlib.Nat.{zero-add}
-use Rattle.calculus.specs.Terms.{first, second, Term, var, unit, lam, pair, inj, app, proj, case, protect, mu}
+use Rattle.calculus.specs.Terms.{first, second, plus, less, Term, var, unit, lam, pair, inj, app, proj, case, protect, mu, literal, reckon}
 use Rattle.rules.specs.Answer.{Bytes, accepted, each}
 use Rattle.rules.specs.Limits.{script_width}
 use Rattle.rules.specs.Script.{encode, records, ok14, ok15, ok16, q14, q15, q16}
@@ -45,6 +45,9 @@ head_ok14 (proj second w e) = refl
 head_ok14 (case w i e a b) = refl
 head_ok14 (protect m e) = refl
 head_ok14 (mu w i e) = refl
+head_ok14 (literal k n) = refl
+head_ok14 (reckon plus w a b) = refl
+head_ok14 (reckon (less i) w a b) = refl
 
 -- every encoding passes 14, so a term that was reached passes it again
 pub q14_encode : (e : Term) → q14 (encode e) ≡ accepted tt

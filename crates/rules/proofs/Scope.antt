@@ -5,7 +5,7 @@ use mathlib.Core.List.{[], ◌∷◌}
 use Prim.Native.Nat.{ℕ, suc, ◌<◌}
 use native.Mathlib.Omega.{arith}
 use borrow.Author.Tests.{ltb-true, lt-ltb}
-use Rattle.calculus.specs.Terms.{first, second, Term, var, unit, lam, pair, inj, app, proj, case, protect, mu}
+use Rattle.calculus.specs.Terms.{first, second, plus, less, Term, var, unit, lam, pair, inj, app, proj, case, protect, mu, literal, reckon}
 use Rattle.rules.specs.Answer.{Bytes, accepted}
 use Rattle.rules.specs.Script.{unwidened, encode, records, term, binders, ok19, q19}
 use Rattle.rules.proofs.Search.{each_all, each_accepted}
@@ -27,6 +27,8 @@ Scoped n (proj d w e) = Scoped n e
 Scoped n (case w i e a b) = Scoped n e × Scoped (suc n) a × Scoped (suc n) b
 Scoped n (protect m e) = Scoped n e
 Scoped n (mu w i e) = Scoped (suc n) e
+Scoped n (literal k m) = Unit {0}
+Scoped n (reckon o w a b) = Scoped n a × Scoped n b
 
 -- question 19 of a record with its count
 abbrev Bound : ℕ → Bytes → Type 0
@@ -48,6 +50,8 @@ bounds_scoped (case w i e a b) n h =
     (bounds_scoped e n (every_below h).0, bounds_scoped a (suc n) (every_below h).1.0, bounds_scoped b (suc n) (every_below h).1.1.0)
 bounds_scoped (protect m e) n h = bounds_scoped e n (every_below h).0
 bounds_scoped (mu w i e) n h = bounds_scoped e (suc n) (every_below h).0
+bounds_scoped (literal k m) n h = tt
+bounds_scoped (reckon o w a b) n h = (bounds_scoped a n (every_below h).0, bounds_scoped b n (every_below h).1.0)
 
 scoped_bounds : (e : Term) (n : ℕ) → Scoped n e → Bounds n e
 unfolding ok19
@@ -64,6 +68,9 @@ scoped_bounds (case w i e a b) n h =
     every_node refl (scoped_bounds e n h.0, (scoped_bounds a (suc n) h.1, (scoped_bounds b (suc n) h.2, tt)))
 scoped_bounds (protect m e) n h = every_node refl (scoped_bounds e n h, tt)
 scoped_bounds (mu w i e) n h = every_node refl (scoped_bounds e (suc n) h, tt)
+scoped_bounds (literal k m) n h = every_node refl tt
+scoped_bounds (reckon plus w a b) n h = every_node refl (scoped_bounds a n h.0, (scoped_bounds b n h.1, tt))
+scoped_bounds (reckon (less i) w a b) n h = every_node refl (scoped_bounds a n h.0, (scoped_bounds b n h.1, tt))
 
 pub q19_scoped : (e : Term) → q19 (encode e) ≡ accepted tt → Scoped 0 e
 q19_scoped e q =

@@ -6,7 +6,7 @@ use native.Mathlib.Omega.{arith}
 use native.Mathlib.Decide.{dec_lt}
 use borrow.Author.Tests.{le-leb}
 use Rattle.calculus.specs.Security.{Property}
-use Rattle.calculus.specs.Types.{Former, Ty, one, node, size_t, secure_t, fits, type_limit}
+use Rattle.calculus.specs.Types.{Leaf, Former, Ty, leaf, node, size_t, secure_t, fits, type_limit}
 use Rattle.calculus.specs.Typing.{Table}
 use Rattle.rules.specs.Answer.{Bytes, accepted}
 use Rattle.rules.specs.Groups.{leq, properties_of}
@@ -22,7 +22,7 @@ use Rattle.rules.proofs.TypeTables.{Passes, standing, every_short}
 pub nodes_secure : (g : Bytes) (e : Ty) → Every type_shape (λ c. ok10 g (type_head c) 0 ≡ true) e
     → Every type_shape (λ c. ok36_type g (type_head c) 0 ≡ true) e → So (secure_t (properties_of g) e)
 unfolding ok10 ok36_type secure_t
-nodes_secure g (one k) h x = (and-eq-true_iff _ _).1 (every_here h, every_here x)
+nodes_secure g (leaf b k) h x = (and-eq-true_iff _ _).1 (every_here h, every_here x)
 nodes_secure g (node f k s t) h x =
     (and-eq-true_iff _ _).1 (
       (and-eq-true_iff _ _).1 (every_here h, every_here x),
@@ -37,14 +37,14 @@ inside_or_out P t f o i =
       | no n ↦ rw (type_at_outside t i (omega arith)) o
     ]
 
-one≢node : {k k' : Property} {f : Former} {s t : Ty} → one k ≡ node f k' s t → ⊥
-one≢node e = let x : ◌≡◌ {A = ℕ} 0 1 = cc in omega arith
+leaf≢node : {b : Leaf} {k k' : Property} {f : Former} {s t : Ty} → leaf b k ≡ node f k' s t → ⊥
+leaf≢node e = let x : ◌≡◌ {A = ℕ} 0 1 = cc in omega arith
 
 left_of : (t : Bytes) → Passes t → (f : Former) (k : Property) (a b : Ty) (i : ℕ) → type_at t i ≡ node f k a b → type_at t (suc i) ≡ a
 left_of t P f k a b i h =
     elim (dec_lt i (type_count t)) [
       | yes l ↦ left_side t i (standing t P i l) f k a b h
-      | no n ↦ absurd (one≢node (sym (type_at_outside t i (omega arith)) ∙ h))
+      | no n ↦ absurd (leaf≢node (sym (type_at_outside t i (omega arith)) ∙ h))
     ]
 
 -- `bottom`: row 0 of the groups table holds its own bit, as questions 2 and 4 ask.

@@ -7,7 +7,7 @@ use native.Mathlib.Omega.{arith}
 use borrow.Author.Tests.{eqb-true, leb-true}
 use lib.Dec.{eqb, leb}
 use lib.ListN.{length, get_or}
-use Rattle.calculus.specs.Terms.{first, second, choose, Term, var, unit, lam, pair, inj, app, proj, case, protect, mu}
+use Rattle.calculus.specs.Terms.{first, second, choose, plus, less, Term, var, unit, lam, pair, inj, app, proj, case, protect, mu, literal, reckon}
 use Rattle.rules.specs.Answer.{Bytes, byte, ◌⇒◌}
 use Rattle.rules.specs.Limits.{script_width}
 use Rattle.rules.specs.Script.{full_record, object_record, encode, size, parse, make, no_term, arity, script_record, Signature, signature_of, ok14}
@@ -24,6 +24,8 @@ term_operands (proj d w e) = e ∷ []
 term_operands (case w i e a b) = e ∷ a ∷ b ∷ []
 term_operands (protect m e) = e ∷ []
 term_operands (mu w i e) = e ∷ []
+term_operands (literal k n) = []
+term_operands (reckon o w a b) = a ∷ b ∷ []
 
 abbrev pub term_head : Term → Bytes
 term_head (var n) = script_record 0 0 0 n
@@ -36,6 +38,9 @@ term_head (proj d w e) = script_record (choose d 7 8) w 0 0
 term_head (case w i e a b) = script_record 9 w 0 i
 term_head (protect m e) = full_record 10 0 m.ir 0 0 m.ic
 term_head (mu w i e) = script_record 11 w 0 i
+term_head (literal k n) = object_record 12 k n
+term_head (reckon plus w a b) = script_record 13 w 0 0
+term_head (reckon (less i) w a b) = script_record 14 w 0 i
 
 pub term_size_is : (e : Term) → size e ≡ suc (total size (term_operands e))
 unfolding size
@@ -49,6 +54,8 @@ term_size_is (proj d w e) = omega arith
 term_size_is (case w i e a b) = omega arith
 term_size_is (protect m e) = omega arith
 term_size_is (mu w i e) = omega arith
+term_size_is (literal k n) = refl
+term_size_is (reckon o w a b) = omega arith
 
 pub term_induction : (P : Term → Type 0) → ((e : Term) → All P (term_operands e) → P e) → (e : Term) → P e
 term_induction P f (var n) = f (var n) tt
@@ -61,6 +68,8 @@ term_induction P f (proj d w e) = f (proj d w e) (term_induction P f e, tt)
 term_induction P f (case w i e a b) = f (case w i e a b) (term_induction P f e, (term_induction P f a, (term_induction P f b, tt)))
 term_induction P f (protect m e) = f (protect m e) (term_induction P f e, tt)
 term_induction P f (mu w i e) = f (mu w i e) (term_induction P f e, tt)
+term_induction P f (literal k n) = f (literal k n) tt
+term_induction P f (reckon o w a b) = f (reckon o w a b) (term_induction P f a, (term_induction P f b, tt))
 
 abbrev pub term_shape : Shape Term
 term_shape = record { operands = term_operands; size = size; size_is = term_size_is; induction = term_induction }
@@ -76,6 +85,9 @@ term_head_length (proj d w e) = refl
 term_head_length (case w i e a b) = refl
 term_head_length (protect m e) = refl
 term_head_length (mu w i e) = refl
+term_head_length (literal k n) = refl
+term_head_length (reckon plus w a b) = refl
+term_head_length (reckon (less i) w a b) = refl
 
 pub term_encode_is : (e : Term) → encode e ≡ term_head e ++ joined encode (term_operands e)
 unfolding encode
@@ -91,6 +103,9 @@ term_encode_is (proj second w e) = rw (append-nil (encode e))
 term_encode_is (case w i e a b) = rw (append-nil (encode b))
 term_encode_is (protect m e) = rw (append-nil (encode e))
 term_encode_is (mu w i e) = rw (append-nil (encode e))
+term_encode_is (literal k n) = refl
+term_encode_is (reckon plus w a b) = rw (append-nil (encode b))
+term_encode_is (reckon (less i) w a b) = rw (append-nil (encode b))
 
 abbrev pub term_code : Code term_shape
 term_code =
@@ -110,6 +125,9 @@ term_head_arity (proj second w e) = refl
 term_head_arity (case w i e a b) = refl
 term_head_arity (protect m e) = refl
 term_head_arity (mu w i e) = refl
+term_head_arity (literal k n) = refl
+term_head_arity (reckon plus w a b) = refl
+term_head_arity (reckon (less i) w a b) = refl
 
 -- a number from its two bytes
 pub two_bytes : (n : ℕ) → n % 256 + 256 * (n / 256) ≡ n
@@ -129,10 +147,13 @@ term_parse_node (proj second w e) s ts h = rw h
 term_parse_node (case w i e a b) s ts h = rw (h, two_bytes i)
 term_parse_node (protect m e) s ts h = rw h
 term_parse_node (mu w i e) s ts h = rw (h, two_bytes i)
+term_parse_node (literal k n) s ts h = rw (h, two_bytes n)
+term_parse_node (reckon plus w a b) s ts h = rw h
+term_parse_node (reckon (less i) w a b) s ts h = rw (h, two_bytes i)
 
 -- What question 14 says of a record's fields.
 record Fields (f : Signature) (k r ir z n c ic : ℕ) : Type 0 where
-  known : k ≤ 11
+  known : k ≤ 14
   zero_is : z ≡ 0
   r_unnamed : f.r ≡ false → r ≡ 0
   ir_unnamed : f.ir ≡ false → ir ≡ 0
@@ -145,7 +166,7 @@ unless true x h e = absurd (false≢true (sym e))
 unless false x h e = eqb-true x 0 h
 
 fields : (f : Signature) (k r ir z n c ic : ℕ)
-    → (leb k 11 && (eqb z 0 && ((not f.r ⇒ eqb r 0) && ((not f.ir ⇒ eqb ir 0)
+    → (leb k 14 && (eqb z 0 && ((not f.r ⇒ eqb r 0) && ((not f.ir ⇒ eqb ir 0)
     && ((not f.number ⇒ eqb n 0) && ((not f.c ⇒ eqb c 0) && (not f.ic ⇒ eqb ic 0))))))) ≡ true → Fields f k r ir z n c ic
 fields f k r ir z n c ic h =
     let a = (and-eq-true_iff _ _).0 h in
@@ -155,7 +176,7 @@ fields f k r ir z n c ic h =
     let x = (and-eq-true_iff _ _).0 d.1 in
     let y = (and-eq-true_iff _ _).0 x.1 in
     record {
-      known = leb-true k 11 a.0;
+      known = leb-true k 14 a.0;
       zero_is = eqb-true z 0 b.0;
       r_unnamed = unless f.r r p.0;
       ir_unnamed = unless f.ir ir d.0;
@@ -203,7 +224,10 @@ node_of (suc (suc (suc (suc (suc (suc (suc (suc zero)))))))) r ir z lo hi c ic t
 node_of (suc (suc (suc (suc (suc (suc (suc (suc (suc zero))))))))) r ir z lo hi c ic ts F l m = (eight 9 refl (sym (F.ir_unnamed refl)) (sym F.zero_is) (omega arith) (omega arith) (sym (F.c_unnamed refl)) (sym (F.ic_unnamed refl)), three_terms ts m)
 node_of (suc (suc (suc (suc (suc (suc (suc (suc (suc (suc zero)))))))))) r ir z lo hi c ic ts F l m = let n0 = F.number_unnamed refl in (eight 10 (sym (F.r_unnamed refl)) refl (sym F.zero_is) (omega arith) (omega arith) (sym (F.c_unnamed refl)) refl, one_term ts m)
 node_of (suc (suc (suc (suc (suc (suc (suc (suc (suc (suc (suc zero))))))))))) r ir z lo hi c ic ts F l m = (eight 11 refl (sym (F.ir_unnamed refl)) (sym F.zero_is) (omega arith) (omega arith) (sym (F.c_unnamed refl)) (sym (F.ic_unnamed refl)), one_term ts m)
-node_of (suc (suc (suc (suc (suc (suc (suc (suc (suc (suc (suc (suc k)))))))))))) r ir z lo hi c ic ts F l m = let h = F.known in absurd (omega arith)
+node_of (suc (suc (suc (suc (suc (suc (suc (suc (suc (suc (suc (suc zero)))))))))))) r ir z lo hi c ic ts F l m = (eight 12 refl refl (sym F.zero_is) (omega arith) (omega arith) refl refl, no_terms ts m)
+node_of (suc (suc (suc (suc (suc (suc (suc (suc (suc (suc (suc (suc (suc zero))))))))))))) r ir z lo hi c ic ts F l m = let n0 = F.number_unnamed refl in (eight 13 refl (sym (F.ir_unnamed refl)) (sym F.zero_is) (omega arith) (omega arith) (sym (F.c_unnamed refl)) (sym (F.ic_unnamed refl)), two_terms ts m)
+node_of (suc (suc (suc (suc (suc (suc (suc (suc (suc (suc (suc (suc (suc (suc zero)))))))))))))) r ir z lo hi c ic ts F l m = (eight 14 refl (sym (F.ir_unnamed refl)) (sym F.zero_is) (omega arith) (omega arith) (sym (F.c_unnamed refl)) (sym (F.ic_unnamed refl)), two_terms ts m)
+node_of (suc (suc (suc (suc (suc (suc (suc (suc (suc (suc (suc (suc (suc (suc (suc k))))))))))))))) r ir z lo hi c ic ts F l m = let h = F.known in absurd (omega arith)
 
 -- A record passes question 14, and its bytes are bytes.
 pub record GoodRecord (h : Bytes) : Type 0 where

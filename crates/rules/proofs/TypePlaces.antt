@@ -7,7 +7,7 @@ use Prim.Native.Nat.{ℕ, suc, ◌+◌, ◌*◌, ◌-◌, ◌≤◌, ◌<◌}
 use native.Mathlib.Omega.{arith}
 use lib.ListN.{length, get_or, drop, length-drop}
 use Rattle.calculus.specs.Security.{Property}
-use Rattle.calculus.specs.Types.{Former, sum, product, function, Parts, Ty, one, node, top, size_t}
+use Rattle.calculus.specs.Types.{one, number, Former, sum, product, function, Parts, Ty, leaf, node, top, size_t}
 use Rattle.rules.specs.Answer.{Bytes, byte}
 use Rattle.rules.specs.Limits.{type_width}
 use Rattle.rules.specs.Types.{type_count, type_kind, type_r, type_ir, type_c, type_ic, former_kind, encode_type, no_type, parse_types, type_at, type_end}
@@ -83,7 +83,7 @@ abbrev property : Bytes → Property
 property h = record { r = byte h 1; ir = byte h 2; c = byte h 4; ic = byte h 5 }
 
 top_of_head : (e : Ty) → property (type_head e) ≡ top e
-top_of_head (one k) = refl
+top_of_head (leaf b k) = refl
 top_of_head (node f k s t) = refl
 
 module _ (t : Bytes) (i : ℕ) (st : Standing t i) where
@@ -121,11 +121,12 @@ former_injective function sum h = absurd (omega arith)
 former_injective function product h = absurd (omega arith)
 former_injective function function h = refl
 
-former_positive : (f : Former) → 1 ≤ former_kind f
-former_positive sum = omega arith
-former_positive product = omega arith
-former_positive function = omega arith
+former_between : (f : Former) → (1 ≤ former_kind f) × (former_kind f ≤ 3)
+former_between sum = (omega arith, omega arith)
+former_between product = (omega arith, omega arith)
+former_between function = (omega arith, omega arith)
 
 pub of_kind : (f : Former) (e : Ty) → byte (type_head e) 0 ≡ former_kind f → (p : Parts) × (e ≡ node f p.own p.lhs p.rhs)
-of_kind f (one k) h = absurd (omega (arith, former_positive f))
+of_kind f (leaf one k) h = absurd (omega (arith, (former_between f).0))
+of_kind f (leaf number k) h = absurd (omega (arith, (former_between f).1))
 of_kind f (node f' k s t) h = (record { own = k; lhs = s; rhs = t }, ap (λ x. node x k s t) (former_injective f' f h))

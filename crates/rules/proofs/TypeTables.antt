@@ -35,13 +35,13 @@ record Forest (Q : Ty → Type 0) (t : Bytes) (i : ℕ) : Type 0 where
 -- what questions 8, 9 and 11 say
 pub record Passes (t : Bytes) : Type 0 where
   pub whole : length t % type_width ≡ 0
-  pub known : (i : ℕ) → i < type_count t → type_kind t i ≤ 3
+  pub known : (i : ℕ) → i < type_count t → type_kind t i ≤ 4
   pub unnamed : (i : ℕ) → i < type_count t → type_zero t i ≡ 0
   pub ends : (i : ℕ) → i < type_count t → ok11 t i ≡ true
 
 -- question 9 of one record
 pub record Fields9 (t : Bytes) (i : ℕ) : Type 0 where
-  pub known : type_kind t i ≤ 3
+  pub known : type_kind t i ≤ 4
   pub unnamed : type_zero t i ≡ 0
 
 pub fields9 : (n : ℕ) (t : Bytes) (i : ℕ) → ok9 n t i ≡ true → Fields9 t i
@@ -49,7 +49,7 @@ unfolding ok9
 fields9 n t i h =
     let a = (and-eq-true_iff _ _).0 h in
     let b = (and-eq-true_iff _ _).0 a.1 in
-    record { known = leb-true (type_kind t i) 3 a.0; unnamed = eqb-true (type_zero t i) 0 b.0 }
+    record { known = leb-true (type_kind t i) 4 a.0; unnamed = eqb-true (type_zero t i) 0 b.0 }
 
 pub passes : (g t : Bytes) → q8 t ≡ accepted tt → q9 g t ≡ accepted tt → q11 t ≡ accepted tt → Passes t
 passes g t q8_yes q9_yes q11_yes =
@@ -78,7 +78,7 @@ module _ (t : Bytes) (P : Passes t) where
       (λ j a b.
       let m = end_bound (λ k. sides (type_kind t k)) (type_count t - i) 1 i e h in
       record {
-        known = subst (λ k. k ≤ 3) (sym (type_kind_is t j)) (P.known j (omega arith));
+        known = subst (λ k. k ≤ 4) (sym (type_kind_is t j)) (P.known j (omega arith));
         zero_is = type_zero_is t j ∙ P.unnamed j (omega arith);
       }))
 

@@ -8,6 +8,7 @@ use Rattle.rules.specs.Script.{script_record, no_term, subterm}
 use Rattle.rules.specs.Step.{exceeds}
 use Rattle.rules.specs.Strip.{strip_script, strip_types}
 use Rattle.rules.specs.Calls.{type_records, answer_after, work_after, stepping, StepReport, step_report, written_after, running, run_report, first_after, scratch_after, sheeting, sheet_records, sheet_after}
+use Rattle.rules.specs.Sheet.{shown_record}
 use Rattle.rules.specs.Reach.{verdict}
 use Rattle.rules.specs.Report.{text, decimal, our_words, run_text, report}
 use Rattle.rules.specs.Cases.{ty, groups, types_with, types, case_term, loop, ran, ends}
@@ -43,9 +44,9 @@ unrolling r w =
     ++ var 1
     ++ var 0
 
--- a sheet record
+-- a sheet record with number 0
 abbrev pub shown : ℕ → ℕ → ℕ → Bytes
-shown kind r ir = kind ∷ r ∷ ir ∷ 0 ∷ []
+shown kind r ir = shown_record kind r ir 0
 
 -- Terms whose own parts don't matter: 2^(n + 1) - 1 records in pairs, and n protects around a term.
 abbrev pub full : ℕ → Term
@@ -115,19 +116,19 @@ pub record CallExamples : Type 0 where
   pub stripped_script : strip_script (4 ∷ 1 ∷ 1 ∷ 7 ∷ 3 ∷ 2 ∷ 1 ∷ 1 ∷ 1 ∷ 1 ∷ []) ≡ 4 ∷ 0 ∷ 0 ∷ 7 ∷ 3 ∷ 2 ∷ 0 ∷ 0 ∷ 1 ∷ 0 ∷ []
   pub stripped_types : strip_types (3 ∷ 1 ∷ 1 ∷ 7 ∷ 1 ∷ 1 ∷ 2 ∷ 1 ∷ []) ≡ 3 ∷ 0 ∷ 0 ∷ 7 ∷ 0 ∷ 0 ∷ 2 ∷ 0 ∷ []
   -- the sheet: a closed object stands for its parts; neither they nor a function's body are shown; 25 to 27
-  pub closed_with_parts : sheeting groups types (pair 1 1 ++ unit 0 0 ++ unit 1 0) 0 4 ≡ accepted (shown 5 0 0)
-  pub closed_inside : sheeting groups types (pair 0 0 ++ pair 1 1 ++ unit 0 0 ++ unit 0 0 ++ unit 0 0) 0 12 ≡ accepted (shown 3 0 0 ++ shown 5 0 0 ++ shown 0 0 0)
-  pub open_to_1 : sheeting groups types (pair 1 1 ++ unit 0 0 ++ unit 1 0) 1 12 ≡ accepted (shown 3 1 1 ++ shown 0 0 0 ++ shown 0 1 0)
-  pub body_not_shown : sheeting groups types (script_record 5 0 0 0 ++ script_record 2 0 0 4 ++ unit 0 0) 0 8 ≡ accepted (shown 2 0 0 ++ shown 4 0 0)
-  pub wide_group : sheeting groups types (unit 0 0) 256 4 ≡ refused 25 0
+  pub closed_with_parts : sheeting groups types (pair 1 1 ++ unit 0 0 ++ unit 1 0) 0 6 ≡ accepted (shown 5 0 0)
+  pub closed_inside : sheeting groups types (pair 0 0 ++ pair 1 1 ++ unit 0 0 ++ unit 0 0 ++ unit 0 0) 0 18 ≡ accepted (shown 3 0 0 ++ shown 5 0 0 ++ shown 0 0 0)
+  pub open_to_1 : sheeting groups types (pair 1 1 ++ unit 0 0 ++ unit 1 0) 1 18 ≡ accepted (shown 3 1 1 ++ shown 0 0 0 ++ shown 0 1 0)
+  pub body_not_shown : sheeting groups types (script_record 5 0 0 0 ++ script_record 2 0 0 4 ++ unit 0 0) 0 12 ≡ accepted (shown 2 0 0 ++ shown 4 0 0)
+  pub wide_group : sheeting groups types (unit 0 0) 256 6 ≡ refused 25 0
   pub no_value : sheeting groups types (protect 0 ++ unit 0 0) 0 8 ≡ refused 26 0
   pub no_value_inside : sheeting groups types (pair 1 1 ++ unit 0 0 ++ protect 0 ++ unit 0 0) 0 16 ≡ refused 26 0
-  pub short_sheet : sheeting groups types (unit 0 0) 0 3 ≡ refused 27 0
+  pub short_sheet : sheeting groups types (unit 0 0) 0 5 ≡ refused 27 0
   -- its count of records; later bytes are kept, and all on a refusal
-  pub sheet_counted : sheet_records (sheeting groups types (pair 0 0 ++ unit 0 0 ++ unit 1 0) 0 12) ≡ accepted 3
-  pub sheet_uncounted : sheet_records (sheeting groups types (unit 0 0) 0 3) ≡ refused 27 0
-  pub sheet_kept : sheet_after (sheeting groups types (unit 1 0) 1 5) (9 ∷ 9 ∷ 9 ∷ 9 ∷ 9 ∷ []) ≡ shown 0 1 0 ++ (9 ∷ [])
-  pub sheet_unchanged : sheet_after (sheeting groups types (unit 0 0) 0 3) (9 ∷ 9 ∷ 9 ∷ []) ≡ 9 ∷ 9 ∷ 9 ∷ []
+  pub sheet_counted : sheet_records (sheeting groups types (pair 0 0 ++ unit 0 0 ++ unit 1 0) 0 18) ≡ accepted 3
+  pub sheet_uncounted : sheet_records (sheeting groups types (unit 0 0) 0 5) ≡ refused 27 0
+  pub sheet_kept : sheet_after (sheeting groups types (unit 1 0) 1 7) (9 ∷ 9 ∷ 9 ∷ 9 ∷ 9 ∷ 9 ∷ 9 ∷ []) ≡ shown 0 1 0 ++ (9 ∷ [])
+  pub sheet_unchanged : sheet_after (sheeting groups types (unit 0 0) 0 5) (9 ∷ 9 ∷ 9 ∷ []) ≡ 9 ∷ 9 ∷ 9 ∷ []
   -- texts: letters by their codes, numbers of up to 64 bits
   pub letters : text "unit 0\n" ≡ 117 ∷ 110 ∷ 105 ∷ 116 ∷ 32 ∷ 48 ∷ 10 ∷ []
   pub smallest : decimal 0 ≡ text "0"

@@ -6,7 +6,8 @@ use Rattle.calculus.specs.Types.{Ty, size_t}
 use Rattle.calculus.specs.Subtyping.{subtype}
 use Rattle.calculus.specs.Common.{common}
 use Rattle.calculus.specs.Terms.{Term, subst, raise_value, is_value}
-use Rattle.calculus.specs.Reduction.{step, operand_first, reading, apply, project, branch, unroll}
+use Rattle.calculus.specs.Numbers.{literal_of, reckoned}
+use Rattle.calculus.specs.Reduction.{step, operand_first, reading, apply, project, branch, unroll, calculate}
 use Rattle.rules.specs.Answer.{Bytes, Answer, accepted, refused, ◌>>=◌, ◌>>◌, ask, first_from, last_below}
 use Rattle.rules.specs.Limits.{work_length, answer_length, sheet_width}
 use Rattle.rules.specs.Groups.{rows, join, meet, ok3, ok4, ok5, ok6, ok7, q2, q3, q4, q5, q6, q7, properties_of}
@@ -126,7 +127,7 @@ stepping_by S g t s room = do
   accepted (step_in S (type_at t) room (term s))
 
 unfoldable pub stepping : Bytes → Bytes → Bytes → ℕ → Answer End
-unfolding script_check step_in step operand_first reading apply project branch unroll subst raise_value exceeds size depth type_at term join meet last_below common
+unfolding script_check step_in step operand_first reading apply project branch unroll calculate literal_of reckoned subst raise_value exceeds size depth type_at term join meet last_below common
 stepping g t s room = stepping_by (properties_of g) g t s room
 
 -- "A step reports its end and a record count, the script's own unless it moved."
@@ -157,7 +158,7 @@ running_by S g t s budget first scratch = do
   accepted (run S (type_at t) (min first scratch) budget (term s))
 
 unfoldable pub running : Bytes → Bytes → Bytes → ℕ → ℕ → ℕ → Answer Ran
-unfolding script_check run is_value step_in step operand_first reading apply project branch unroll subst raise_value exceeds size depth type_at term join meet last_below common
+unfolding script_check run is_value step_in step operand_first reading apply project branch unroll calculate literal_of reckoned subst raise_value exceeds size depth type_at term join meet last_below common
 running g t s budget first scratch = running_by (properties_of g) g t s budget first scratch
 
 -- "A run reports end, steps made and record count."

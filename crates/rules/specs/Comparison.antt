@@ -1,7 +1,7 @@
 -- Document 02, item 2: same, below or neither.
 use Rattle.std.specs.Prelude.{Bool, false, cond, ◌&&◌, ℕ, eqb}
 use Rattle.calculus.specs.Security.{Property, Security}
-use Rattle.calculus.specs.Types.{Ty, one, node}
+use Rattle.calculus.specs.Types.{Ty, leaf, node}
 use Rattle.calculus.specs.Types as formers
 use Rattle.calculus.specs.Subtyping.{subtype}
 use Rattle.calculus.specs.Subtyping as directions
@@ -16,9 +16,9 @@ equal_properties k l = eqb k.r l.r && (eqb k.ir l.ir && (eqb k.c l.c && eqb k.ic
 
 -- "Same means equal in every record."
 unfoldable pub equal_types : Ty → Ty → Bool
-equal_types (one k) (one l) = equal_properties k l
-equal_types (one k) (node f l s t) = false
-equal_types (node f k s t) (one l) = false
+equal_types (leaf b k) (leaf b' l) = formers.same_leaf b b' && equal_properties k l
+equal_types (leaf b k) (node f l s t) = false
+equal_types (node f k s t) (leaf b l) = false
 equal_types (node f k s t) (node f' l s' t') = formers.same f f' && (equal_properties k l && (equal_types s s' && equal_types t t'))
 
 -- Below is at or below and not the same; a type that is above is neither.

@@ -1,7 +1,7 @@
 -- Further examples: the slips of the pen, and what cases A to L leave open of questions 1 to 25. What the calls give and write is in
 -- CallExamples.
 use Rattle.std.specs.Prelude.{◌≡◌, true, false, [], ◌∷◌, ◌++◌, ℕ, zero, suc, ◌*◌, ◌/◌, ◌%◌}
-use Rattle.calculus.specs.Types.{one}
+use Rattle.calculus.specs.Types.{one, leaf}
 use Rattle.rules.specs.Answer.{Bytes, accepted, refused}
 use Rattle.rules.specs.Groups.{leq, row, q2}
 use Rattle.rules.specs.Types.{q8}
@@ -103,7 +103,7 @@ pub record Examples : Type 0 where
   pub joined_type : type_bytes (verdict diamond types (protect 2 ++ unit 1 1)) ≡ accepted (ty 0 3 3)
   -- 8 to 12
   pub no_types : types_check groups [] ≡ refused 8 0
-  pub kind_past_3 : types_check groups (ty 0 0 0 ++ ty 4 0 0) ≡ refused 9 1
+  pub kind_past_4 : types_check groups (ty 0 0 0 ++ ty 5 0 0) ≡ refused 9 1
   pub byte_3 : types_check groups (ty 0 0 0 ++ (0 ∷ 0 ∷ 0 ∷ 1 ∷ 0 ∷ 0 ∷ [])) ≡ refused 9 1
   pub group_past_rows : types_check groups (ty 0 2 0) ≡ refused 9 0
   pub indirect_above : types_check groups (ty 0 0 1) ≡ refused 10 0
@@ -176,4 +176,4 @@ pub record Examples : Type 0 where
   -- 1
   pub short_work : checking 96767 378 groups types (unit 0 0) ≡ refused 1 0
   pub short_answer : checking 96768 377 groups types (unit 0 0) ≡ refused 1 0
-  pub long_enough : checking 96768 378 groups types (unit 1 0) ≡ accepted (one (record { r = 1; ir = 0; c = 0; ic = 0 }))
+  pub long_enough : checking 96768 378 groups types (unit 1 0) ≡ accepted (leaf one (record { r = 1; ir = 0; c = 0; ic = 0 }))

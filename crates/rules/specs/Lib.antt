@@ -21,3 +21,4 @@ pub mod CallExamples
 pub mod WordExamples
 pub mod FoundExamples
 pub mod CreatorExamples
+pub mod NumberExamples

@@ -13,7 +13,7 @@ abbrev pub script_width : ℕ
 script_width = 8
 
 abbrev pub sheet_width : ℕ
-sheet_width = 4
+sheet_width = 6
 
 -- and of a type and a script record in the forms before item 10
 abbrev pub old_type_width : ℕ
@@ -35,12 +35,12 @@ script_limit = 8192
 abbrev pub depth_limit : ℕ
 depth_limit = 256
 
--- "six records of 12 bytes": a words table has 72 bytes
+-- "records of 12 bytes", and item 13: "a studio's table has seven words". So it has 84 bytes.
 abbrev pub word_width : ℕ
 word_width = 12
 
 abbrev pub word_limit : ℕ
-word_limit = 6
+word_limit = 7
 
 abbrev pub words_length : ℕ
 words_length = word_limit * word_width

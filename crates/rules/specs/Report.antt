@@ -1,5 +1,5 @@
--- Document 01, 'Report program', and document 02, item 7: the whole text that it prints, as a function of the bytes of its files.
-use Rattle.std.specs.Prelude.{true, false, ◌∷◌, ◌++◌, ℕ, zero, suc, ◌+◌, ◌/◌, ◌%◌, ltb, eqb, take}
+-- Document 01, 'Report program', and document 02, items 7 and 13: the whole text that it prints, as a function of the bytes of its files.
+use Rattle.std.specs.Prelude.{true, false, cond, ◌∷◌, ◌++◌, ℕ, zero, suc, ◌+◌, ◌*◌, ◌/◌, ◌%◌, ltb, eqb, take}
 use mathlib.Core.List as list
 use Rattle.std.proofs.Math.Option.{Option, none, some}
 use Prim.Native.Char.{code}
@@ -33,10 +33,17 @@ decimal n = digits 20 n list.[]
 abbrev pub word_record : String → Bytes
 word_record s = take word_width (text s ++ zeros word_width)
 
--- "whose words are unit, first, second, pair, function, closed", as a words table
+-- "whose words are unit, first, second, pair, function, closed", and item 13: "word `number`", as a words table
 unfoldable pub our_words : Bytes
 unfolding text
-our_words = word_record "unit" ++ word_record "first" ++ word_record "second" ++ word_record "pair" ++ word_record "function" ++ word_record "closed"
+our_words =
+    word_record "unit"
+    ++ word_record "first"
+    ++ word_record "second"
+    ++ word_record "pair"
+    ++ word_record "function"
+    ++ word_record "closed"
+    ++ word_record "number"
 
 -- a word and a number
 abbrev pub named : String → ℕ → Bytes
@@ -55,10 +62,14 @@ unfoldable pub run_line : ℕ → ℕ → ℕ → Bytes
 unfolding text decimal
 run_line end steps records = named "end " end ++ named " steps " steps ++ named " records " records ++ text "\n"
 
+-- the number is "printed after ir; .. unprinted for all but a shown literal", whose kind is 6
+abbrev pub printed_number : ℕ → ℕ → Bytes
+printed_number kind n = cond (eqb kind 6) (named " " n) list.[]
+
 -- "word, r, ir" of a record of the sheet, in the words of a table w
-unfoldable pub sheet_line : Bytes → ℕ → ℕ → ℕ → Bytes
+unfoldable pub sheet_line : Bytes → ℕ → ℕ → ℕ → ℕ → Bytes
 unfolding text decimal word
-sheet_line w kind r ir = word w kind ++ named " " r ++ named " " ir ++ text "\n"
+sheet_line w kind r ir n = word w kind ++ named " " r ++ named " " ir ++ printed_number kind n ++ text "\n"
 
 -- a line for each of its records
 unfoldable pub sheet_lines : Bytes → Bytes → Bytes
@@ -67,7 +78,9 @@ sheet_lines w list.[] = list.[]
 sheet_lines w (k ∷ list.[]) = list.[]
 sheet_lines w (k ∷ r ∷ list.[]) = list.[]
 sheet_lines w (k ∷ r ∷ ir ∷ list.[]) = list.[]
-sheet_lines w (k ∷ r ∷ ir ∷ z ∷ b) = sheet_line w k r ir ++ sheet_lines w b
+sheet_lines w (k ∷ r ∷ ir ∷ z ∷ list.[]) = list.[]
+sheet_lines w (k ∷ r ∷ ir ∷ z ∷ lo ∷ list.[]) = list.[]
+sheet_lines w (k ∷ r ∷ ir ∷ z ∷ lo ∷ hi ∷ b) = sheet_line w k r ir (lo + 256 * hi) ++ sheet_lines w b
 
 -- An accepted script's run and sheet aren't refused; these lines are here because a text has to be given for every answer.
 abbrev pub sheet_text : Bytes → Answer Bytes → Bytes

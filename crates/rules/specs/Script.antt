@@ -1,8 +1,8 @@
--- Document 01, 'Scripts', with item 10's creators: questions 13 to 19 and 36.
+-- Document 01, 'Scripts', with item 10's creators and item 13's numbers: questions 13 to 19 and 36.
 use Rattle.std.specs.Prelude.{Bool, true, false, cond, not, ◌&&◌, ◌||◌, List, [], ◌∷◌, ◌++◌, ℕ, suc, ◌+◌, ◌*◌, ◌-◌, ◌/◌, ◌%◌, max, eqb, leb, ltb, length, get_or, take, drop}
 use Rattle.std.proofs.Math.Option.{Option, none, some}
 use Rattle.calculus.specs.Security.{Property}
-use Rattle.calculus.specs.Terms.{first, second, Term, var, unit, lam, pair, inj, app, proj, case, protect, mu}
+use Rattle.calculus.specs.Terms.{first, second, plus, less, Term, var, unit, lam, pair, inj, app, proj, case, protect, mu, literal, reckon}
 use Rattle.calculus.specs.Typing.{finds_own}
 use Rattle.rules.specs.Answer.{Bytes, byte, Answer, accepted, refused, ◌>>◌, ask, each, first_from, all_below, ◌⇒◌}
 use Rattle.rules.specs.Limits.{script_width, script_limit, depth_limit}
@@ -46,7 +46,7 @@ pub record Signature : Type 0 where
   -- whether the number names a type
   pub typed : Bool
 
--- Item 10: "Kinds 1 to 5 use both, protect uses ic." So an object, which names r and ir, names c, and what names ir names ic.
+-- Item 10: "Kinds 1 to 5 use both, protect uses ic." Item 13's literal has "its groups" too. So an object, which names r and ir, names c, and what names ir names ic.
 abbrev pub signature : ℕ → Bool → Bool → Bool → Bool → Signature
 signature o r ir n t = record { operands = o; r = r; ir = ir; c = r && ir; ic = ir; number = n; typed = t }
 
@@ -66,6 +66,9 @@ signatures =
     ∷ signature 3 true false true true  -- 9 case
     ∷ signature 1 false true false false  -- 10 protect
     ∷ signature 1 true false true true  -- 11 recursion
+    ∷ signature 0 true true true false  -- 12 literal
+    ∷ signature 2 true false false false  -- 13 sum of two
+    ∷ signature 2 true false true true  -- 14 less than
     ∷ []
 
 unfoldable pub signature_of : ℕ → Signature
@@ -103,6 +106,9 @@ encode (proj second w e) = script_record 8 w 0 0 ++ encode e
 encode (case w i e a b) = script_record 9 w 0 i ++ (encode e ++ (encode a ++ encode b))
 encode (protect m e) = full_record 10 0 m.ir 0 0 m.ic ++ encode e
 encode (mu w i e) = script_record 11 w 0 i ++ encode e
+encode (literal k n) = object_record 12 k n
+encode (reckon plus w a b) = script_record 13 w 0 0 ++ (encode a ++ encode b)
+encode (reckon (less i) w a b) = script_record 14 w 0 i ++ (encode a ++ encode b)
 
 abbrev pub no_term : Term
 no_term = var 0
@@ -124,6 +130,9 @@ make kind r ir n c ic a b d =
     ∷ case r n a b d
     ∷ protect (record { ir = ir; ic = ic }) a
     ∷ mu r n a
+    ∷ literal k n
+    ∷ reckon plus r a b
+    ∷ reckon (less n) r a b
     ∷ [])
     kind no_term
 
@@ -159,6 +168,8 @@ size (proj d w e) = 1 + size e
 size (case w i e a b) = 1 + (size e + (size a + size b))
 size (protect m e) = 1 + size e
 size (mu w i e) = 1 + size e
+size (literal k n) = 1
+size (reckon o w a b) = 1 + (size a + size b)
 
 -- Item 3: the operands of a case that finds its own type "have its own depth plus two".
 abbrev pub weight : ℕ → ℕ
@@ -176,6 +187,8 @@ depth (proj d w e) = 1 + depth e
 depth (case w i e a b) = weight i + max (depth e) (max (depth a) (depth b))
 depth (protect m e) = 1 + depth e
 depth (mu w i e) = 1 + depth e
+depth (literal k n) = 1
+depth (reckon o w a b) = 1 + max (depth a) (depth b)
 
 -- A number for each record, in the records' order: n at the node, `deeper n` at an operand, and `bound n` at one that a
 -- binder stands over; a case with number i passes on `wide i n` in the place of n. "Kinds 2 and 11 bind one in their operand, a
@@ -193,6 +206,8 @@ counts wide deeper bound n (case w i e a b) =
     ++ (counts wide deeper bound (bound (wide i n)) a ++ counts wide deeper bound (bound (wide i n)) b))
 counts wide deeper bound n (protect m e) = n ∷ counts wide deeper bound (deeper n) e
 counts wide deeper bound n (mu w i e) = n ∷ counts wide deeper bound (bound n) e
+counts wide deeper bound n (literal k m) = n ∷ []
+counts wide deeper bound n (reckon o w a b) = n ∷ (counts wide deeper bound (deeper n) a ++ counts wide deeper bound (deeper n) b)
 
 abbrev one_more : ℕ → ℕ
 one_more n = suc n
@@ -226,12 +241,12 @@ q13_of width rooms s =
 abbrev pub q13 : List ℕ → Bytes → Answer (Unit {0})
 q13 rooms s = q13_of script_width rooms s
 
--- 14. Kind at most 11, unnamed fields 0?
+-- 14. Kind at most 14, unnamed fields 0?
 unfoldable pub ok14 : Bytes → ℕ → Bool
 unfolding signature_of
 ok14 s i =
     let f = signature_of (kind s i) in
-    leb (kind s i) 11
+    leb (kind s i) 14
     && (eqb (zero_byte s i) 0
     && ((not f.r ⇒ eqb (r s i) 0)
     && ((not f.ir ⇒ eqb (ir s i) 0)
@@ -240,9 +255,9 @@ ok14 s i =
 abbrev pub q14 : Bytes → Answer (Unit {0})
 q14 s = each 14 (records s) (ok14 s)
 
--- "for kinds 1 to 5"
+-- "for kinds 1 to 5", and item 13: "15 and 36 take a literal like kind 1"
 abbrev pub is_object : ℕ → Bool
-is_object kind = leb 1 kind && leb kind 5
+is_object kind = (leb 1 kind && leb kind 5) || eqb kind 12
 
 -- 15. Named groups in table, and for kinds 1 to 5 ir ⊑ r?
 unfoldable pub ok15 : Bytes → Bytes → ℕ → Bool
@@ -267,12 +282,17 @@ q36_objects g s = each 36 (records s) (ok36_object g s)
 abbrev pub own_at : Bytes → ℕ → Bool
 own_at s i = eqb (kind s i) 9 && finds_own (number s i)
 
--- 16. Does a named type exist, a sum for 4 and 5, a function for 11? A case's number 65,535 names none.
+-- is type n "a sum of two units"?
+abbrev pub sum_of_units : Bytes → ℕ → Bool
+sum_of_units t n = eqb (type_kind t n) 1 && (eqb (type_kind t (n + 1)) 0 && eqb (type_kind t (n + 2)) 0)
+
+-- 16. Does a named type exist, a sum for 4 and 5, a function for 11, a sum of two units for 14? A case's number 65,535 names none.
 unfoldable pub ok16 : Bytes → Bytes → ℕ → Bool
 unfolding signature_of
 ok16 t s i =
     ((signature_of (kind s i)).typed ⇒ own_at s i || ltb (number s i) (type_count t))
-    && ((eqb (kind s i) 4 || eqb (kind s i) 5 ⇒ eqb (type_kind t (number s i)) 1) && (eqb (kind s i) 11 ⇒ eqb (type_kind t (number s i)) 3))
+    && ((eqb (kind s i) 4 || eqb (kind s i) 5 ⇒ eqb (type_kind t (number s i)) 1)
+    && ((eqb (kind s i) 11 ⇒ eqb (type_kind t (number s i)) 3) && (eqb (kind s i) 14 ⇒ sum_of_units t (number s i))))
 
 abbrev pub q16 : Bytes → Bytes → Answer (Unit {0})
 q16 t s = each 16 (records s) (ok16 t s)

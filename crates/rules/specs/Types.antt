@@ -1,8 +1,8 @@
--- Document 01, 'Types', with item 10's creators: questions 8 to 12 and 36.
-use Rattle.std.specs.Prelude.{Bool, true, not, cond, ◌&&◌, List, [], ◌∷◌, ◌++◌, ℕ, zero, suc, ◌+◌, ◌*◌, ◌-◌, ◌/◌, ◌%◌, eqb, leb, ltb, length, get_or, drop}
+-- Document 01, 'Types', with item 10's creators and item 13's numbers: questions 8 to 12 and 36.
+use Rattle.std.specs.Prelude.{Bool, true, not, cond, ◌&&◌, ◌||◌, List, [], ◌∷◌, ◌++◌, ℕ, zero, suc, ◌+◌, ◌*◌, ◌-◌, ◌/◌, ◌%◌, eqb, leb, ltb, length, get_or, drop}
 use Rattle.std.proofs.Math.Option.{Option, none, some}
 use Rattle.calculus.specs.Security.{Property}
-use Rattle.calculus.specs.Types.{Former, sum, product, function, Ty, one, node, type_limit}
+use Rattle.calculus.specs.Types.{Leaf, one, number, Former, sum, product, function, Ty, leaf, node, type_limit}
 use Rattle.rules.specs.Answer.{Bytes, byte, Answer, ask, each, is_none, ◌⇒◌}
 use Rattle.rules.specs.Limits.{type_width, table_limit}
 use Rattle.rules.specs.Groups.{rows, leq}
@@ -30,8 +30,13 @@ abbrev pub type_ic : Bytes → ℕ → ℕ
 type_ic t i = byte t (type_width * i + 5)
 
 -- "Kinds: 0 unit, 1 sum, 2 pair, 3 function; all but unit are followed by their left and then their right type."
+-- Item 13: "Add type kind 4, without sides."
 abbrev pub sides : ℕ → ℕ
-sides kind = cond (eqb kind 0) 0 2
+sides kind = cond (eqb kind 0 || eqb kind 4) 0 2
+
+abbrev pub leaf_kind : Leaf → ℕ
+leaf_kind one = 0
+leaf_kind number = 4
 
 abbrev pub former_kind : Former → ℕ
 former_kind sum = 1
@@ -43,15 +48,15 @@ type_record kind k = kind ∷ k.r ∷ k.ir ∷ 0 ∷ k.c ∷ k.ic ∷ []
 
 -- a type as records
 unfoldable pub encode_type : Ty → Bytes
-encode_type (one k) = type_record 0 k
+encode_type (leaf b k) = type_record (leaf_kind b) k
 encode_type (node f k s t) = type_record (former_kind f) k ++ (encode_type s ++ encode_type t)
 
 abbrev pub no_type : Ty
-no_type = one (record { r = 0; ir = 0; c = 0; ic = 0 })
+no_type = leaf one (record { r = 0; ir = 0; c = 0; ic = 0 })
 
 -- the type of a record in front of the types that follow it
 abbrev pub make_type : ℕ → Property → Ty → Ty → Ty
-make_type kind k s t = get_or (one k ∷ node sum k s t ∷ node product k s t ∷ node function k s t ∷ []) kind no_type
+make_type kind k s t = get_or (leaf one k ∷ node sum k s t ∷ node product k s t ∷ node function k s t ∷ leaf number k ∷ []) kind no_type
 
 -- the type that starts at the first record, and those that start after its end
 unfoldable pub parse_types : Bytes → List Ty
@@ -99,10 +104,10 @@ q8_of width t = ask 8 0 (eqb (length t % width) 0 && (leb 1 (length t / width) &
 abbrev pub q8 : Bytes → Answer (Unit {0})
 q8 t = q8_of type_width t
 
--- 9. Kind at most 3, byte 3 (counted from 0) equal to 0, groups in table? `n` is the number of groups.
+-- 9. Kind at most 4, byte 3 (counted from 0) equal to 0, groups in table? `n` is the number of groups.
 unfoldable pub ok9 : ℕ → Bytes → ℕ → Bool
 ok9 n t i =
-    leb (type_kind t i) 3 && (eqb (type_zero t i) 0 && (ltb (type_r t i) n && (ltb (type_ir t i) n && (ltb (type_c t i) n && ltb (type_ic t i) n))))
+    leb (type_kind t i) 4 && (eqb (type_zero t i) 0 && (ltb (type_r t i) n && (ltb (type_ir t i) n && (ltb (type_c t i) n && ltb (type_ic t i) n))))
 
 abbrev pub q9 : Bytes → Bytes → Answer (Unit {0})
 q9 g t = each 9 (type_count t) (ok9 (rows g) t)

@@ -3,31 +3,40 @@
 -- body, 24 last. The place is the node."
 use Rattle.std.specs.Prelude.{Bool, false, cond, ◌&&◌, ◌||◌, List, ◌∷◌, ℕ, ◌+◌, eqb, leb, get_or}
 use Rattle.std.proofs.Math.Option.{Option, none, some}
-use Rattle.calculus.specs.Security.{Reader, Security}
-use Rattle.calculus.specs.Types.{Former, sum, product, function, Ty, one, node, same, top, raise_t, fits}
+use Rattle.calculus.specs.Security.{Property, Reader, Security}
+use Rattle.calculus.specs.Types.{one, number, Former, sum, product, function, Ty, leaf, node, same, same_leaf, top, raise_t, fits}
 use Rattle.calculus.specs.Subtyping.{subtype, below}
 use Rattle.calculus.specs.Common.{common}
 use Rattle.calculus.specs.Typing.{finds_own}
-use Rattle.calculus.specs.Terms.{choose, Term, var, unit, lam, pair, inj, app, proj, case, protect, mu}
+use Rattle.calculus.specs.Terms.{choose, Operation, plus, less, Term, var, unit, lam, pair, inj, app, proj, case, protect, mu, literal, reckon}
+use Rattle.calculus.specs.Numbers.{of_both}
 use Rattle.rules.specs.Answer.{Answer, accepted, refused, ◌>>=◌, ◌>>◌, ask}
 use Rattle.rules.specs.Types.{no_type}
 use Rattle.rules.specs.Script.{size}
 
 abbrev pub has_form : Former → Ty → Bool
-has_form f (one k) = false
+has_form f (leaf b k) = false
 has_form f (node f' k s t) = same f f'
 
 abbrev pub left : Ty → Ty
-left (one k) = no_type
+left (leaf b k) = no_type
 left (node f k s t) = s
 
 abbrev pub right : Ty → Ty
-right (one k) = no_type
+right (leaf b k) = no_type
 right (node f k s t) = t
 
 -- 20. Application, projection, case: first operand's type a function, pair, sum?
 abbrev pub q20 : ℕ → Former → Ty → Answer (Unit {0})
 q20 place f s = ask 20 place (has_form f s)
+
+-- Item 13: "20 and 21 are put to each operand." Is its type a number?
+abbrev pub is_number : Ty → Bool
+is_number (leaf b k) = same_leaf b number
+is_number (node f k s t) = false
+
+abbrev pub q20_number : ℕ → Ty → Answer (Unit {0})
+q20_number place s = ask 20 place (is_number s)
 
 -- 21. Its r ⊑ the node's r?
 abbrev pub q21 : Security → ℕ → Ty → Reader → Answer (Unit {0})
@@ -58,6 +67,11 @@ found_or place (some t) = accepted t
 abbrev pub branch_type : Security → ℕ → (ℕ → Ty) → ℕ → Ty → Ty → Answer Ty
 branch_type S place tab i t u = cond (finds_own i) (found_or place (common S below t u)) (accepted (tab i))
 
+-- the type of a sum, or of less than, which 16 has asked for a sum of two units; k are the result's groups
+abbrev pub number_result : (ℕ → Ty) → Operation → Property → Ty
+number_result tab plus k = leaf number k
+number_result tab (less i) k = node sum k (left (tab i)) (right (tab i))
+
 -- The questions that typing asks: order is position, so that none of them is told by its number alone.
 abbrev pub of_typing : ℕ → Bool
 of_typing q = (leb 20 q && leb q 24) || eqb q 31
@@ -66,7 +80,7 @@ of_typing q = (leb 20 q && leb q 24) || eqb q 31
 -- types of the binders, the nearest first.
 unfoldable pub typing : Security → (ℕ → Ty) → List Ty → ℕ → Term → Answer Ty
 typing S tab Γ p (var n) = accepted (get_or Γ n no_type)
-typing S tab Γ p (unit k) = accepted (one k)
+typing S tab Γ p (unit k) = accepted (leaf one k)
 typing S tab Γ p (lam k i e) = do
   t ← typing S tab (tab i ∷ Γ) (1 + p) e
   q24 p (node function k (tab i) t)
@@ -111,3 +125,12 @@ typing S tab Γ p (mu w i e) = do
   t ← typing S tab (tab i ∷ Γ) (1 + p) e
   q22 S p t (tab i)
   accepted (tab i)
+typing S tab Γ p (literal k n) = accepted (leaf number k)
+typing S tab Γ p (reckon o w a b) = do
+  s ← typing S tab Γ (1 + p) a
+  q20_number p s
+  q21 S p s w
+  t ← typing S tab Γ (1 + p + size a) b
+  q20_number p t
+  q21 S p t w
+  accepted (number_result tab o (of_both S w (top s) (top t)))

@@ -31,10 +31,12 @@ pub record WordExamples : Type 0 where
   pub word_3 : words.word our_words 3 ≡ text "pair"
   pub word_4 : words.word our_words 4 ≡ text "function"
   pub word_5 : words.word our_words 5 ≡ text "closed"
-  pub no_word_6 : words.word our_words 6 ≡ []
-  -- 32: 72 bytes; an empty file is no missing one
+  pub word_6 : words.word our_words 6 ≡ text "number"
+  pub no_word_7 : words.word our_words 7 ≡ []
+  -- 32: 84 bytes, the length of seven words; an empty file is no missing one
   pub empty : words_check [] ≡ refused 32 0
-  pub byte_short : words_check (take 71 our_words) ≡ refused 32 0
+  pub six_words : words_check (take 72 our_words) ≡ refused 32 0
+  pub byte_short : words_check (take 83 our_words) ≡ refused 32 0
   pub byte_long : words_check (our_words ++ (0 ∷ [])) ≡ refused 32 0
   -- 33: 1 to 12 letters, then zero bytes
   pub one_letter : with_word 3 "p" ≡ accepted tt

@@ -1,5 +1,5 @@
--- Document 02, item 7: "A studio may supply its own in a file `words`: six records of 12 bytes, each 1 to 12 letters a to z, then zero
--- bytes." Questions 32 to 34.
+-- Document 02, item 7: "A studio may supply its own in a file `words`: .. records of 12 bytes, each 1 to 12 letters a to z, then zero
+-- bytes", which are seven with item 13. Questions 32 to 34.
 use Rattle.std.specs.Prelude.{Bool, not, ◌&&◌, ℕ, ◌+◌, ◌*◌, eqb, leb, length, take, drop}
 use Rattle.std.proofs.Math.Option.{Option, none, some}
 use Rattle.rules.specs.Answer.{Bytes, byte, Answer, ◌>>◌, ask, each, first_from, first_below, all_below, ◌⇒◌}
@@ -28,7 +28,7 @@ unfoldable pub word : Bytes → ℕ → Bytes
 unfolding letters
 word w i = take (letters w i) (drop (word_width * i) w)
 
--- 32. "Place 0 goes with 32 when the length isn't 72,"
+-- 32. "Place 0 goes with 32", which "is a length other than 84",
 abbrev pub q32 : Bytes → Answer (Unit {0})
 q32 w = ask 32 0 (eqb (length w) words_length)
 
