@@ -4,10 +4,10 @@ use Rattle.std.proofs.Common.{refl, ap, ap₂, sym, ◌∙◌, arith, length-dro
 use Rattle.calculus.specs.Security.{Property, Security}
 use Rattle.calculus.specs.Subtyping.{Direction}
 use Rattle.calculus.specs.Common.{bound}
-use Rattle.calculus.specs.Types.{Ty, one, node, top, size_t}
+use Rattle.calculus.specs.Types.{Ty, leaf, node, top, size_t}
 use Rattle.rules.specs.Answer.{Bytes, byte}
 use Rattle.rules.specs.Limits.{type_width}
-use Rattle.rules.specs.Types.{type_count, former_kind, type_record, encode_type}
+use Rattle.rules.specs.Types.{type_count, leaf_kind, former_kind, sides, type_record, encode_type}
 use Rattle.memory.specs.Splice.{splice}
 use Rattle.types.specs.Held.{Held, kind_of, left_of, right_of, type_property, with_property}
 use Rattle.common_types.specs.Walks.{At, TwoTypes, common_record}
@@ -24,8 +24,8 @@ shifted (suc n) (x ∷ w) k l = ap (λ (b : Bytes). x ∷ b) (shifted n w k (ome
 -- the first record with another property
 over : {s : Bytes} (t : Ty) (k : Property) → Held s t → with_property s 0 k ≡ type_record (kind_of t) k ++ drop type_width s
 unfolding encode_type
-over (one l) k h =
-    ap (λ (b : Bytes). with_property b 0 k) h.is ∙ ap (λ (b : Bytes). type_record 0 k ++ drop type_width b) (sym h.is)
+over (leaf c l) k h =
+    ap (λ (b : Bytes). with_property b 0 k) h.is ∙ ap (λ (b : Bytes). type_record (leaf_kind c) k ++ drop type_width b) (sym h.is)
 over (node f l a b) k h =
     ap (λ (b : Bytes). with_property b 0 k) h.is ∙ ap (λ (b : Bytes). type_record (former_kind f) k ++ drop type_width b) (sym h.is)
 
@@ -56,7 +56,7 @@ module _ {w : Bytes} {i : ℕ} {t : Ty} (h : At w i t) where
       rw (a, b, c, d) (shifted n w k (omega (arith, room)))
       ∙ ap (λ (b : Bytes). take n w ++ b) (over t k h.held ∙ ap (λ (b : Bytes). type_record (kind_of t) k ++ b) (drop-drop type_width n w))
 
-  module _ (two : kind_of t ≡ 0 → ⊥) where
+  module _ (two : sides (kind_of t) ≡ 2) where
     pub left_at : At w (i + 1) (left_of t)
     left_at =
         let e : type_width * (i + 1) ≡ type_width * i + type_width = omega arith in

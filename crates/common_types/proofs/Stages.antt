@@ -1,28 +1,27 @@
 -- A walk over two types, stage by stage: the kinds compared, the first record written, the left sides walked, the right sides walked.
 -- Once for both directions.
 use Rattle.std.proofs.Common.{◌≡◌, ℕ, ◌+◌, ◌*◌, ◌≤◌, Option, Some, None, [], ◌++◌, true, false, eqb, length, drop}
-use Rattle.std.proofs.Common.{refl, ap, ap₂, sym, ◌∙◌, subst, arith, append_assoc, length-append, true≢false, eqb-true, eq-eqb}
+use Rattle.std.proofs.Common.{ap, ap₂, sym, ◌∙◌, subst, arith, append_assoc, length-append, true≢false, eqb-true, eq-eqb}
 use Rattle.std.proofs.Math.Option as math
 use Rattle.std.proofs.Math.Option.{none, some, none-ne-some}
 use Rattle.calculus.specs.Security.{Property, Security}
-use Rattle.calculus.specs.Types.{Ty, one, top, size_t}
+use Rattle.calculus.specs.Types.{Ty, top, size_t}
 use Rattle.calculus.specs.Subtyping.{Direction, opposite}
 use Rattle.calculus.specs.Common.{bound, common}
 use Rattle.rules.specs.Answer.{Bytes}
 use Rattle.rules.specs.Limits.{type_width}
-use Rattle.rules.specs.Types.{type_record, encode_type}
+use Rattle.rules.specs.Types.{encode_type, sides}
 use Rattle.memory.specs.Splice.{splice}
 use Rattle.memory.proofs.Laws.{splice_none, drop_past, join_after}
 use Rattle.types.specs.declared.Kind.{Kind}
-use Rattle.types.specs.declared.Kind.TheVariants.{Unit, Function}
+use Rattle.types.specs.declared.Kind.TheVariants.{Function}
 use Rattle.types.specs.Kinds.{kind_number}
 use Rattle.types.specs.Held.{kind_of, left_of, right_of}
-use Rattle.types.proofs.Numbered.{same_kind}
 use Rattle.types.proofs.Parts.{type_length, type_positive, sides_size}
 use Rattle.subtyping.proofs.Order.{turned, turned_round, straight_on}
 use Rattle.common_types.specs.Walks.{At, TwoTypes, common_record, answered, Walked}
 use Rattle.common_types.proofs.Answers.{found_is, apart_is}
-use Rattle.common_types.proofs.Trees.{remade, remade_size, remade_records, with_sides, kinds_apart, of_units, of_sides, common_size}
+use Rattle.common_types.proofs.Trees.{remade, remade_size, remade_records, remade_leaf, with_sides, kinds_apart, of_leaves, of_sides, common_size}
 use Rattle.common_types.proofs.Places.{at_same, room, left_at, right_at}
 
 -- no common type, whatever is written over the first
@@ -63,15 +62,21 @@ module _ (S : Security) (d : Direction) {w : Bytes} {at other : ℕ} (p : TwoTyp
 
   -- the types have sides, and d' is the direction of their left ones
   pub record Sided (d' : Direction) : Type 0 where
-    pub two : kind_of p.first ≡ 0 → ⊥
+    pub two : sides (kind_of p.first) ≡ 2
     pub is : d' ≡ turned p.first d
 
-  module _ {k : Kind} (kind_is : kind_number k ≡ kind_of p.first) {d' : Direction} where
-    pub at_function : k ≡ Function → d' ≡ opposite d → Sided d'
-    at_function f e = record { two = λ n. omega (arith, ap kind_number f); is = e ∙ turned_round d f p.first kind_is }
+  module _ (k : Kind) (kind_is : kind_number k ≡ kind_of p.first) where
+    pub no_sides : false ≡ eqb (sides (kind_number k)) 2 → sides (kind_of p.first) ≡ 2 → ⊥
+    no_sides e two = true≢false (sym (eq-eqb _ _ (ap sides kind_is ∙ two)) ∙ sym e)
 
-    pub at_other : (k ≡ Unit → ⊥) → (k ≡ Function → ⊥) → d' ≡ d → Sided d'
-    at_other n m e = record { two = λ z. n (same_kind k Unit (kind_is ∙ z)); is = e ∙ straight_on d m p.first kind_is }
+    both_sides : true ≡ eqb (sides (kind_number k)) 2 → sides (kind_of p.first) ≡ 2
+    both_sides e = ap sides (sym kind_is) ∙ eqb-true _ _ (sym e)
+
+    pub at_function : true ≡ eqb (sides (kind_number k)) 2 → {d' : Direction} → k ≡ Function → d' ≡ opposite d → Sided d'
+    at_function e f g = record { two = both_sides e; is = g ∙ turned_round d f p.first kind_is }
+
+    pub at_other : true ≡ eqb (sides (kind_number k)) 2 → {d' : Direction} → (k ≡ Function → ⊥) → d' ≡ d → Sided d'
+    at_other e n g = record { two = both_sides e; is = g ∙ straight_on d n p.first kind_is }
 
   -- the types are of one kind, and their common first record is written
   pub record First (w₁ : Bytes) : Type 0 where
@@ -81,7 +86,7 @@ module _ (S : Security) (d : Direction) {w : Bytes} {at other : ℕ} (p : TwoTyp
   -- and their left sides are walked
   pub record Lefts (w₁ : Bytes) (x : Option ℕ) (w₂ : Bytes) : Type 0 where
     pub firsts : First w₁
-    pub two : kind_of p.first ≡ 0 → ⊥
+    pub two : sides (kind_of p.first) ≡ 2
     pub walked : Walked left_common (left_of p.first) (at + 1) w₁ x w₂
 
 abbrev pub firsts : {w : Bytes} {at other : ℕ} (p : TwoTypes w at other) (S : Security) (d : Direction) {w₁ : Bytes}
@@ -101,13 +106,13 @@ walked_lefts {S = S} {at = at} {p = p} {w₁ = w₁} f s {x} {w₂} l = record {
 }
 
 module _ {S : Security} {d : Direction} {w : Bytes} {at other : ℕ} {p : TwoTypes w at other} {w₁ : Bytes} (f : First S d p w₁) where
-  pub at_units : kind_of p.first ≡ 0 → Result S d p (Some 1) w₁
-  unfolding size_t encode_type
-  at_units z =
-      found {u = one (own S d p)} (of_units S d p.first p.second z f.same) refl (type_positive p.first)
-      (f.wrote ∙ ap (λ k. splice (type_width * at) (type_record k (own S d p)) w) z)
+  pub at_leaves : (sides (kind_of p.first) ≡ 2 → ⊥) → Result S d p (Some 1) w₁
+  at_leaves n =
+      let r = remade_leaf p.first (own S d p) p.first p.second n in
+      found (of_leaves S d p.first p.second n f.same) r.0 (omega (arith, r.0, type_positive p.first))
+      (f.wrote ∙ ap (λ (b : Bytes). splice (type_width * at) b w) r.1)
 
-  module _ (two : kind_of p.first ≡ 0 → ⊥) where
+  module _ (two : sides (kind_of p.first) ≡ 2) where
     past_first : (k : ℕ) → type_width * (at + 1) ≤ k → drop k w₁ ≡ drop k w
     past_first k l =
         ap (drop k) f.wrote
@@ -119,7 +124,7 @@ module _ {S : Security} {d : Direction} {w : Bytes} {at other : ℕ} {p : TwoTyp
     pub second_left : At w₁ (other + 1) (left_of p.second)
     second_left =
         at_same (past_first (type_width * (other + 1)) (omega (arith, p.past)))
-        (left_at p.second_at (λ e. two (f.same ∙ e)))
+        (left_at p.second_at (ap sides (sym f.same) ∙ two))
 
     pub left_past : at + 1 + size_t (left_of p.first) ≤ other + 1
     left_past = omega (arith, p.past, sides_size p.first two)
@@ -182,7 +187,7 @@ module _ {S : Security} {d : Direction} {w : Bytes} {at other : ℕ} {p : TwoTyp
     pub second_right : At w₂ (other + 1 + n) (right_of p.second)
     second_right =
         at_same (past_front (type_width * (other + 1 + n)) (omega (arith, p.past)))
-        (right_at p.second_at (λ z. l.two (l.firsts.same ∙ z)) n count.1)
+        (right_at p.second_at (ap sides (sym l.firsts.same) ∙ l.two) n count.1)
 
     pub right_past : at + 1 + n + size_t (right_of p.first) ≤ other + 1 + n
     right_past = omega (arith, p.past, sizes)

@@ -86,8 +86,10 @@ pub fn common(
     }
     let kind = types::kind_of(type_at(w, at));
     bound_first(groups, direction, w, at, other);
+    if !kind.has_sides() {
+        return Some(1);
+    }
     let leftward = match kind {
-        Kind::Unit => return Some(1),
         Kind::Function => direction.opposite(),
         _ => direction,
     };

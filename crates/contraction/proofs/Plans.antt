@@ -5,19 +5,25 @@ use Rattle.std.proofs.lemmas.Bool.{false≢true}
 use Rattle.std.proofs.Common.{subst as transport}
 use Rattle.calculus.specs.Security.{Property, Reader, Indirect, Security}
 use Rattle.calculus.specs.Types.{Ty, top}
-use Rattle.calculus.specs.Terms.{first, second, Term, var, unit, lam, pair, inj, app, proj, case, protect, mu, is_value, subst, raise_value}
+use Rattle.calculus.specs.Terms.{first, second, Operation, plus, less, Term, var, unit, lam, pair, inj, app, proj, case, protect, mu, literal, reckon, is_value, subst, raise_value}
+use Rattle.calculus.specs.Numbers.{Literal, literal_of, of_both, side, reckoned}
 use Rattle.calculus.specs.Reduction.{unrolled}
 use Rattle.rules.specs.Answer.{Bytes}
 use Rattle.rules.specs.Limits.{script_width, script_limit}
 use Rattle.rules.specs.Groups.{properties_of}
 use Rattle.rules.specs.Types.{type_at}
-use Rattle.rules.specs.Script.{records, number, object_record, encode, size, depth}
+use Rattle.rules.specs.Script.{records, kind, number, object_record, encode, size, depth}
 use Rattle.rules.proofs.Prefix.{joined}
 use Rattle.rules.proofs.TermCode.{term_head, term_head_length, term_operands, term_encode_is, two_bytes}
 use Rattle.records.specs.Kinds as kinds
 use Rattle.records.specs.Place.{At}
 use Rattle.records.specs.Operands.{first_operand}
-use Rattle.records.proofs.Stands.{kind_of, operands, there, at_first}
+use Rattle.records.proofs.Stands.{kind_of, operands, there, stands_kind, at_first, at_second}
+use Rattle.records.proofs.Numbered.{same_kind}
+use Rattle.records.specs.Numbers.{kind_number}
+use Rattle.records.specs.declared.Kind.{Kind}
+use Rattle.records.specs.declared.Kind.TheVariants.{Sum}
+use Rattle.redex.proofs.Stages.{kind_read}
 use Rattle.redex.specs.Fates.{only_reader, property_of, is_function, goes, wrong_kind, fate, contractum}
 use Rattle.records.proofs.Made.{number_of, number_at, influence_of}
 use Rattle.types.specs.Held.{type_property}
@@ -27,9 +33,9 @@ use Rattle.memory.specs.declared.Writer.{Writer}
 use Rattle.memory.proofs.Placed.{then, room_first, room_next}
 use Rattle.substitution.specs.Substituted.{value_limit}
 use Rattle.substitution.proofs.Nodes.{subst_bound}
-use Rattle.contraction.specs.declared.Plan.TheVariants.{Part, Body, Raised, Unrolled}
+use Rattle.contraction.specs.declared.Plan.TheVariants.{Part, Body, Raised, Unrolled, Reckoned}
 use Rattle.substitution.specs.declared.Size.{Size}
-use Rattle.contraction.specs.Plans.{Planned, applied, projected, branched, lifted, unrolled_one, protect_record, Measures}
+use Rattle.contraction.specs.Plans.{Planned, applied, projected, branched, lifted, unrolled_one, reckoned_one, protect_record, Measures, Literals, Sides, side_of, flag}
 
 -- what the protection of a destructor's contractum is
 abbrev pub protection_of : Security → Term → Indirect
@@ -129,6 +135,33 @@ pub record RollPlan (e : Term) : Type 0 where
 pub roll_plan : {s : Bytes} {e : Term} → Planned s e Unrolled → RollPlan e
 roll_plan (unrolled_one {w = w} {i = i} {b = b}) = record { label = w; type = i; body = b; is = refl }
 
+pub record ReckonPlan (e : Term) : Type 0 where
+  pub operation : Operation
+  pub label : Reader
+  pub left : Literal
+  pub right : Literal
+  pub is : e ≡ reckon operation label (literal left.own left.value) (literal right.own right.value)
+
+pub reckon_plan : {s : Bytes} {e : Term} → Planned s e Reckoned → ReckonPlan e
+reckon_plan (reckoned_one {o = o} {w = w} {k = k} {l = l} {m = m} {n = n}) =
+    record { operation = o; label = w; left = record { own = k; value = m }; right = record { own = l; value = n }; is = refl }
+
+pub reckon_is : (S : Security) (tab : ℕ → Ty) (o : Operation) (w : Reader) (x y : Literal)
+    → contractum S tab (reckon o w (literal x.own x.value) (literal y.own y.value)) ≡ reckoned tab o (of_both S w x.own y.own) x.value y.value
+unfolding contractum literal_of
+reckon_is S tab o w x y = refl
+
+-- the records of what is reckoned, each within the one before
+abbrev pub reckoned_records : Operation → ℕ
+reckoned_records plus = 1
+reckoned_records (less i) = 2
+
+pub reckoned_size : (tab : ℕ → Ty) (o : Operation) (k : Property) (m n : ℕ)
+    → (size (reckoned tab o k m n) ≡ reckoned_records o) × (depth (reckoned tab o k m n) ≡ reckoned_records o)
+unfolding size depth reckoned
+reckoned_size tab plus k m n = (refl, refl)
+reckoned_size tab (less i) k m n = (refl, refl)
+
 -- Raising changes neither the records nor the depth.
 pub raise_size : (S : Security) (v : Term) (m : Indirect) → (size (raise_value S v m) ≡ size v) × (depth (raise_value S v m) ≡ depth v)
 unfolding size depth raise_value
@@ -142,6 +175,8 @@ raise_size S (proj d w e) m = (refl, refl)
 raise_size S (case w i e a b) m = (refl, refl)
 raise_size S (protect n e) m = (refl, refl)
 raise_size S (mu w i e) m = (refl, refl)
+raise_size S (literal k n) m = (refl, refl)
+raise_size S (reckon o w a b) m = (refl, refl)
 
 pub unrolled_size : (S : Security) (w : Reader) (i : ℕ) (k : Property) (b : Term)
     → (size (unrolled S w i k b) ≡ size (mu w i b) + 3) × (depth (unrolled S w i k b) ≡ depth (mu w i b) + 2)
@@ -185,6 +220,8 @@ raised_bytes S (proj d w e) m h = absurd (false≢true h)
 raised_bytes S (case w i e a b) m h = absurd (false≢true h)
 raised_bytes S (protect n e) m h = absurd (false≢true h)
 raised_bytes S (mu w i e) m h = absurd (false≢true h)
+raised_bytes S (literal k n) m h = rw (two_bytes n) (sym (term_encode_is (literal _ n)))
+raised_bytes S (reckon o w a b) m h = absurd (false≢true h)
 
 -- as the code puts it together
 pub raised_from : (S : Security) (v : Term) (m : Indirect) → So (is_value v) → {k n : ℕ} {p : Property} {own bytes : Bytes} → own ≡ object_record k p n → k ≡ kind_of v
@@ -246,3 +283,57 @@ recursion_number {i = i} a = number_at a ∙ two_bytes i
 pub unroll_is : (S : Security) (tab : ℕ → Ty) (w : Reader) (i : ℕ) (b : Term) → contractum S tab (mu w i b) ≡ subst 0 (unrolled S w i (top (tab i)) b) b
 unfolding contractum
 unroll_is S tab w i b = refl
+
+-- what is reckoned, counted
+pub reckon_counted : (S : Security) (tab : ℕ → Ty) (o : Operation) (w : Reader) (x y : Literal) {m : Size}
+    → (m.records ≡ reckoned_records o) × (m.depth ≡ reckoned_records o) → Measures (contractum S tab (reckon o w (literal x.own x.value) (literal y.own y.value))) m
+reckon_counted S tab o w x y {m} h =
+    let z = reckoned_size tab o (of_both S w x.own y.own) x.value y.value in
+    counted {m = m} (reckon_is S tab o w x y) (record { records = h.0 ∙ sym z.0; deep = h.1 ∙ sym z.1 })
+
+-- the operation of a node, by the kind of its record
+module _ {s : Bytes} {at : ℕ} {o : Operation} {w : Reader} {a b : Term} (stands : At s at (reckon o w a b)) {k : Kind} (kind_is : kind_number k ≡ kind s at) where
+  pub is_plus : k ≡ Sum → o ≡ plus
+  is_plus h = of_sum o (kind_read kind_is stands h)
+    where
+      of_sum : (o : Operation) → kind_of (reckon o w a b) ≡ kinds.sum → o ≡ plus
+      of_sum plus h = refl
+      of_sum (less i) h = absurd (omega arith)
+
+  pub is_less : (k ≡ Sum → ⊥) → (i : ℕ) × (o ≡ less i)
+  is_less h = of_less o (λ z. h (same_kind k Sum (kind_is ∙ stands_kind s at _ stands ∙ z)))
+    where
+      of_less : (o : Operation) → (kind_of (reckon o w a b) ≡ kinds.sum → ⊥) → (i : ℕ) × (o ≡ less i)
+      of_less plus h = absurd (h refl)
+      of_less (less i) h = (i, refl)
+
+-- the two literals stand one after the other
+module _ {s : Bytes} {at : ℕ} (q : Literals s at) where
+  pub left_at : At s (at + 1) (literal q.left.own q.left.value)
+  left_at = at_first s at _ q.stands (omega arith)
+
+  pub right_at : At s (at + 2) (literal q.right.own q.right.value)
+  unfolding size
+  right_at = at_second s at _ q.stands (at + 2) (omega arith) (omega arith)
+
+  pub left_number : number s (at + 1) ≡ q.left.value
+  left_number = number_at left_at ∙ two_bytes q.left.value
+
+  pub right_number : number s (at + 2) ≡ q.right.value
+  right_number = number_at right_at ∙ two_bytes q.right.value
+
+  -- the type that a comparison names
+  pub flag_number : {i : ℕ} → q.operation ≡ less i → number s at ≡ i
+  flag_number {i} h = number_at q.stands ∙ ap (λ o. number_of (reckon o q.label (literal q.left.own q.left.value) (literal q.right.own q.right.value))) h ∙ two_bytes i
+
+-- the unit of a side of a sum of two units
+pub side_groups : {t : Bytes} {i : ℕ} → Sides t i → (is_less : Bool) {n : ℕ} → n ≡ cond is_less (i + 1) (i + 2) → type_property t n ≡ top (side (side_of is_less) (type_at t i))
+side_groups {t} q true h = ap (type_property t) h ∙ q.left
+side_groups {t} q false h = ap (type_property t) h ∙ q.right
+
+pub flag_bytes : (tab : ℕ → Ty) (i : ℕ) (k : Property) (is_less : Bool)
+    → object_record (cond is_less kinds.first_injection kinds.second_injection) k i ++ object_record kinds.unit (top (side (side_of is_less) (tab i))) 0
+    ≡ encode (flag tab i k is_less)
+unfolding encode
+flag_bytes tab i k true = refl
+flag_bytes tab i k false = refl

@@ -1,24 +1,26 @@
 -- A node whose turn it is and that goes is a left side of table 1, and what its plan is by the kinds of its records.
-use Rattle.std.proofs.Common.{◌≡◌, refl, sym, subst, ◌∙◌, inr, Bool, true, false, ℕ, ◌+◌, ◌≤◌, arith, eqb}
+use Rattle.std.proofs.Common.{◌≡◌, refl, sym, subst, ◌∙◌, inr, Bool, true, false, ◌&&◌, ℕ, ◌+◌, ◌≤◌, arith, eqb}
 use Rattle.std.proofs.Math.Bool.{So}
 use Rattle.std.proofs.lemmas.Bool.{false≢true}
 use borrow.Author.Tests.{eqb-true}
 use Rattle.calculus.specs.Security.{Reader, Security}
-use Rattle.calculus.specs.Types.{sum, product, function, Ty}
-use Rattle.calculus.specs.Terms.{Side, first, second, Term, var, unit, lam, pair, inj, app, proj, case, protect, mu}
+use Rattle.calculus.specs.Types.{sum, product, function, Ty, exists}
+use Rattle.calculus.specs.Terms.{Side, first, second, Operation, plus, less, Term, var, unit, lam, pair, inj, app, proj, case, protect, mu, literal, reckon}
+use Rattle.calculus.specs.Numbers.{literal_of}
+use Rattle.calculus.proofs.Booleans.{and_left, and_right}
 use Rattle.calculus.specs.Stuck.{built_by}
 use Rattle.rules.specs.Answer.{Bytes}
 use Rattle.rules.specs.Script.{size}
 use Rattle.records.specs.Kinds as kinds
 use Rattle.records.specs.Place.{At}
 use Rattle.records.specs.Operands.{first_operand, second_operand}
-use Rattle.records.proofs.Made.{by_kind}
+use Rattle.records.proofs.Made.{form, by_kind}
 use Rattle.records.proofs.Stands.{kind_of, operands, at_first, at_second, at_third}
 use Rattle.redex.specs.Fates.{property_of, goes, reading_fate, ready, fate}
-use Rattle.redex.specs.Found.{is_destructor}
-use Rattle.redex.proofs.Forms.{built_is, one_reads}
-use Rattle.contraction.specs.declared.Plan.TheVariants.{Part, Body, Raised, Unrolled}
-use Rattle.contraction.specs.Plans.{Left, applies, projects, branches, lifts, unrolls, Planned, applied, projected, branched, lifted, unrolled_one}
+use Rattle.redex.specs.Found.{is_destructor, is_reckoning}
+use Rattle.redex.proofs.Forms.{built_is, literal_is, one_reads}
+use Rattle.contraction.specs.declared.Plan.TheVariants.{Part, Body, Raised, Unrolled, Reckoned}
+use Rattle.contraction.specs.Plans.{Left, applies, projects, branches, lifts, unrolls, reckons, Planned, applied, projected, branched, lifted, unrolled_one, reckoned_one}
 
 fits_it : (fits may : Bool) → reading_fate fits may ≡ goes → So fits
 fits_it true may h = refl
@@ -37,6 +39,13 @@ choice w j e a b h = by (eqb (kind_of e) kinds.first_injection) refl
     by true k = by_kind (λ x. Left (case w j x a b)) kinds.first_injection e (eqb-true _ _ k) (branches first)
     by false k = by_kind (λ x. Left (case w j x a b)) kinds.second_injection e (eqb-true _ _ (rw k at (sym (built_is e).2 ∙ h))) (branches second)
 
+reckoning : (o : Operation) (w : Reader) (a b : Term) → So (exists (literal_of a) && exists (literal_of b)) → Left (reckon o w a b)
+reckoning o w a b h =
+    let left = eqb-true _ _ (sym (literal_is a) ∙ and_left _ _ h) in
+    let right = eqb-true _ _ (sym (literal_is b) ∙ and_right (exists (literal_of a)) _ h) in
+    by_kind (λ x. Left (reckon o w x b)) kinds.literal a left
+    (by_kind (λ y. Left (reckon o w (form kinds.literal a) y)) kinds.literal b right (reckons o))
+
 pub left_side : (S : Security) (tab : ℕ → Ty) (e : Term) → So (ready e) → fate S tab e ≡ goes → Left e
 unfolding ready fate
 left_side S tab (var n) h g = let z : ◌≡◌ {A = ℕ} 0 1 = cc in absurd (omega arith)
@@ -49,6 +58,9 @@ left_side S tab (proj d w e) h g = projection d w e (fits_it (built_by product e
 left_side S tab (case w i e a b) h g = choice w i e a b (fits_it (built_by sum e) (S.permits (property_of e) w) g)
 left_side S tab (protect m e) h g = lifts h
 left_side S tab (mu w i e) h g = unrolls
+left_side S tab (literal k n) h g = absurd (false≢true h)
+left_side S tab (reckon o w a b) h g =
+    reckoning o w a b (fits_it (exists (literal_of a) && exists (literal_of b)) (S.permits (property_of a) w && S.permits (property_of b) w) g)
 
 -- what a destructor takes apart has an operand,
 destructs : {e : Term} → Left e → So (is_destructor (kind_of e)) → (1 ≤ operands e) × (1 ≤ operands (first_operand e))
@@ -58,6 +70,8 @@ destructs (projects d) h = (omega arith, omega arith)
 destructs (branches d) h = (omega arith, omega arith)
 destructs (lifts v) h = absurd (false≢true h)
 destructs unrolls h = absurd (false≢true h)
+destructs (reckons plus) h = absurd (false≢true h)
+destructs (reckons (less i)) h = absurd (false≢true h)
 
 -- which stands two records on
 pub record Taken (s : Bytes) (at : ℕ) (e : Term) : Type 0 where
@@ -81,6 +95,8 @@ module _ (s : Bytes) (at : ℕ) where
   plan_unrolled (branches d) h = absurd (omega arith)
   plan_unrolled (lifts v) h = absurd (omega arith)
   plan_unrolled unrolls h = unrolled_one
+  plan_unrolled (reckons plus) h = absurd (omega arith)
+  plan_unrolled (reckons (less i)) h = absurd (omega arith)
 
   pub plan_raised : {e : Term} → Left e → kind_of e ≡ kinds.protect → Planned s e Raised
   plan_raised applies h = absurd (omega arith)
@@ -89,6 +105,17 @@ module _ (s : Bytes) (at : ℕ) where
   plan_raised (branches d) h = absurd (omega arith)
   plan_raised (lifts v) h = lifted v
   plan_raised unrolls h = absurd (omega arith)
+  plan_raised (reckons plus) h = absurd (omega arith)
+  plan_raised (reckons (less i)) h = absurd (omega arith)
+
+  pub plan_reckoned : {e : Term} → Left e → So (is_reckoning (kind_of e)) → Planned s e Reckoned
+  plan_reckoned applies h = absurd (false≢true h)
+  plan_reckoned (projects first) h = absurd (false≢true h)
+  plan_reckoned (projects second) h = absurd (false≢true h)
+  plan_reckoned (branches d) h = absurd (false≢true h)
+  plan_reckoned (lifts v) h = absurd (false≢true h)
+  plan_reckoned unrolls h = absurd (false≢true h)
+  plan_reckoned (reckons o) h = reckoned_one
 
   pub plan_first : {e : Term} → Left e → kind_of e ≡ kinds.first_projection → At s (at + 2) (first_operand (first_operand e)) → Planned s e (Part (at + 2))
   plan_first applies h x = absurd (omega arith)
@@ -97,6 +124,8 @@ module _ (s : Bytes) (at : ℕ) where
   plan_first (branches d) h x = absurd (omega arith)
   plan_first (lifts v) h x = absurd (omega arith)
   plan_first unrolls h x = absurd (omega arith)
+  plan_first (reckons plus) h x = absurd (omega arith)
+  plan_first (reckons (less i)) h x = absurd (omega arith)
 
   -- `next` is the record after the first inner operand
   pub plan_second : {e : Term} (next : ℕ) → Left e → kind_of e ≡ kinds.second_projection → At s (at + 1) (first_operand e) → next ≡ at + 2 + size (first_operand (first_operand e)) → Planned s e (Part next)
@@ -106,6 +135,8 @@ module _ (s : Bytes) (at : ℕ) where
   plan_second next (branches d) h y p = absurd (omega arith)
   plan_second next (lifts v) h y p = absurd (omega arith)
   plan_second next unrolls h y p = absurd (omega arith)
+  plan_second next (reckons plus) h y p = absurd (omega arith)
+  plan_second next (reckons (less i)) h y p = absurd (omega arith)
 
   pub plan_applied : {e : Term} (next : ℕ) → Left e → kind_of e ≡ kinds.application → At s at e → At s (at + 2) (first_operand (first_operand e)) → next ≡ at + 2 + size (first_operand (first_operand e))
       → Planned s e (Body (at + 2) next)
@@ -116,6 +147,8 @@ module _ (s : Bytes) (at : ℕ) where
   plan_applied next (branches d) h a x p = absurd (omega arith)
   plan_applied next (lifts v) h a x p = absurd (omega arith)
   plan_applied next unrolls h a x p = absurd (omega arith)
+  plan_applied next (reckons plus) h a x p = absurd (omega arith)
+  plan_applied next (reckons (less i)) h a x p = absurd (omega arith)
 
   -- a case: its first branch stands at `next`
   pub record Cased (e : Term) (next : ℕ) : Type 0 where
@@ -141,13 +174,17 @@ module _ (s : Bytes) (at : ℕ) where
       }
   cased next (lifts v) h a p = absurd (omega arith)
   cased next unrolls h a p = absurd (omega arith)
+  cased next (reckons plus) h a p = absurd (omega arith)
+  cased next (reckons (less i)) h a p = absurd (omega arith)
 
 -- the left sides that are left
 pub only_case : {e : Term} → Left e → (kind_of e ≡ kinds.recursion → ⊥) → (kind_of e ≡ kinds.protect → ⊥) → (kind_of e ≡ kinds.first_projection → ⊥)
-    → (kind_of e ≡ kinds.second_projection → ⊥) → (kind_of e ≡ kinds.application → ⊥) → kind_of e ≡ kinds.case
-only_case applies r p f g a = absurd (a refl)
-only_case (projects first) r p f g a = absurd (f refl)
-only_case (projects second) r p f g a = absurd (g refl)
-only_case (branches d) r p f g a = refl
-only_case (lifts v) r p f g a = absurd (p refl)
-only_case unrolls r p f g a = absurd (r refl)
+    → (kind_of e ≡ kinds.second_projection → ⊥) → (kind_of e ≡ kinds.application → ⊥) → (kind_of e ≡ kinds.sum → ⊥) → (kind_of e ≡ kinds.less → ⊥) → kind_of e ≡ kinds.case
+only_case applies r p f g a s l = absurd (a refl)
+only_case (projects first) r p f g a s l = absurd (f refl)
+only_case (projects second) r p f g a s l = absurd (g refl)
+only_case (branches d) r p f g a s l = refl
+only_case (lifts v) r p f g a s l = absurd (p refl)
+only_case unrolls r p f g a s l = absurd (r refl)
+only_case (reckons plus) r p f g a s l = absurd (s refl)
+only_case (reckons (less i)) r p f g a s l = absurd (l refl)

@@ -3,7 +3,8 @@ use Rattle.std.proofs.Common.{◌≡◌, sym, ap, ap₂, ◌∙◌, ℕ, ◌+◌
 use Rattle.std.proofs.Common.{subst as transport}
 use Rattle.calculus.specs.Security.{Security}
 use Rattle.calculus.specs.Types.{Ty, top}
-use Rattle.calculus.specs.Terms.{Term, protect, subst, raise_value}
+use Rattle.calculus.specs.Terms.{Operation, plus, less, Term, protect, literal, reckon, subst, raise_value}
+use Rattle.calculus.specs.Numbers.{of_both}
 use Rattle.calculus.specs.Reduction.{unrolled}
 use Rattle.rules.specs.Answer.{Bytes}
 use Rattle.rules.specs.Groups.{properties_of}
@@ -18,15 +19,15 @@ use Rattle.redex.proofs.Places.{groups_at, reader_at}
 use Rattle.memory.specs.Written.{Room}
 use Rattle.memory.specs.declared.Writer.{Writer}
 use Rattle.contraction.specs.declared.Plan.{Plan}
-use Rattle.contraction.specs.declared.Plan.TheVariants.{Part, Body, Raised, Unrolled}
-use Rattle.contraction.specs.Plans.{Planned, Ready, Fit, protection, PartRoom, BodyRoom, RaisedRoom, UnrolledRoom}
-use Rattle.contraction.proofs.Plans.{PartPlan, part_plan, BodyPlan, body_plan, LiftPlan, lift_plan, RollPlan, roll_plan, raise_size, protect_size, body_size, unrolled_size, few, operand_there, contractum_limit, goes_function, unroll_is, protection_of}
+use Rattle.contraction.specs.declared.Plan.TheVariants.{Part, Body, Raised, Unrolled, Reckoned}
+use Rattle.contraction.specs.Plans.{Planned, Ready, Fit, protection, PartRoom, BodyRoom, RaisedRoom, UnrolledRoom, Literals, reckoning, ReckonedRoom}
+use Rattle.contraction.proofs.Plans.{PartPlan, part_plan, BodyPlan, body_plan, LiftPlan, lift_plan, RollPlan, roll_plan, ReckonPlan, reckon_plan, reckon_is, reckoned_records, reckoned_size, raise_size, protect_size, body_size, unrolled_size, few, operand_there, contractum_limit, goes_function, unroll_is, protection_of}
 
 pub planned_as : {s : Bytes} {e : Term} {p p' : Plan} → p ≡ p' → Planned s e p → Planned s e p'
 planned_as {s} {e} h q = transport (λ (x : Plan). Planned s e x) h q
 
 -- room for a term is room for one equal to it
-abbrev room_for : (out : Writer) {e f : Term} → e ≡ f → Room (encode e) out → Room (encode f) out
+abbrev pub room_for : (out : Writer) {e f : Term} → e ≡ f → Room (encode e) out → Room (encode f) out
 room_for out h r = transport (λ (x : Term). Room (encode x) out) h r
 
 module _ {g t s : Bytes} {at : ℕ} {p : Plan} {out : Writer} (q : Fit g t s at p out) where
@@ -109,6 +110,35 @@ module _ {g t s : Bytes} {at : ℕ} {p : Plan} {out : Writer} (q : Fit g t s at 
     room = room_for out (unrolled_is h) q.room;
   }
 
+  abbrev reckon_of : p ≡ Reckoned → ReckonPlan q.ready.tree
+  reckon_of h = reckon_plan (planned_as h q.ready.planned)
+
+  abbrev pub literals : p ≡ Reckoned → Literals s at
+  literals h = record {
+    operation = (reckon_of h).operation;
+    label = (reckon_of h).label;
+    left = (reckon_of h).left;
+    right = (reckon_of h).right;
+    stands = transport (λ (x : Term). At s at x) (reckon_of h).is q.ready.stands;
+  }
+
+  abbrev pub reckoned_is : (h : p ≡ Reckoned) → contractum S tab e ≡ reckoning g t (literals h)
+  reckoned_is h =
+      ap (contractum S tab) (reckon_of h).is ∙ reckon_is S tab (reckon_of h).operation (reckon_of h).label (reckon_of h).left (reckon_of h).right
+
+  abbrev pub reckoned_room : p ≡ Reckoned → ReckonedRoom g t s at out
+  reckoned_room h = record {
+    literals = literals h;
+    sides = λ i o. q.sides i
+        ((reckon_of h).is
+        ∙ ap (λ o. reckon o (reckon_of h).label (literal (reckon_of h).left.own (reckon_of h).left.value) (literal (reckon_of h).right.own (reckon_of h).right.value)) o);
+    room = room_for out (reckoned_is h) q.room;
+  }
+
+reckoned_few : (o : Operation) → reckoned_records o ≤ 2
+reckoned_few plus = omega arith
+reckoned_few (less i) = omega arith
+
 -- No plan makes more records than can be counted.
 pub contractum_few : (S : Security) (tab : ℕ → Ty) {s : Bytes} {at : ℕ} (p : Plan) (q : Ready s at p) → size (contractum S tab q.tree) ≤ contractum_limit + 1
 contractum_few S tab (Part x) q =
@@ -134,4 +164,12 @@ contractum_few S tab Unrolled q =
       few (unrolled S z.label z.type k z.body) z.body
           (omega (arith, (unrolled_size S z.label z.type k z.body).0, ap size z.is, q.small))
           (omega (arith, (body_size z.label z.type z.body).0, ap size z.is, q.small)),
+    )
+contractum_few S tab Reckoned q =
+    let z = reckon_plan q.planned in
+    omega (
+      arith,
+      ap size (ap (contractum S tab) z.is ∙ reckon_is S tab z.operation z.label z.left z.right),
+      (reckoned_size tab z.operation (of_both S z.label z.left.own z.right.own) z.left.value z.right.value).0,
+      reckoned_few z.operation,
     )

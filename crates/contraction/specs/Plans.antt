@@ -1,9 +1,10 @@
 -- How a redex's contractum is made from parts of its script, and what counting and writing it are given.
-use Rattle.std.specs.Prelude.{◌≡◌, ℕ, ◌+◌, ◌≤◌, ◌<◌}
+use Rattle.std.specs.Prelude.{◌≡◌, Bool, cond, ℕ, ◌+◌, ◌≤◌, ◌<◌}
 use Rattle.std.proofs.Math.Bool.{So}
 use Rattle.calculus.specs.Security.{Property, Reader, Indirect}
-use Rattle.calculus.specs.Types.{top}
-use Rattle.calculus.specs.Terms.{Side, choose, Term, lam, pair, inj, app, proj, case, protect, mu, is_value, subst, raise_value}
+use Rattle.calculus.specs.Types.{Ty, top}
+use Rattle.calculus.specs.Terms.{Side, first, second, choose, Operation, less, Term, unit, lam, pair, inj, app, proj, case, protect, mu, literal, reckon, is_value, subst, raise_value}
+use Rattle.calculus.specs.Numbers.{Literal, of_both, side, reckoned}
 use Rattle.calculus.specs.Reduction.{unrolled}
 use Rattle.rules.specs.Answer.{Bytes}
 use Rattle.rules.specs.Limits.{script_limit, depth_limit, table_limit}
@@ -13,11 +14,12 @@ use Rattle.rules.specs.Script.{records as record_count, kind, r, full_record, en
 use Rattle.records.specs.Kinds as kinds
 use Rattle.records.specs.Place.{At}
 use Rattle.records.specs.Labels.{property_at, influence_at}
+use Rattle.types.specs.Held.{type_property}
 use Rattle.redex.specs.Fates.{is_function, goes, fate, contractum}
 use Rattle.memory.specs.Written.{Room}
 use Rattle.memory.specs.declared.Writer.{Writer}
 use Rattle.contraction.specs.declared.Plan.{Plan}
-use Rattle.contraction.specs.declared.Plan.TheVariants.{Part, Body, Raised, Unrolled}
+use Rattle.contraction.specs.declared.Plan.TheVariants.{Part, Body, Raised, Unrolled, Reckoned}
 use Rattle.substitution.specs.declared.Size.{Size}
 
 -- the left sides of table 1, apart from who may read
@@ -27,6 +29,7 @@ pub data Left : Term → Type 0 where
   branches : (d : Side) {w : Reader} {j : ℕ} {k : Property} {i : ℕ} {v a b : Term} → Left (case w j (inj d k i v) a b)
   lifts : {m : Indirect} {v : Term} → So (is_value v) → Left (protect m v)
   unrolls : {w : Reader} {i : ℕ} {b : Term} → Left (mu w i b)
+  reckons : (o : Operation) {w : Reader} {k l : Property} {m n : ℕ} → Left (reckon o w (literal k m) (literal l n))
 
 -- a left side stands at record `at`
 pub record Fires (s : Bytes) (at : ℕ) : Type 0 where
@@ -49,6 +52,7 @@ pub data Planned (s : Bytes) : Term → Plan → Type 0 where
       → Planned s (case w j (inj d k i v) a b) (Body x y)
   lifted : {m : Indirect} {v : Term} → So (is_value v) → Planned s (protect m v) Raised
   unrolled_one : {w : Reader} {i : ℕ} {b : Term} → Planned s (mu w i b) Unrolled
+  reckoned_one : {o : Operation} {w : Reader} {k l : Property} {m n : ℕ} → Planned s (reckon o w (literal k m) (literal l n)) Reckoned
 
 -- a redex with its plan stands at record `at`, within the limits
 pub record Ready (s : Bytes) (at : ℕ) (p : Plan) : Type 0 where
@@ -90,7 +94,34 @@ pub record Recursive (s : Bytes) (at : ℕ) : Type 0 where
   pub small : size (mu label type body) ≤ script_limit
   pub shallow : depth (mu label type body) ≤ depth_limit
 
--- Room for a protected part, for a protected body with a value put in, for a raised value, for an unrolled recursion. A destructor
+-- a sum or a comparison of two literals stands at record `at`
+pub record Literals (s : Bytes) (at : ℕ) : Type 0 where
+  pub operation : Operation
+  pub label : Reader
+  pub left : Literal
+  pub right : Literal
+  pub stands : At s at (reckon operation label (literal left.own left.value) (literal right.own right.value))
+
+-- what is reckoned of them
+abbrev pub reckoning : Bytes → Bytes → {s : Bytes} {at : ℕ} → Literals s at → Term
+reckoning g t q =
+    reckoned (type_at t) q.operation (of_both (properties_of g) q.label q.left.own q.right.own) q.left.value q.right.value
+
+-- Type i has its left side at the next record and its right side at the one after, as a sum of two units has.
+pub record Sides (t : Bytes) (i : ℕ) : Type 0 where
+  pub inside : i + 2 < type_count t
+  pub left : type_property t (i + 1) ≡ top (side first (type_at t i))
+  pub right : type_property t (i + 2) ≡ top (side second (type_at t i))
+
+-- The side that says whether the left number is less, and the unit in an injection of that side.
+abbrev pub side_of : Bool → Side
+side_of is_less = cond is_less first second
+
+abbrev pub flag : (ℕ → Ty) → ℕ → Property → Bool → Term
+flag tab i k is_less = inj (side_of is_less) k i (unit (top (side (side_of is_less) (tab i))))
+
+-- Room for a protected part, for a protected body with a value put in, for a raised value, for an unrolled recursion, for what says
+-- whether a number is less, and for what is reckoned. A destructor
 -- at record `at` has an operand, and so a record after its own.
 pub record PartRoom (g s : Bytes) (at x : ℕ) (out : Writer) : Type 0 where
   pub part : Term
@@ -125,9 +156,19 @@ pub record UnrolledRoom (t s : Bytes) (at : ℕ) (out : Writer) : Type 0 where
   pub groups : Bytes
   pub room : Room (encode (subst 0 (unrolled (properties_of groups) label type (top (type_at t type)) body) body)) out
 
+pub record FlagRoom (t : Bytes) (i : ℕ) (k : Property) (is_less : Bool) (out : Writer) : Type 0 where
+  pub sides : Sides t i
+  pub room : Room (encode (flag (type_at t) i k is_less)) out
+
+pub record ReckonedRoom (g t s : Bytes) (at : ℕ) (out : Writer) : Type 0 where
+  pub literals : Literals s at
+  pub sides : (i : ℕ) → literals.operation ≡ less i → Sides t i
+  pub room : Room (encode (reckoning g t literals)) out
+
 -- a redex with its plan stands at record `at`, and there is room for its contractum
 pub record Fit (g t s : Bytes) (at : ℕ) (p : Plan) (out : Writer) : Type 0 where
   pub ready : Ready s at p
   pub contracts : fate (properties_of g) (type_at t) ready.tree ≡ goes
   pub table : type_count t ≤ table_limit
+  pub sides : (i : ℕ) {w : Reader} {a b : Term} → ready.tree ≡ reckon (less i) w a b → Sides t i
   pub room : Room (encode (contractum (properties_of g) (type_at t) ready.tree)) out

@@ -2,21 +2,23 @@
 
 #![tactic(auto)]
 
-ghost use Rattle.std.specs.Prelude.{◌≡◌, ℕ, ◌+◌, ◌^◌, ◌<◌};
+ghost use Rattle.std.specs.Prelude.{◌≡◌, cond, ℕ, ◌+◌, ◌^◌, ◌<◌};
 ghost use Rattle.calculus.specs.Security.{Security};
 ghost use Rattle.calculus.specs.Types.{Ty, top};
-ghost use Rattle.calculus.specs.Terms.{Term, protect, mu, subst, raise_value};
+ghost use Rattle.calculus.specs.Terms.{Term, protect, mu, literal, reckon, subst, raise_value};
 ghost use Rattle.calculus.specs.Reduction.{unrolled};
 ghost use Rattle.rules.specs.Groups.{properties_of};
 ghost use Rattle.rules.specs.Types.{type_at};
 ghost use Rattle.rules.specs.Script.{records as record_count, encode};
 ghost use Rattle.lattice.specs.Said.{said_property};
+ghost use Rattle.records.specs.Kinds as kinds;
+ghost use Rattle.records.specs.Numbers.{kind_number};
 ghost use Rattle.records.specs.Labels.{influence_at};
 ghost use Rattle.records.specs.Place.{At, Here};
 ghost use Rattle.redex.specs.Fates.{only_reader, contractum};
 ghost use Rattle.memory.specs.Written.{Room, Written};
-ghost use Rattle.contraction.specs.Plans.{Fires, Branches, Planned, Ready, Measures, Both, Recursive, PartRoom, BodyRoom, RaisedRoom};
-ghost use Rattle.contraction.specs.Plans.{protection, protect_record, UnrolledRoom, Fit};
+ghost use Rattle.contraction.specs.Plans.{Fires, Branches, Planned, Ready, Measures, Both, Recursive, Literals, PartRoom, BodyRoom, RaisedRoom};
+ghost use Rattle.contraction.specs.Plans.{protection, protect_record, UnrolledRoom, reckoning, flag, FlagRoom, ReckonedRoom, Fit};
 
 use lattice::{Creator, Indirect, IndirectCreator, Property, Reader};
 use memory::Writer;
@@ -24,13 +26,14 @@ use records::{Kind, SCRIPT_WIDTH};
 use substitution::Size;
 
 // How a redex's contractum is made: a protected part of the script; a protected body with a value put in for its variable; the
-// operand raised; a recursion's body with the recursion put in. Places are records.
+// operand raised; a recursion's body with the recursion put in; two literals reckoned. Places are records.
 #[derive(Clone, Copy, Debug, PartialEq, Eq)]
 pub enum Plan {
     Part(usize),
     Body { body: usize, value: usize },
     Raised,
     Unrolled,
+    Reckoned,
 }
 
 // The plan of the case at record `at`: the branch of its injection's side, with the injected value put in.
@@ -59,6 +62,7 @@ pub fn plan_of(script: &[u8], at: usize) -> Plan
     match records::kind_of(script, at) {
         Kind::Recursion => Plan::Unrolled,
         Kind::Protect => Plan::Raised,
+        Kind::Sum | Kind::Less => Plan::Reckoned,
         Kind::FirstProjection => Plan::Part(inner),
         Kind::SecondProjection => Plan::Part(records::end_of(script, inner)),
         Kind::Application => Plan::Body {
@@ -103,6 +107,22 @@ fn measure_unrolled(script: &[u8], at: usize) -> Size
     substitution::measure(script, at + 1, 0, unrolled).size
 }
 
+// What is reckoned of two literals, counted: a literal, or an injection of a unit.
+fn measure_reckoned(script: &[u8], at: usize) -> Size
+    requires { Literals script.now at }
+    ensures { (q : Literals script.now at) (S : Security) (tab : ℕ → Ty)
+        → Measures (contractum S tab (reckon q.operation q.label (literal q.left.own q.left.value) (literal q.right.own q.right.value))) result }
+{
+    let records = match records::kind_of(script, at) {
+        Kind::Sum => 1,
+        _ => 2,
+    };
+    Size {
+        records,
+        depth: records,
+    }
+}
+
 // The size of the contractum, with nothing written: a substitution can name millions of records, and raising changes no size.
 pub fn measure(script: &[u8], at: usize, plan: Plan) -> Size
     requires { Ready script.now at plan }
@@ -114,6 +134,7 @@ pub fn measure(script: &[u8], at: usize, plan: Plan) -> Size
         Plan::Body { body, value } => protected(measure_body(script, body, value)),
         Plan::Raised => substitution::extent_at(script, at + 1).size,
         Plan::Unrolled => measure_unrolled(script, at),
+        Plan::Reckoned => measure_reckoned(script, at),
     }
 }
 
@@ -224,6 +245,57 @@ fn write_unrolled(types: &[u8], script: &[u8], at: usize, out: &mut Writer)
     );
 }
 
+// The kind of the injection that says whether the left number is less.
+fn flag_kind(is_less: bool) -> Kind
+    ensures { kind_number result ≡ cond is_less kinds.first_injection kinds.second_injection }
+{
+    if is_less {
+        Kind::FirstInjection
+    } else {
+        Kind::SecondInjection
+    }
+}
+
+// The record of that side of type i, a sum of two units.
+fn flag_side(i: usize, is_less: bool) -> usize
+    requires { i + 2 < 2 ^ 64 }
+    ensures { result ≡ cond is_less (i + 1) (i + 2) }
+{
+    if is_less { i + 1 } else { i + 2 }
+}
+
+// Whether the left number is less: the injection of the unit of that side of type i.
+fn write_flag(types: &[u8], i: u16, property: Property, is_less: bool, out: &mut Writer)
+    requires { FlagRoom types.now i (said_property property) is_less out.old }
+    ensures { Written
+        (encode (flag (type_at types.now) i (said_property property) is_less))
+        out.old out.new }
+{
+    let side = types::property_at(types, flag_side(usize::from(i), is_less));
+    out.put(&records::record(flag_kind(is_less), property, i));
+    out.put(&records::record(Kind::Unit, side, 0));
+}
+
+// What the sum or the comparison at record `at` gives of the two literals after it, each of which is one record.
+fn write_reckoned(groups: &[u8], types: &[u8], script: &[u8], at: usize, out: &mut Writer)
+    requires { ReckonedRoom groups.now types.now script.now at out.old }
+    ensures { (q : ReckonedRoom groups.now types.now script.now at out.old)
+        → Written (encode (reckoning groups.now types.now q.literals)) out.old out.new }
+{
+    let first = at + 1;
+    let second = at + 2;
+    let reader = records::reader(script, at);
+    let left = records::property(script, first);
+    let right = records::property(script, second);
+    let property = left.reckoned_with(groups, right, reader);
+    let m = records::number(script, first);
+    let n = records::number(script, second);
+    match records::kind_of(script, at) {
+        Kind::Sum => out.put(&records::record(Kind::Literal, property, m.saturating_add(n))),
+        _ => write_flag(types, records::number(script, at), property, m < n, out),
+    }
+}
+
 // The contractum.
 pub fn write_contractum(
     groups: &[u8],
@@ -244,5 +316,6 @@ pub fn write_contractum(
         Plan::Body { body, value } => write_body(groups, script, at, body, value, out),
         Plan::Raised => write_raised(groups, script, at, out),
         Plan::Unrolled => write_unrolled(types, script, at, out),
+        Plan::Reckoned => write_reckoned(groups, types, script, at, out),
     }
 }

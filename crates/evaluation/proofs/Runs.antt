@@ -1,20 +1,20 @@
 -- A run is its steps: what a turn of the loop does to the run that is left, and how it ends.
-use Rattle.std.proofs.Common.{◌≡◌, refl, sym, ap, ◌∙◌, Bool, true, false, cond, ℕ, suc, ◌+◌, ◌-◌, ◌*◌, ◌/◌, ◌≤◌, ◌<◌, arith, length, take, drop, take_at, length-take-le, Result, Ok, Err}
+use Rattle.std.proofs.Common.{◌≡◌, refl, sym, ap, ◌∙◌, Bool, true, false, cond, [], ◌∷◌, ℕ, zero, suc, ◌+◌, ◌-◌, ◌*◌, ◌/◌, ◌≤◌, ◌<◌, arith, length, take, drop, take_at, length-take-le, Result, Ok, Err}
 use Rattle.std.proofs.Common.{subst as transport}
 use Rattle.calculus.specs.Security.{Security}
 use Rattle.calculus.specs.Types.{Ty}
 use Rattle.calculus.specs.Terms.{Term, is_value}
 use Rattle.calculus.specs.Reduction.{step}
 use Rattle.calculus.proofs.Values.{value_step}
-use Rattle.rules.specs.Answer.{Bytes}
-use Rattle.rules.specs.Limits.{script_width, script_limit, depth_limit, table_limit}
-use Rattle.rules.specs.Types.{type_count}
-use Rattle.rules.specs.Script.{encode, term, size, depth}
+use Rattle.rules.specs.Answer.{Bytes, Octets}
+use Rattle.rules.specs.Limits.{script_width, script_limit, depth_limit}
+use Rattle.rules.specs.Groups.{properties_of}
+use Rattle.rules.specs.Types.{type_at}
+use Rattle.rules.specs.Script.{encode, size, depth}
 use Rattle.rules.specs.Step.{End, at_value, moves, may_not, wrong_kind, too_big, step_in}
 use Rattle.rules.specs.Run.{Ran, ends, one_step_more, run}
 use Rattle.rules.specs.Calls.{front_after}
-use Rattle.rules.proofs.Scripts.{term_encode}
-use Rattle.demands.proofs.Steps.{limited_moves, within_limits}
+use Rattle.demands.proofs.Steps.{limited_moves, within_limits, fit_moves}
 use Rattle.redex.specs.Found.{Finds, finds_value}
 use Rattle.redex.specs.declared.Found.{Found}
 use Rattle.redex.specs.declared.Found.TheVariants.{Value, Redex, Denied, Stuck}
@@ -23,13 +23,14 @@ use Rattle.memory.specs.Splice.{splice}
 use Rattle.substitution.proofs.Reading.{term_length}
 use Rattle.reduction.specs.declared.Stop.{Stop}
 use Rattle.evaluation.specs.declared.Halt.{Halt}
+use Rattle.reduction.proofs.Starts.{started, formed_startable}
 use Rattle.reduction.specs.Steps.{told, stop_number, end_number}
 use Rattle.evaluation.specs.Runs.{front, Loaded, spent_on, Halted}
 
 -- a whole term at the front has as many records as are said
-pub front_size : {t : Bytes} {a : Bytes} {n room : ℕ} → Loaded t a n room → room ≤ length a → size (front a n) ≡ n
-front_size {t} {a} {n} q l =
-    omega (arith, term_length (front a n), ap length q.start.encoded, length-take-le (script_width * n) a (omega (arith, q.fits)), q.fits)
+pub front_size : {g t a : Bytes} {n room : ℕ} → Loaded g t a n room → room ≤ length a → size (front a n) ≡ n
+front_size {a = a} {n = n} q l =
+    omega (arith, term_length (front a n), ap length (started q.start).encoded, length-take-le (script_width * n) a (omega (arith, q.fits)), q.fits)
 
 -- a moved step
 pub record Went (x : End) (m : ℕ) : Type 0 where
@@ -131,18 +132,18 @@ module _ (S : Security) (tab : ℕ → Ty) (room : ℕ) where
       by Stuck g false k = refl
 
 -- a run that has halted
-pub halted : {t a : Bytes} {n room : ℕ} (x : Ran) (k q : ℕ) (b : Halt) → x ≡ later k (ends q (front a n)) → end_number b.stop ≡ q → b.steps ≡ k → b.records ≡ n
-    → Loaded t a n room → room ≤ length a → Halted x room b a
-halted {t} {a} {n} {room} x k q b h e1 e2 e3 w l =
+pub halted : {g t a : Bytes} {n room : ℕ} (x : Ran) (k q : ℕ) (b : Halt) → x ≡ later k (ends q (front a n)) → end_number b.stop ≡ q → b.steps ≡ k → b.records ≡ n
+    → Loaded g t a n room → room ≤ length a → Halted x room b a
+halted {a = a} {n = n} {room = room} x k q b h e1 e2 e3 w l =
     transport (λ (y : Ran). Halted y room b a) (sym h)
     (record {
       told = record { end = e1; steps = omega arith; records = e3 ∙ sym (front_size w l) };
-      holds = ap (λ (m : ℕ). take (script_width * m) a) e3 ∙ sym w.start.encoded;
+      holds = ap (λ (m : ℕ). take (script_width * m) a) e3 ∙ sym (started w.start).encoded;
       fits = omega (arith, w.fits);
     })
 
 -- The new term, copied back to the first buffer, is its front.
-module _ (S : Security) (tab : ℕ → Ty) (room : ℕ) (t a a' b b' : Bytes) (e e' : Term) (m : ℕ) where
+module _ (S : Security) (tab : ℕ → Ty) (room : ℕ) (a a' b b' : Bytes) (e e' : Term) (m : ℕ) where
   pub copied : step_in S tab room e ≡ moves e' → m ≡ size e' → b' ≡ front_after (step_in S tab room e) b → a' ≡ splice 0 (take (script_width * m) b') a
       → take (script_width * m) a' ≡ encode e'
   copied h c p q =
@@ -152,16 +153,21 @@ module _ (S : Security) (tab : ℕ → Ty) (room : ℕ) (t a a' b b' : Bytes) (e
       let g : a' ≡ splice 0 (encode e') a = q ∙ ap (λ (x : Bytes). splice 0 x a) f in
       ap (take (script_width * m)) g ∙ take_at (encode e') (drop (0 + length (encode e')) a) (script_width * m) k
 
-  pub reloaded : type_count t ≤ table_limit → step_in S tab room e ≡ moves e' → m ≡ size e' → take (script_width * m) a' ≡ encode e' → Loaded t a' m room
-  reloaded table h c p =
-      let l = limits S tab room e e' h in
-      let z : front a' m ≡ e' = ap term p ∙ term_encode e' in
-      record {
-        start = record {
-          encoded = ap encode z ∙ sym p;
-          small = omega (arith, ap size z, l.0);
-          shallow = omega (arith, ap depth z, l.2);
-          table = table;
-        };
-        fits = omega (arith, l.1);
-      }
+-- what is at the front of bytes is bytes
+octets_front : (k : ℕ) (a : Bytes) → Octets a → Octets (take k a)
+octets_front zero a o i = omega arith
+octets_front (suc k) [] o i = omega arith
+octets_front (suc k) (x ∷ a) o zero = o 0
+octets_front (suc k) (x ∷ a) o (suc i) = octets_front k a (λ j. o (suc j)) i
+
+-- A term that a step comes to can be stepped: the questions hold of it as they do of the term before.
+pub reloaded : {g t a : Bytes} {n room : ℕ} (a' : Bytes) → Loaded g t a n room → Octets a' → (e' : Term) (m : ℕ)
+    → step_in (properties_of g) (type_at t) room (front a n) ≡ moves e' → m ≡ size e' → take (script_width * m) a' ≡ encode e' → Loaded g t a' m room
+reloaded {g} {t} {a} {n} {room} a' q o e' m h c p =
+    let st = started q.start in
+    let l = limits (properties_of g) (type_at t) room (front a n) e' h in
+    let F = fit_moves g t st.types st.tables room (front a n) e' st.fit h in
+    record {
+      start = formed_startable (take (script_width * m) a') q.start.groups (octets_front (script_width * m) a' o) st.types st.tables e' F (sym p);
+      fits = omega (arith, l.1);
+    }

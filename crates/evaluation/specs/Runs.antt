@@ -21,9 +21,9 @@ use Rattle.answer.specs.declared.Refusal.{Refusal}
 abbrev pub front : Bytes → ℕ → Term
 front a n = term (take (script_width * n) a)
 
--- a buffer starts with a whole term of n records, within the limits and within `room` bytes
-pub record Loaded (t a : Bytes) (n room : ℕ) : Type 0 where
-  pub start : Startable t (take (script_width * n) a)
+-- a buffer starts with a script of n records that can be stepped, within `room` bytes
+pub record Loaded (g t a : Bytes) (n room : ℕ) : Type 0 where
+  pub start : Startable g t (take (script_width * n) a)
   pub fits : script_width * n ≤ room
 
 -- the end of a run at its budget

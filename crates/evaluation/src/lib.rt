@@ -46,7 +46,7 @@ fn walk(
     first: &mut [u8],
     scratch: &mut [u8],
 ) -> Halt
-    requires { Loaded types.now first.old records (length scratch.old) × (length scratch.old ≤ length first.old) }
+    requires { Loaded groups.now types.now first.old records (length scratch.old) × (length scratch.old ≤ length first.old) }
     ensures { Halted
         (run (properties_of groups.now) (type_at types.now) (length scratch.old) budget (front first.old records))
         (length scratch.old) result first.new }
@@ -87,7 +87,7 @@ pub fn run_term(
     first: &mut [u8],
     scratch: &mut [u8],
 ) -> Halt
-    requires { Loaded types.now first.old records (min (length first.old) (length scratch.old)) }
+    requires { Loaded groups.now types.now first.old records (min (length first.old) (length scratch.old)) }
     ensures { Ends
         (run (properties_of groups.now) (type_at types.now)
         (min (length first.old) (length scratch.old)) budget (front first.old records))

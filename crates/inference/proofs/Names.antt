@@ -1,12 +1,12 @@
 -- The types that a formed node names.
-use Rattle.std.proofs.Common.{◌≡◌, sym, ap, ◌∙◌, subst, false, ◌&&◌, ℕ, suc, ◌+◌, ◌*◌, ◌<◌, ◌≤◌, length, drop, arith, eqb, get_or-drop}
+use Rattle.std.proofs.Common.{◌≡◌, sym, ap, ◌∙◌, subst, false, ◌&&◌, ℕ, ◌+◌, ◌*◌, ◌<◌, ◌≤◌, length, drop, arith, eqb, get_or-drop}
 use Rattle.calculus.specs.Security.{Property}
 use Rattle.calculus.specs.Types.{sum, function}
 use Rattle.calculus.specs.Typing.{finds_own}
-use Rattle.calculus.specs.Terms.{Side, Term, lam, inj, case, mu}
+use Rattle.calculus.specs.Terms.{Side, less, Term, lam, inj, case, mu, reckon}
 use Rattle.rules.specs.Limits.{type_width}
 use Rattle.rules.specs.Answer.{Bytes, byte}
-use Rattle.rules.specs.Types.{former_kind, type_count, type_kind, type_at}
+use Rattle.rules.specs.Types.{former_kind, type_count, type_kind, sides, type_at}
 use Rattle.rules.specs.Script.{kind, number, own_at, encode}
 use Rattle.records.specs.Kinds as kinds
 use Rattle.types.specs.Held.{kind_of}
@@ -31,11 +31,9 @@ kind_at {types} {i} t l =
     let z : type_width * i ≡ type_width * i + 0 = omega arith in
     ap (byte types) z ∙ sym (get_or-drop (type_width * i) types 0 0) ∙ kind_is (type_at types i) (t.entry i l).held
 
-pub named_sided : {types l : Bytes} {i k : ℕ} → Table types → i < type_count types → type_kind types i ≡ suc k → l ≡ drop (type_width * i) types → SlotSided l
-named_sided {types} {l} {i} t h q e =
-    let k = kind_at t h in
-    let two : kind_of (type_at types i) ≡ 0 → ⊥ = λ z. omega arith in
-    record { type = type_at types i; slot = named_slot t h e; two = two }
+pub named_sided : {types l : Bytes} {i k : ℕ} → Table types → i < type_count types → type_kind types i ≡ k → sides k ≡ 2 → l ≡ drop (type_width * i) types → SlotSided l
+named_sided {types} {l} {i} t h q two e =
+    record { type = type_at types i; slot = named_slot t h e; two = ap sides (sym (kind_at t h) ∙ q) ∙ two }
 
 module _ (t : Bytes) (b i : ℕ) (e : Term) (f : Formed t b e) where
   pub lam_index : {k : Property} {a : Term} → e ≡ lam k i a → i < type_count t
@@ -50,6 +48,10 @@ module _ (t : Bytes) (b i : ℕ) (e : Term) (f : Formed t b e) where
   unfolding Formed
   mu_index p = (subst (λ d. Formed t b d) p f).0
 
+  pub less_index : {w : ℕ} {x y : Term} → e ≡ reckon (less i) w x y → (i < type_count t) × (type_kind t i ≡ former_kind sum)
+  unfolding Formed
+  less_index p = (subst (λ d. Formed t b d) p f).0
+
   pub case_index : {w : ℕ} {a x y : Term} → e ≡ case w i a x y → finds_own i ≡ false → i < type_count t
   unfolding Formed
   case_index p = (subst (λ d. Formed t b d) p f).0
@@ -61,6 +63,9 @@ module _ (types s : Bytes) (b : ℕ) (e : Term) (is : s ≡ encode e) (f : Forme
 
   pub recursion_index : kinds.recursion ≡ kind s 0 → (number s 0 < type_count types) × (type_kind types (number s 0) ≡ former_kind function)
   recursion_index k = mu_index types b _ e f (of_kind s e kinds.recursion is k)
+
+  pub flag_index : kinds.less ≡ kind s 0 → (number s 0 < type_count types) × (type_kind types (number s 0) ≡ former_kind sum)
+  flag_index k = less_index types b _ e f (of_kind s e kinds.less is k)
 
 -- whether a case finds its own type is told by its number alone
 pub owns : {types s : Bytes} → Case types s → own_at s 0 ≡ finds_own (number s 0)

@@ -5,7 +5,7 @@ use borrow.Rule.Slice.PartMut.{put_mid}
 use Rattle.calculus.specs.Types.{Ty, size_t, type_limit}
 use Rattle.rules.specs.Limits.{answer_length, type_width}
 use Rattle.rules.specs.Answer.{Bytes, Answer, accepted}
-use Rattle.rules.specs.Types.{encode_type, no_type}
+use Rattle.rules.specs.Types.{encode_type, no_type, sides}
 use Rattle.rules.specs.Typing.{left, right}
 use Rattle.types.specs.Held.{Held, kind_of}
 use Rattle.answer.specs.declared.Refusal.{Refusal}
@@ -161,7 +161,7 @@ slot_written {t} {Γ} {b} {w} {x} {w'} s e l q m h =
     (rw z (high_splice at b (encode_type t) w (omega (arith, type_length t)))) n l m h
 
 -- the two sides of a tested type written to the next slot
-pub beside_written : {t : Ty} {b : ℕ} (w : Bytes) {x : Bytes} (w' : Bytes) → (kind_of t ≡ 0 → ⊥) → size_t t ≤ type_limit → x ≡ encode_type (left t) ++ encode_type (right t) → answer_length * (b + 1) ≤ length w
+pub beside_written : {t : Ty} {b : ℕ} (w : Bytes) {x : Bytes} (w' : Bytes) → sides (kind_of t) ≡ 2 → size_t t ≤ type_limit → x ≡ encode_type (left t) ++ encode_type (right t) → answer_length * (b + 1) ≤ length w
     → w' ≡ splice (length w - answer_length * (b + 1)) x w → Beside t b w' × (high b w' ≡ high b w) × (length w' ≡ length w)
 beside_written {t} {b} w {x} w' nz s e l q =
     let at : ℕ = length w - answer_length * (b + 1) in

@@ -1,26 +1,29 @@
 -- What the rule functions ask, and what they leave in the work buffer.
-use Rattle.std.proofs.Common.{◌≡◌, refl, sym, ap, ◌∙◌, subst, Bool, true, false, cond, eqb, eqb-true, ne_eqb, leb, leb-true, Result, Ok, Err, IsErrAnd, List, ◌++◌, ℕ, ◌+◌, ◌*◌, ◌≤◌, ◌<◌, arith, length, drop, length-append, drop_at}
+use Rattle.std.proofs.Common.{◌≡◌, refl, sym, ap, ◌∙◌, subst, Bool, true, false, cond, eqb-true, leb, leb-true, Result, Ok, Err, IsErrAnd, List, ◌++◌, ℕ, ◌+◌, ◌*◌, ◌≤◌, ◌<◌, arith, length, drop, length-append, drop_at}
 use Rattle.calculus.specs.Security.{Property, Indirect, Security}
-use Rattle.calculus.specs.Types.{Former, sum, product, function, Ty, one, node, size_t, top, raise_t, type_limit}
+use Rattle.calculus.specs.Types.{Former, sum, product, function, Ty, leaf, node, size_t, top, raise_t, type_limit}
 use Rattle.calculus.specs.Subtyping.{below}
 use Rattle.calculus.specs.Common.{common}
 use Rattle.calculus.specs.Typing.{finds_own}
 use Rattle.rules.specs.Limits.{answer_length, type_width}
 use Rattle.rules.specs.Answer.{Bytes, Answer, accepted, refused, ◌>>=◌, ◌>>◌, ask}
-use Rattle.rules.specs.Types.{former_kind, type_record, encode_type}
-use Rattle.rules.specs.Typing.{has_form, left, right, q22, q24, q22_of_branch, found_or, branch_type}
+use Rattle.rules.specs.Types.{former_kind, type_record, sides, encode_type}
+use Rattle.rules.specs.Typing.{left, right, q22, q24, q22_of_branch, found_or, branch_type}
 use Rattle.types.specs.Held.{kind_of}
+use Rattle.types.specs.Kinds.{kind_number}
+use Rattle.types.specs.declared.Kind.{Kind}
 use Rattle.memory.specs.Splice.{splice}
 use Rattle.memory.proofs.Laws.{join_before, join_after}
-use Rattle.answer.specs.Numbers.{number}
+use Rattle.answer.specs.Numbers.{number as question_number}
 use Rattle.answer.specs.Said.{said}
 use Rattle.answer.specs.declared.Refusal.{Refusal}
 use Rattle.inference.specs.Memory.{Sized, Wrote, Meets, refuses, finds, Gives, Entered, Enters}
+use Rattle.inference.specs.Kinds.{has_kind}
 use Rattle.inference.specs.Stages.{may_read, result_type, case_type}
 use Rattle.inference.proofs.Front.{size_raised}
+use Rattle.inference.proofs.KindLaws.{kind_is}
 use Rattle.answer.proofs.Passed.{returned}
-use Rattle.types.proofs.Formers.{former_not_unit, same_former}
-use Rattle.types.proofs.Parts.{type_length}
+use Rattle.types.proofs.Parts.{sideless, type_length}
 use Rattle.inference.proofs.Regions.{high_past, written}
 
 -- of a case's branches, and its result type
@@ -42,21 +45,17 @@ module _ (S : Security) (p : ℕ) (tab : ℕ → Ty) (i : ℕ) (t u : Ty) where
       go (refused q x) = refl
 
 -- questions 20 and 21
-pub form_is : (f : Former) (t : Ty) → has_form f t ≡ eqb (former_kind f) (kind_of t)
-form_is f (one k) = sym (ne_eqb _ _ (former_not_unit f))
-form_is f (node d k a b) = same_former f d
+-- They are answered yes only where the read type is of the kind, so that it has as many sides.
+module _ (S : Security) (p : ℕ) (k : Kind) (t : Ty) (w : ℕ) where
+  kind_cases : (a b : Bool) → ◌>>◌ (ask 20 p a) (ask 21 p b) ≡ accepted tt → a ≡ true
+  kind_cases true b e = refl
+  kind_cases false b e = let z : ◌≡◌ {A = ℕ} 0 1 = cc in absurd (omega arith)
 
--- the questions of a read type are answered yes only where it has two sides
-module _ (S : Security) (p : ℕ) (f : Former) (t : Ty) (w : ℕ) where
-  form_cases : (a b : Bool) → ◌>>◌ (ask 20 p a) (ask 21 p b) ≡ accepted tt → a ≡ true
-  form_cases true b e = refl
-  form_cases false b e = let z : ◌≡◌ {A = ℕ} 0 1 = cc in absurd (omega arith)
+  read_kind : may_read S p k t w ≡ accepted tt → kind_number k ≡ kind_of t
+  read_kind e = eqb-true _ _ (sym (kind_is k t) ∙ kind_cases (has_kind k t) (S.permits (top t) w) e)
 
-  read_kind : may_read S p f t w ≡ accepted tt → former_kind f ≡ kind_of t
-  read_kind e = eqb-true _ _ (sym (form_is f t) ∙ form_cases (has_form f t) (S.permits (top t) w) e)
-
-  pub read_two : may_read S p f t w ≡ accepted tt → kind_of t ≡ 0 → ⊥
-  read_two e z = former_not_unit f (read_kind e ∙ z)
+  pub read_two : sides (kind_number k) ≡ 2 → may_read S p k t w ≡ accepted tt → sides (kind_of t) ≡ 2
+  read_two two e = ap sides (sym (read_kind e)) ∙ two
 
 pub meets_of : {o o' : Answer Ty} {b : ℕ} {w : Bytes} {x : Result ℕ Refusal} {v : Bytes} → o ≡ o' → Meets o' b w x v → Meets o b w x v
 meets_of {b = b} {w = w} {x = x} {v = v} e m = subst (λ y. Meets y b w x v) (sym e) m
@@ -120,15 +119,15 @@ module _ (k : Property) (m n : ℕ) (s t : Ty) {w y x : Bytes} (f : size_t s + s
       placed product z₂ e₃
 
 -- another record before the sides of a type
-pub other_record : (u : Ty) (k : Property) (w : Bytes) → (kind_of u ≡ 0 → ⊥)
+pub other_record : (u : Ty) (k : Property) (w : Bytes) → sides (kind_of u) ≡ 2
     → splice 0 (type_record (former_kind sum) k) (splice 0 (encode_type u) w) ≡ splice 0 (encode_type (node sum k (left u) (right u))) w
 unfolding encode_type
-other_record (one j) k w n = absurd (n refl)
+other_record (leaf b j) k w n = absurd (sideless b n)
 other_record (node f j a b) k w n = refl
 
-pub other_size : (u : Ty) (k : Property) → (kind_of u ≡ 0 → ⊥) → size_t (node sum k (left u) (right u)) ≡ size_t u
+pub other_size : (u : Ty) (k : Property) → sides (kind_of u) ≡ 2 → size_t (node sum k (left u) (right u)) ≡ size_t u
 unfolding size_t
-other_size (one j) k n = absurd (n refl)
+other_size (leaf b j) k n = absurd (sideless b n)
 other_size (node f j a b) k n = refl
 
 -- the front, raised in place
@@ -160,11 +159,11 @@ pub typed_as : {o : Answer Ty} {b : ℕ} {w : Bytes} {n : ℕ} {v : Bytes} → M
 typed_as (finds {t = t} h) = record { type = t; is = refl; wrote = h }
 
 -- a refusal is passed on
-pub refused_as : {o : Answer Ty} {b : ℕ} {w : Bytes} {e : Refusal} {v : Bytes} → Meets o b w (Err e) v → o ≡ refused (number e.question) e.place
+pub refused_as : {o : Answer Ty} {b : ℕ} {w : Bytes} {e : Refusal} {v : Bytes} → Meets o b w (Err e) v → o ≡ refused (question_number e.question) e.place
 refused_as refuses = refl
 
 -- what `?` returns then
-pub refused_meets : {o : Answer Ty} {b : ℕ} {w v : Bytes} {x : Result ℕ Refusal} (e : Refusal) → o ≡ refused (number e.question) e.place → IsErrAnd x (λ y. y ≡ e) → Meets o b w x v
+pub refused_meets : {o : Answer Ty} {b : ℕ} {w v : Bytes} {x : Result ℕ Refusal} (e : Refusal) → o ≡ refused (question_number e.question) e.place → IsErrAnd x (λ y. y ≡ e) → Meets o b w x v
 refused_meets e h p = meets_of h (rw (returned _ p) refuses)
 
 -- ---- a type given under any count of binders
@@ -179,6 +178,14 @@ passed {a} {o} e m = gives_of {o = ◌>>◌ a o} {o' = o} (ap (λ (y : Answer (U
 -- after one answered no
 pub stopped : {a : Answer (Unit {0})} (o : Answer Ty) {w v : Bytes} {x : Result ℕ Refusal} (e : Refusal) → said {A = Unit {0}} (Err e) ≡ a → IsErrAnd x (λ y. y ≡ e) → Gives (◌>>◌ a o) w x v
 stopped o e h p b l = refused_meets e (ap (λ y. ◌>>◌ y o) (sym h)) p
+
+-- after a property that is found, or is not
+module _ {a : Answer Property} (o : Property → Answer Ty) {w v : Bytes} {x : Result ℕ Refusal} where
+  pub found_first : {k : Property} → accepted k ≡ a → Gives (o k) w x v → Gives (◌>>=◌ a o) w x v
+  found_first {k} e m = gives_of {o = ◌>>=◌ a o} {o' = o k} (ap (λ (y : Answer Property). ◌>>=◌ y o) (sym e)) m
+
+  pub refused_first : (e : Refusal) → refused (question_number e.question) e.place ≡ a → IsErrAnd x (λ y. y ≡ e) → Gives (◌>>=◌ a o) w x v
+  refused_first e h p b l = refused_meets e (ap (λ (y : Answer Property). ◌>>=◌ y o) (sym h)) p
 
 module _ {A : Answer (Unit {0})} {Γ Γ' : List Ty} {b : ℕ} {w : Bytes} {x : Result (Unit {0}) Refusal} {w' : Bytes} where
   -- the next operand's context is there

@@ -2,7 +2,7 @@
 use Rattle.std.proofs.Common.{◌≡◌, refl, sym, ap, ◌∙◌, cond, List, [], append-nil, ◌⊎◌, inl, inr, ℕ, ◌≤◌, length, arith}
 use Rattle.calculus.specs.Security.{Property, Indirect, Security}
 use Rattle.calculus.specs.Types.{Ty}
-use Rattle.calculus.specs.Terms.{Side, first, second, Term, var, unit, lam, pair, inj, app, proj, case, protect, mu}
+use Rattle.calculus.specs.Terms.{Side, first, second, Operation, plus, less, Term, var, unit, lam, pair, inj, app, proj, case, protect, mu, literal, reckon}
 use Rattle.rules.specs.Limits.{script_width, type_width}
 use Rattle.rules.specs.Answer.{Bytes, accepted}
 use Rattle.rules.specs.Script.{kind, r, ir, number, c, ic, arity, encode, depth, make}
@@ -13,7 +13,7 @@ use Rattle.records.specs.Kinds as kinds
 use Rattle.records.specs.Kinds.{is_injection}
 use Rattle.records.specs.Numbers.{kind_number}
 use Rattle.records.specs.declared.Kind.{Kind}
-use Rattle.records.specs.declared.Kind.TheVariants.{Variable, Unit, Function, Pair, FirstInjection, SecondInjection, Application, FirstProjection, SecondProjection, Case, Protect, Recursion}
+use Rattle.records.specs.declared.Kind.TheVariants.{Variable, Unit, Function, Pair, FirstInjection, SecondInjection, Application, FirstProjection, SecondProjection, Case, Protect, Recursion, Literal, Sum, Less}
 use Rattle.records.specs.Place.{At, Here}
 use Rattle.records.specs.Labels.{property_at}
 use Rattle.records.specs.Operands.{first_operand, second_operand, third_operand}
@@ -65,6 +65,12 @@ pub projected : {k : Kind} {d : Side} (p : Property) (n : ℕ) (e : Term) → (k
 projected p n e (inl q) y = rw (y, q)
 projected p n e (inr q) y = rw (y, q)
 
+-- what is reckoned, by either operation
+pub reckons : {k : Kind} (p : Property) (n : ℕ) (e : Term) → (k ≡ Sum) ⊎ (k ≡ Less)
+    → (o : Operation) × (labelled (kind_number k) p n e ≡ reckon o p.r (first_operand e) (second_operand e))
+reckons p n e (inl q) = (plus, rw q)
+reckons p n e (inr q) = (less n, rw q)
+
 pub counted : (e : Term) → arity (kind (encode e) 0) ≡ operand_count e
 unfolding arity encode operand_count
 counted (var n) = refl
@@ -79,6 +85,9 @@ counted (proj second w e) = refl
 counted (case w i e a b) = refl
 counted (protect m e) = refl
 counted (mu w i e) = refl
+counted (literal k n) = refl
+counted (reckon plus w a b) = refl
+counted (reckon (less i) w a b) = refl
 
 pub counted_of : {s : Bytes} (e : Term) → s ≡ encode e → arity (kind s 0) ≡ operand_count e
 counted_of {s} e p = ap (λ b. arity (kind b 0)) p ∙ counted e
@@ -87,11 +96,12 @@ pub arity_of : {s : Bytes} (e : Term) {k : ℕ} → s ≡ encode e → k ≡ kin
 arity_of e p f = ap arity f ∙ counted_of e p
 
 -- which kind is left when the others of as many operands are ruled out
-pub unit_left : (k : Kind) → arity (kind_number k) ≡ 0 → (k ≡ Variable → ⊥) → kind_number k ≡ kinds.unit
+pub unit_left : (k : Kind) → arity (kind_number k) ≡ 0 → (k ≡ Variable → ⊥) → (k ≡ Literal → ⊥) → kind_number k ≡ kinds.unit
 unfolding arity
-unit_left Variable o n = absurd (n refl)
-unit_left Unit o n = refl
-unit_left k o n = absurd (omega arith)
+unit_left Variable o a b = absurd (a refl)
+unit_left Literal o a b = absurd (b refl)
+unit_left Unit o a b = refl
+unit_left k o a b = absurd (omega arith)
 
 pub recursion_left : (k : Kind) → arity (kind_number k) ≡ 1 → (k ≡ Function → ⊥) → (k ≡ FirstInjection → ⊥) → (k ≡ SecondInjection → ⊥) → (k ≡ FirstProjection → ⊥) → (k ≡ SecondProjection → ⊥) → (k ≡ Protect → ⊥)
     → kind_number k ≡ kinds.recursion
@@ -105,30 +115,36 @@ recursion_left Protect o a b c d f g = absurd (g refl)
 recursion_left Recursion o a b c d f g = refl
 recursion_left k o a b c d f g = absurd (omega arith)
 
-pub application_left : (k : Kind) → arity (kind_number k) ≡ 2 → (k ≡ Pair → ⊥) → kind_number k ≡ kinds.application
+pub less_left : (k : Kind) → arity (kind_number k) ≡ 2 → (k ≡ Pair → ⊥) → (k ≡ Application → ⊥) → (k ≡ Sum → ⊥) → kind_number k ≡ kinds.less
 unfolding arity
-application_left Pair o n = absurd (n refl)
-application_left Application o n = refl
-application_left k o n = absurd (omega arith)
+less_left Pair o a b c = absurd (a refl)
+less_left Application o a b c = absurd (b refl)
+less_left Sum o a b c = absurd (c refl)
+less_left Less o a b c = refl
+less_left k o a b c = absurd (omega arith)
 
-pub case_left : (k : Kind) → 2 ≤ arity (kind_number k) → (k ≡ Pair → ⊥) → (k ≡ Application → ⊥) → kind_number k ≡ kinds.case
+pub case_left : (k : Kind) → 2 ≤ arity (kind_number k) → (k ≡ Pair → ⊥) → (k ≡ Application → ⊥) → (k ≡ Sum → ⊥) → (k ≡ Less → ⊥) → kind_number k ≡ kinds.case
 unfolding arity
-case_left Pair o a b = absurd (a refl)
-case_left Application o a b = absurd (b refl)
-case_left Case o a b = refl
-case_left k o a b = absurd (omega arith)
+case_left Pair o a b c d = absurd (a refl)
+case_left Application o a b c d = absurd (b refl)
+case_left Sum o a b c d = absurd (c refl)
+case_left Less o a b c d = absurd (d refl)
+case_left Case o a b c d = refl
+case_left k o a b c d = absurd (omega arith)
 
 -- what a node of two or more operands is
 pub data Several : Term → Type 0 where
   is_pair : {k : Property} {a b : Term} → Several (pair k a b)
   is_app : {w : ℕ} {f a : Term} → Several (app w f a)
   is_case : {w i : ℕ} {e a b : Term} → Several (case w i e a b)
+  is_reckon : {o : Operation} {w : ℕ} {a b : Term} → Several (reckon o w a b)
 
 pub several : (e : Term) → 2 ≤ operand_count e → Several e
 unfolding operand_count
 several (pair k a b) o = is_pair
 several (app w f a) o = is_app
 several (case w i e a b) o = is_case
+several (reckon p w a b) o = is_reckon
 several e o = absurd (omega arith)
 
 -- no binder over the first operand
@@ -149,6 +165,8 @@ front_is (inj first k i e) = refl
 front_is (inj second k i e) = refl
 front_is (proj first w e) = refl
 front_is (proj second w e) = refl
+front_is (reckon plus w a b) = refl
+front_is (reckon (less i) w a b) = refl
 front_is e = refl
 
 pub depth_positive : (e : Term) → 1 ≤ depth e

@@ -1,3 +1,4 @@
+pub mod Kinds
 pub mod Operands
 pub mod Memory
 pub mod Stages

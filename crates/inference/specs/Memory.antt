@@ -4,7 +4,7 @@ use Rattle.calculus.specs.Types.{Ty, size_t, type_limit}
 use Rattle.calculus.specs.Terms.{Term}
 use Rattle.rules.specs.Answer.{Bytes, Answer, accepted, refused}
 use Rattle.rules.specs.Limits.{type_width, script_limit, answer_length}
-use Rattle.rules.specs.Types.{type_count, no_type, type_at}
+use Rattle.rules.specs.Types.{type_count, no_type, sides, type_at}
 use Rattle.rules.specs.Script.{encode, size, depth}
 use Rattle.rules.specs.Typing.{left, right}
 use Rattle.types.specs.Held.{Held, kind_of}
@@ -104,7 +104,7 @@ pub record SlotType (l : Bytes) : Type 0 where
 pub record SlotSided (l : Bytes) : Type 0 where
   pub type : Ty
   pub slot : Slot l type
-  pub two : kind_of type ≡ 0 → ⊥
+  pub two : sides (kind_of type) ≡ 2
 
 -- a case's slot b + 1 holds the two sides of the tested type, one after the other
 pub record Beside (t : Ty) (b : ℕ) (w : Bytes) : Type 0 where

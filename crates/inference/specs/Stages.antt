@@ -1,24 +1,28 @@
 -- The rules of `typing`, taken apart at the operands: what is asked before, between and after them.
 use Rattle.std.specs.Prelude.{◌≡◌, true, false, cond, List, ◌∷◌, ℕ, ◌+◌, ◌*◌, ◌≤◌, ◌<◌, length, get_or, drop}
 use Rattle.calculus.specs.Security.{Property, Indirect, Security}
-use Rattle.calculus.specs.Types.{Former, sum, product, function, Ty, one, node, top, raise_t}
+use Rattle.calculus.specs.Types.{one, number as number_leaf, sum, product, function, Ty, leaf, node, top, raise_t}
 use Rattle.calculus.specs.Typing.{finds_own}
-use Rattle.calculus.specs.Terms.{Side, first, second, Term, var, unit, lam, pair, inj, app, proj, case, protect, mu}
-use Rattle.rules.specs.Answer.{Bytes, Answer, accepted, ◌>>=◌, ◌>>◌}
+use Rattle.calculus.specs.Terms.{Side, first, second, Operation, Term, var, unit, lam, pair, inj, app, proj, case, protect, mu, literal, reckon}
+use Rattle.calculus.specs.Numbers.{of_both}
+use Rattle.rules.specs.Answer.{Bytes, Answer, accepted, ◌>>=◌, ◌>>◌, ask}
 use Rattle.rules.specs.Limits.{type_width, script_width, answer_length}
 use Rattle.rules.specs.Types.{no_type, type_count}
 use Rattle.rules.specs.Script.{kind, number, own_at, encode}
 use Rattle.rules.specs.Groups.{properties_of}
-use Rattle.rules.specs.Typing.{left, right, q20, q21, q22, q23, q24, q22_of_branch, branch_type}
+use Rattle.rules.specs.Typing.{left, right, q21, q22, q23, q24, q22_of_branch, branch_type, number_result}
 use Rattle.types.specs.Held.{Held}
+use Rattle.types.specs.declared.Kind.{Kind}
+use Rattle.types.specs.declared.Kind.TheVariants.{Sum, Pair, Function, Number}
 use Rattle.records.specs.Kinds as kinds
+use Rattle.inference.specs.Kinds.{has_kind}
 use Rattle.inference.specs.Operands.{operand_count, Formed}
 use Rattle.inference.specs.Memory.{high, Slot, Sized, Holds, Table, Beside}
 
 -- a term without operands
 unfoldable pub leaf_type : List Ty → Term → Answer Ty
 leaf_type Γ (var n) = accepted (get_or Γ n no_type)
-leaf_type Γ (unit k) = accepted (one k)
+leaf_type Γ (unit k) = accepted (leaf one k)
 leaf_type Γ (lam k i e) = accepted no_type
 leaf_type Γ (pair k a b) = accepted no_type
 leaf_type Γ (inj d k i e) = accepted no_type
@@ -27,6 +31,8 @@ leaf_type Γ (proj d w e) = accepted no_type
 leaf_type Γ (case w i e a b) = accepted no_type
 leaf_type Γ (protect m e) = accepted no_type
 leaf_type Γ (mu w i e) = accepted no_type
+leaf_type Γ (literal k n) = accepted (leaf number_leaf k)
+leaf_type Γ (reckon o w a b) = accepted no_type
 
 -- calling a recursion of type s as group w: questions 21 and 23
 abbrev pub may_recur : Security → ℕ → Ty → ℕ → Answer (Unit {0})
@@ -46,6 +52,8 @@ before_first S tab p (proj d w e) = accepted tt
 before_first S tab p (case w i e a b) = accepted tt
 before_first S tab p (protect m e) = accepted tt
 before_first S tab p (mu w i e) = may_recur S p (tab i) w
+before_first S tab p (literal k n) = accepted tt
+before_first S tab p (reckon o w a b) = accepted tt
 
 -- the first operand's context
 unfoldable pub first_context : (ℕ → Ty) → List Ty → Term → List Ty
@@ -59,6 +67,8 @@ first_context tab Γ (proj d w e) = Γ
 first_context tab Γ (case w i e a b) = Γ
 first_context tab Γ (protect m e) = Γ
 first_context tab Γ (mu w i e) = tab i ∷ Γ
+first_context tab Γ (literal k n) = Γ
+first_context tab Γ (reckon o w a b) = Γ
 
 -- bytes of the front that are not lent for the first operand: an injection's record
 unfoldable pub kept_front : Term → ℕ
@@ -72,6 +82,8 @@ kept_front (proj d w e) = 0
 kept_front (case w i e a b) = 0
 kept_front (protect m e) = 0
 kept_front (mu w i e) = 0
+kept_front (literal k n) = 0
+kept_front (reckon o w a b) = 0
 
 -- a function's type
 abbrev pub function_type : ℕ → Property → Ty → Ty → Answer Ty
@@ -99,10 +111,10 @@ injection_type S p k u wanted t = wanting S p t wanted (node sum k (left u) (rig
 abbrev pub reads : Security → Ty → ℕ → Ty → Ty
 reads S s w t = raise_t S t (S.influence (top s) w)
 
--- reading an object of type s, of this former, with group w: questions 20 and 21
-abbrev pub may_read : Security → ℕ → Former → Ty → ℕ → Answer (Unit {0})
-may_read S p f s w = do
-  q20 p f s
+-- reading an object of type s, of this kind, with group w: questions 20 and 21
+abbrev pub may_read : Security → ℕ → Kind → Ty → ℕ → Answer (Unit {0})
+may_read S p k s w = do
+  ask 20 p (has_kind k s)
   q21 S p s w
 
 -- the side that an injection or a projection names
@@ -113,7 +125,7 @@ side_of second t = right t
 -- a projection's type
 abbrev pub projection_type : Security → ℕ → ℕ → Side → Ty → Answer Ty
 projection_type S p w d t = do
-  may_read S p product t w
+  may_read S p Pair t w
   accepted (reads S t w (side_of d t))
 
 -- one operand of type t
@@ -128,6 +140,8 @@ after_one S tab p (proj d w e) t = projection_type S p w d t
 after_one S tab p (case w i e a b) t = accepted t
 after_one S tab p (protect m e) t = accepted (raise_t S t m)
 after_one S tab p (mu w i e) t = wanting S p t (tab i) (tab i)
+after_one S tab p (literal k n) t = accepted t
+after_one S tab p (reckon o w a b) t = accepted t
 
 -- between the first operand, of type s, and the second: questions 20 and 21
 unfoldable pub between : Security → ℕ → Term → Ty → Answer (Unit {0})
@@ -136,11 +150,13 @@ between S p (unit k) s = accepted tt
 between S p (lam k i e) s = accepted tt
 between S p (pair k a b) s = accepted tt
 between S p (inj d k i e) s = accepted tt
-between S p (app w f a) s = may_read S p function s w
+between S p (app w f a) s = may_read S p Function s w
 between S p (proj d w e) s = accepted tt
-between S p (case w i e a b) s = may_read S p sum s w
+between S p (case w i e a b) s = may_read S p Sum s w
 between S p (protect m e) s = accepted tt
 between S p (mu w i e) s = accepted tt
+between S p (literal k n) s = accepted tt
+between S p (reckon o w a b) s = may_read S p Number s w
 
 -- the second operand's context
 unfoldable pub second_context : List Ty → Term → Ty → List Ty
@@ -154,19 +170,35 @@ second_context Γ (proj d w e) s = Γ
 second_context Γ (case w i e a b) s = left s ∷ Γ
 second_context Γ (protect m e) s = Γ
 second_context Γ (mu w i e) s = Γ
+second_context Γ (literal k n) s = Γ
+second_context Γ (reckon o w a b) s = Γ
+
+-- the property of what is reckoned of operands of types s and t: questions 20 and 21 of the right one
+abbrev pub reckoned : Security → ℕ → ℕ → Ty → Ty → Answer Property
+reckoned S p w s t = do
+  may_read S p Number t w
+  accepted (of_both S w (top s) (top t))
+
+-- its type
+abbrev pub reckoned_type : Security → (ℕ → Ty) → ℕ → Operation → ℕ → Ty → Ty → Answer Ty
+reckoned_type S tab p o w s t = do
+  k ← reckoned S p w s t
+  accepted (number_result tab o k)
 
 -- two operands of types s and t
-unfoldable pub after_two : Security → ℕ → Term → Ty → Ty → Answer Ty
-after_two S p (var n) s t = accepted t
-after_two S p (unit k) s t = accepted t
-after_two S p (lam k i e) s t = accepted t
-after_two S p (pair k a b) s t = pair_type p k s t
-after_two S p (inj d k i e) s t = accepted t
-after_two S p (app w f a) s t = wanting S p t (left s) (reads S s w (right s))
-after_two S p (proj d w e) s t = accepted t
-after_two S p (case w i e a b) s t = accepted t
-after_two S p (protect m e) s t = accepted t
-after_two S p (mu w i e) s t = accepted t
+unfoldable pub after_two : Security → (ℕ → Ty) → ℕ → Term → Ty → Ty → Answer Ty
+after_two S tab p (var n) s t = accepted t
+after_two S tab p (unit k) s t = accepted t
+after_two S tab p (lam k i e) s t = accepted t
+after_two S tab p (pair k a b) s t = pair_type p k s t
+after_two S tab p (inj d k i e) s t = accepted t
+after_two S tab p (app w f a) s t = wanting S p t (left s) (reads S s w (right s))
+after_two S tab p (proj d w e) s t = accepted t
+after_two S tab p (case w i e a b) s t = accepted t
+after_two S tab p (protect m e) s t = accepted t
+after_two S tab p (mu w i e) s t = accepted t
+after_two S tab p (literal k n) s t = accepted t
+after_two S tab p (reckon o w a b) s t = reckoned_type S tab p o w s t
 
 -- bytes of the front that are not lent for a case's second branch: the first one's type, where the case finds its own
 abbrev pub kept_branch : Bytes → ℕ
@@ -227,10 +259,13 @@ pub record Aside (e : Term) (s : Ty) (b : ℕ) (w : Bytes) (n : ℕ) : Type 0 wh
   pub slot : operand_count e ≡ 3 → Beside s b w
 
 -- a node of two operands, when both have their types
-pub record Two (g s : Bytes) (place : ℕ) (w : Bytes) (n m : ℕ) : Type 0 where
+pub record Two (g types s : Bytes) (place : ℕ) (w : Bytes) (n m : ℕ) : Type 0 where
+  pub table : Table types
   pub tree : Term
   pub is : s ≡ encode tree
   pub two : operand_count tree ≡ 2
+  pub binders : ℕ
+  pub formed : Formed types binders tree
   pub first : Ty
   pub second : Ty
   pub sized : Sized w n first

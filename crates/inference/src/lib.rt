@@ -5,27 +5,28 @@
 #![tactic(auto)]
 
 ghost use Rattle.std.specs.Prelude.{◌≡◌, List, ◌∷◌, ℕ, ◌+◌, ◌*◌, ◌≤◌, length, drop, get_or};
-ghost use Rattle.calculus.specs.Types.{Former, sum, Ty, top, raise_t, size_t};
+ghost use Rattle.calculus.specs.Types.{sum, Ty, node, top, raise_t, size_t};
 ghost use Rattle.calculus.specs.Subtyping.{subtype, below};
 ghost use Rattle.calculus.specs.Common.{common};
-ghost use Rattle.calculus.specs.Terms.{Term};
-ghost use Rattle.rules.specs.Answer.{accepted, ask};
+ghost use Rattle.calculus.specs.Terms.{plus, less, Term};
+ghost use Rattle.rules.specs.Answer.{accepted, ◌>>=◌ as bind, ask};
 ghost use Rattle.answer.specs.Said.{said};
 ghost use Rattle.rules.specs.Limits.{type_width, script_width, answer_length};
 ghost use Rattle.rules.specs.Groups.{properties_of};
-ghost use Rattle.rules.specs.Types.{former_kind, type_record, no_type, type_at, encode_type};
+ghost use Rattle.rules.specs.Types.{type_record, no_type, type_at, encode_type};
 ghost use Rattle.rules.specs.Script.{number, encode};
 ghost use Rattle.rules.specs.Typing.{left, right, q22_of_branch, found_or};
 ghost use Rattle.memory.specs.Splice.{splice};
 ghost use Rattle.lattice.specs.Said.{said_property, said_influence};
 ghost use Rattle.types.specs.Held.{Held, Starts, Sided};
 ghost use Rattle.types.specs.Kinds.{kind_number};
+ghost use Rattle.types.specs.declared.Kind.TheVariants.{Sum};
 ghost use Rattle.inference.specs.Sides.{said_side, named_side};
 ghost use Rattle.inference.specs.Memory.{high, Slot, Sized, Holds, Meets, Gives, Ready, Enters, SlotType, SlotSided, Beside};
 ghost use Rattle.inference.specs.Memory.{InScope, TypedFront, Both, Entered};
 ghost use Rattle.inference.specs.Stages.{leaf_type, may_recur, before_first, first_context, kept_front, function_type, pair_type};
 ghost use Rattle.inference.specs.Stages.{injection_type, may_read, after_one, between, second_context, after_two, Leaf, One, Aside};
-ghost use Rattle.inference.specs.Stages.{Some, Two, side_of, reads, wanting, projection_type};
+ghost use Rattle.inference.specs.Stages.{Some, Two, side_of, reads, wanting, projection_type, reckoned, reckoned_type};
 ghost use Rattle.inference.specs.Stages.{kept_branch, result_type, case_type, Case, Branch, Branches};
 
 use answer::{Checked, Question, Refusal};
@@ -79,6 +80,16 @@ fn put(w: &mut [u8], kind: types::Kind, property: Property)
     types::put_property(w, 0, property);
 }
 
+// A type without sides, to the front of the work buffer: one record.
+fn one_record(kind: types::Kind, property: Property, w: &mut [u8]) -> Result<usize, Refusal>
+    requires { answer_length ≤ length w.old }
+    ensures { (t : Ty) → encode_type t ≡ type_record (kind_number kind) (said_property property)
+        → Gives (accepted t) w.old result w.new }
+{
+    put(w, kind, property);
+    Ok(1)
+}
+
 // The part of the types table that starts with the type that the record in front of s names.
 fn named<'a>(types: &'a [u8], s: &[u8]) -> &'a [u8]
     requires { (script_width ≤ length s.now) × (type_width * number s.now 0 ≤ length types.now) }
@@ -129,15 +140,17 @@ fn side_of(s: &[u8], side: Side) -> &[u8]
     &s[from..]
 }
 
-// Questions 20 and 21: the type in front has this former, and r may read the object.
-fn may_read(groups: &[u8], former: types::Kind, r: Reader, place: usize, w: &[u8]) -> Checked
+// Questions 20 and 21: the type in front is of this kind, and r may read the object.
+fn may_read(groups: &[u8], kind: types::Kind, r: Reader, place: usize, w: &[u8]) -> Checked
     requires { Starts w.now }
-    ensures { (f : Former) (t : Ty) → kind_number former ≡ former_kind f → Held w.now t
-        → said result ≡ may_read (properties_of groups.now) place f t r.0 }
+    ensures { (t : Ty) → Held w.now t
+        → said result ≡ may_read (properties_of groups.now) place kind t r.0 }
 {
-    answer::ask(Question::Former, place, types::kind_of(w) == former)?;
+    let of_kind = types::kind_of(w) == kind;
     let own = types::reader(w);
-    answer::ask(Question::Reader, place, own.at_or_below(groups, r))
+    let readable = own.at_or_below(groups, r);
+    answer::ask(Question::Former, place, of_kind)?;
+    answer::ask(Question::Reader, place, readable)
 }
 
 // What reading the object in front as r gives: a side of its type, raised by what the reading leaves.
@@ -163,7 +176,7 @@ fn variable(i: usize, b: usize, w: &mut [u8]) -> Result<usize, Refusal>
     Ok(move_type(w, at, 0))
 }
 
-// Without operands: a variable's type is in its slot, a unit's is one record.
+// Without operands: a variable's type is in its slot, a unit's and a literal's are one record.
 #[tactic(auto, using(crate::proofs::Shapes::long))]
 pub fn leaf(s: &[u8], b: usize, w: &mut [u8]) -> Result<usize, Refusal>
     requires { Leaf s.now b w.old }
@@ -172,10 +185,8 @@ pub fn leaf(s: &[u8], b: usize, w: &mut [u8]) -> Result<usize, Refusal>
 {
     match records::kind_of(s, 0) {
         Kind::Variable => variable(index(s), b, w),
-        _ => {
-            put(w, types::Kind::Unit, records::property(s, 0));
-            Ok(1)
-        }
+        Kind::Literal => one_record(types::Kind::Number, records::property(s, 0), w),
+        _ => one_record(types::Kind::Unit, records::property(s, 0), w),
     }
 }
 
@@ -276,6 +287,17 @@ fn function(
     Ok(count)
 }
 
+// The sum type that t starts with to the front of the work buffer, with another property: its record count.
+fn named_sum(t: &[u8], property: Property, w: &mut [u8]) -> Result<usize, Refusal>
+    requires { SlotSided t.now × (answer_length ≤ length w.old) }
+    ensures { (u : Ty) → Slot t.now u
+        → Gives (accepted (node sum (said_property property) (left u) (right u))) w.old result w.new }
+{
+    let n = copy_type(t, w, 0);
+    put(w, types::Kind::Sum, property);
+    Ok(n)
+}
+
 // An injection of the sum type that t starts with: the operand's type is behind the room of its record. Question 22, and the sides of t.
 fn inject(
     groups: &[u8],
@@ -292,9 +314,7 @@ fn inject(
 {
     let fits = subtyping::is_subtype(groups, &w[TYPE_WIDTH..], side_of(t, side));
     answer::ask(Question::Wanted, place, fits)?;
-    let n = copy_type(t, w, 0);
-    put(w, types::Kind::Sum, property);
-    Ok(n)
+    named_sum(t, property, w)
 }
 
 // A projection of the type in front: questions 20 and 21, and the side.
@@ -366,8 +386,8 @@ pub fn after_one(
 fn test(groups: &[u8], r: Reader, place: usize, b: usize, w: &mut [u8], n: usize) -> Checked
     requires { TypedFront w.old n × (answer_length * (b + 2) ≤ length w.old) }
     ensures { (Γ : List Ty) (t : Ty) → Sized w.old n t → length Γ ≡ b → Holds Γ (high b w.old)
-        → Enters (may_read (properties_of groups.now) place sum t r.0) (left t ∷ Γ) b w.old result w.new
-        × (may_read (properties_of groups.now) place sum t r.0 ≡ accepted tt → Beside t b w.new) }
+        → Enters (may_read (properties_of groups.now) place Sum t r.0) (left t ∷ Γ) b w.old result w.new
+        × (may_read (properties_of groups.now) place Sum t r.0 ≡ accepted tt → Beside t b w.new) }
 {
     let asked = may_read(groups, types::Kind::Sum, r, place, w);
     let Ok(()) = asked else {
@@ -378,8 +398,8 @@ fn test(groups: &[u8], r: Reader, place: usize, b: usize, w: &mut [u8], n: usize
     Ok(())
 }
 
-// Between the first operand and the second: what a pair, an application and a case ask of the first type. It stays in front, or
-// its sides are set aside in the slot of a case's binder.
+// Between the first operand and the second: what is asked of the first type. It stays in front, or its sides are set aside in the
+// slot of a case's binder.
 #[tactic(auto, using(crate::proofs::Shapes::long))]
 pub fn between(groups: &[u8], s: &[u8], place: usize, b: usize, w: &mut [u8], n: usize) -> Checked
     requires { Some s.now b w.old n }
@@ -399,6 +419,9 @@ pub fn between(groups: &[u8], s: &[u8], place: usize, b: usize, w: &mut [u8], n:
                 place,
                 w,
             )
+        }
+        Kind::Sum | Kind::Less => {
+            may_read(groups, types::Kind::Number, records::reader(s, 0), place, w)
         }
         _ => test(groups, records::reader(s, 0), place, b, w, n),
     }
@@ -445,23 +468,70 @@ fn apply(groups: &[u8], r: Reader, place: usize, w: &mut [u8]) -> Result<usize, 
     read_side(groups, r, Side::Second, w)
 }
 
-// After both operands of a pair or an application: its type from theirs.
+// The property of what r reckons of two numbers: the left one's type is in front, the right one's from the next slot's length on, which
+// questions 20 and 21 are put to.
+fn reckoned(groups: &[u8], r: Reader, place: usize, w: &[u8]) -> Result<Property, Refusal>
+    requires { Starts w.now × (Starts (drop answer_length w.now) × (answer_length ≤ length w.now)) }
+    ensures { (s t : Ty) → Held w.now s → Held (drop answer_length w.now) t
+        → bind (said result) (λ k. accepted (said_property k))
+        ≡ reckoned (properties_of groups.now) place r.0 s t }
+{
+    let second = &w[SECOND_PART..];
+    may_read(groups, types::Kind::Number, r, place, second)?;
+    let left = types::property(w);
+    let right = types::property(second);
+    Ok(left.reckoned_with(groups, right, r))
+}
+
+// A sum of two: a number.
+fn total(groups: &[u8], r: Reader, place: usize, w: &mut [u8]) -> Result<usize, Refusal>
+    requires { Starts w.old × (Starts (drop answer_length w.old) × (answer_length ≤ length w.old)) }
+    ensures { (tab : ℕ → Ty) (s t : Ty) → Held w.old s → Held (drop answer_length w.old) t
+        → Gives (reckoned_type (properties_of groups.now) tab place plus r.0 s t) w.old result w.new }
+{
+    let property = reckoned(groups, r, place, w)?;
+    one_record(types::Kind::Number, property, w)
+}
+
+// A less than: the sum type that `flag` starts with, whose own groups aren't read.
+fn comparison(
+    groups: &[u8],
+    flag: &[u8],
+    r: Reader,
+    place: usize,
+    w: &mut [u8],
+) -> Result<usize, Refusal>
+    requires { SlotSided flag.now
+        × (Starts w.old × (Starts (drop answer_length w.old) × (answer_length ≤ length w.old))) }
+    ensures { (tab : ℕ → Ty) (i : ℕ) (s t : Ty) → Slot flag.now (tab i) → Held w.old s
+        → Held (drop answer_length w.old) t
+        → Gives (reckoned_type (properties_of groups.now) tab place (less i) r.0 s t) w.old result w.new }
+{
+    let property = reckoned(groups, r, place, w)?;
+    named_sum(flag, property, w)
+}
+
+// After both operands of a node of two: its type from theirs.
 #[tactic(auto, using(crate::proofs::Shapes::long))]
 pub fn after_two(
     groups: &[u8],
+    types: &[u8],
     s: &[u8],
     place: usize,
     w: &mut [u8],
     n: usize,
     m: usize,
 ) -> Result<usize, Refusal>
-    requires { Two groups.now s.now place w.old n m }
-    ensures { (v : Two groups.now s.now place w.old n m)
-        → Gives (after_two (properties_of groups.now) place v.tree v.first v.second) w.old result w.new }
+    requires { Two groups.now types.now s.now place w.old n m }
+    ensures { (v : Two groups.now types.now s.now place w.old n m)
+        → Gives (after_two (properties_of groups.now) (type_at types.now) place v.tree v.first v.second)
+        w.old result w.new }
 {
     match records::kind_of(s, 0) {
         Kind::Pair => pair(records::property(s, 0), place, w, n, m),
-        _ => apply(groups, records::reader(s, 0), place, w),
+        Kind::Application => apply(groups, records::reader(s, 0), place, w),
+        Kind::Sum => total(groups, records::reader(s, 0), place, w),
+        _ => comparison(groups, named(types, s), records::reader(s, 0), place, w),
     }
 }
 

@@ -4,6 +4,7 @@
 #![tactic(auto)]
 
 ghost use Rattle.std.specs.Prelude.{◌≡◌, ℕ, ◌≤◌, ◌<◌, ltb, length};
+ghost use Rattle.calculus.specs.Numbers.{of_both};
 ghost use Rattle.rules.specs.Answer.{byte};
 ghost use Rattle.rules.specs.Limits.{group_limit};
 ghost use Rattle.rules.specs.Groups.{rows, row, bit, leq, join, below_both, meet, properties_of};
@@ -332,6 +333,22 @@ impl Property {
         let ir = self.ir;
         let ic = self.ic.read_by(groups, reader);
         Influence { ir, ic }
+    }
+
+    // What reckoning by this group gives of a left operand of this property and a right one: nobody's readers and the group as
+    // creators, raised by the left's influence and then by the right's. So neither operand's r and c enter.
+    pub fn reckoned_with(self, groups: &[u8], right: Property, reader: Reader) -> Property
+        ensures { said_property result ≡ of_both (properties_of groups.now) reader.0 (said_property self) (said_property right) }
+    {
+        let r = Reader(0);
+        let ir = Indirect(0);
+        let c = Creator(reader.0);
+        let ic = IndirectCreator(reader.0);
+        let first = self.influence(groups, reader);
+        let second = right.influence(groups, reader);
+        Property { r, ir, c, ic }
+            .raised(groups, first)
+            .raised(groups, second)
     }
 
     // Question 23: may a result of this property be read through a function of property `through`, called as this group?

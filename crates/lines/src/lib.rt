@@ -3,14 +3,14 @@
 #![tactic(auto)]
 
 ghost use Rattle.std.specs.Prelude.{◌++◌};
-ghost use Rattle.rules.specs.Report.{decimal, refusal_line, accepted_line, run_line, sheet_line, sheet_lines};
+ghost use Rattle.rules.specs.Report.{decimal, refusal_line, accepted_line, run_line, printed_number, sheet_line, sheet_lines};
 ghost use Rattle.answer.specs.Numbers.{number};
 ghost use Rattle.memory.specs.Written.{Room, Written};
 
 use answer::Refusal;
 use lattice::{Indirect, Reader};
 use memory::Writer;
-use sheet::SHEET_WIDTH;
+use sheet::{SHEET_WIDTH, Shown};
 use words::Table;
 
 // A word and a number.
@@ -57,15 +57,26 @@ pub fn run_line(text: &mut Writer, end: u64, steps: u64, records: u64)
     text.put(b"\n");
 }
 
-// "closed 0 0", in the words of a table
+// A literal's number, and nothing of all else.
+fn printed_number(text: &mut Writer, kind: u8, number: u16)
+    requires { Room (printed_number kind number) text.old }
+    ensures { Written (printed_number kind number) text.old text.new }
+{
+    if kind == Shown::Number.number() {
+        named(text, b" ", u64::from(number));
+    }
+}
+
+// "closed 0 0" or "number 0 0 7", in the words of a table
 #[tactic(auto, unfolding(rules::specs::Report::sheet_line, rules::specs::Report::text), using(memory::proofs::Placed::room_first, memory::proofs::Placed::room_next))]
-fn sheet_line(text: &mut Writer, words: &Table, kind: u8, r: Reader, ir: Indirect)
-    requires { Room (sheet_line words.now kind r.0 ir.0) text.old }
-    ensures { Written (sheet_line words.now kind r.0 ir.0) text.old text.new }
+fn sheet_line(text: &mut Writer, words: &Table, kind: u8, r: Reader, ir: Indirect, number: u16)
+    requires { Room (sheet_line words.now kind r.0 ir.0 number) text.old }
+    ensures { Written (sheet_line words.now kind r.0 ir.0 number) text.old text.new }
 {
     text::word(text, words, kind);
     named(text, b" ", u64::from(r.0));
     named(text, b" ", u64::from(ir.0));
+    printed_number(text, kind, number);
     text.put(b"\n");
 }
 
@@ -81,6 +92,7 @@ pub fn sheet_lines(text: &mut Writer, words: &Table, sheet: &[u8])
             record[0],
             Reader(record[1]),
             Indirect(record[2]),
+            u16::from_le_bytes([record[4], record[5]]),
         );
     }
 }

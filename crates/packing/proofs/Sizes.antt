@@ -3,12 +3,13 @@
 use Rattle.std.proofs.Common.{◌≡◌, refl, Bool, true, false, cond, ◌||◌, List, [], ◌∷◌, ◌++◌, ℕ, zero, suc, ◌+◌, ◌*◌, ◌≤◌, arith, leb-true, ltb-false, length, get_or, length-append}
 use Rattle.std.proofs.Math.Option.{Option, none, some}
 use Rattle.calculus.specs.Security.{Property, Reader, Indirect, Security}
-use Rattle.calculus.specs.Types.{Former, sum, product, function, Ty, one, node, top, raise_t, size_t, fits, type_limit}
-use Rattle.calculus.specs.Terms.{Side, first, second, choose, Term, var, unit, lam, pair, inj, app, proj, case, protect, mu, is_value}
+use Rattle.calculus.specs.Types.{one, number, Former, sum, product, function, Ty, leaf, node, top, raise_t, size_t, fits, type_limit}
+use Rattle.calculus.specs.Terms.{Side, first, second, choose, Operation, plus, less, Term, var, unit, lam, pair, inj, app, proj, case, protect, mu, literal, reckon, is_value}
 use Rattle.calculus.specs.Reduction.{Outcome, value, moved, denied, stuck, step}
 use Rattle.calculus.specs.Subtyping.{below}
 use Rattle.calculus.specs.Common.{common}
 use Rattle.calculus.specs.Typing.{finds_own}
+use Rattle.calculus.specs.Numbers.{of_both}
 use Rattle.calculus.proofs.Raising.{raise_size}
 use Rattle.calculus.proofs.Common.{common_size}
 use Rattle.rules.specs.Answer.{Bytes, Answer, accepted, refused, ◌>>=◌, ◌>>◌, ask}
@@ -16,10 +17,10 @@ use Rattle.rules.specs.Limits.{sheet_width, script_limit}
 use Rattle.rules.specs.Groups.{leq}
 use Rattle.rules.specs.Types.{no_type}
 use Rattle.rules.specs.Script.{size}
-use Rattle.rules.specs.Typing.{left, right, q20, q21, q22, q23, q24, found_or, typing}
+use Rattle.rules.specs.Typing.{left, right, q20, q20_number, q21, q22, q23, q24, found_or, number_result, typing}
 use Rattle.rules.specs.Step.{End, at_value, moves, may_not, wrong_kind, too_big, exceeds, limited, step_in}
 use Rattle.rules.specs.Run.{Ran, run}
-use Rattle.rules.specs.Sheet.{sheet}
+use Rattle.rules.specs.Sheet.{shown_record, sheet}
 
 -- ---- found types
 
@@ -44,12 +45,12 @@ asked_size p s = go (fits s) refl
 
 left_size : (s : Ty) → size_t s ≤ type_limit → size_t (left s) ≤ type_limit
 unfolding size_t
-left_size (one k) l = omega arith
+left_size (leaf b k) l = omega arith
 left_size (node f k s t) l = omega arith
 
 right_size : (s : Ty) → size_t s ≤ type_limit → size_t (right s) ≤ type_limit
 unfolding size_t
-right_size (one k) l = omega arith
+right_size (leaf b k) l = omega arith
 right_size (node f k s t) l = omega arith
 
 side_size : (d : Side) (s : Ty) → size_t s ≤ type_limit → size_t (choose d (left s) (right s)) ≤ type_limit
@@ -58,11 +59,17 @@ side_size second s l = right_size s l
 
 sides_size : (f : Former) (k : Property) (s : Ty) → size_t s ≤ type_limit → size_t (node f k (left s) (right s)) ≤ type_limit
 unfolding size_t
-sides_size f k (one k') l = omega arith
+sides_size f k (leaf b k') l = omega arith
 sides_size f k (node f' k' s t) l = omega arith
 
 raised : (S : Security) (s : Ty) (m : Indirect) → size_t s ≤ type_limit → size_t (raise_t S s m) ≤ type_limit
 raised S s m l = omega (arith, raise_size S s m)
+
+-- a number's type has one record, and that of less than the records of the type that it names
+reckoned_size : (tab : ℕ → Ty) → ((i : ℕ) → size_t (tab i) ≤ type_limit) → (o : Operation) (k : Property) → size_t (number_result tab o k) ≤ type_limit
+unfolding size_t
+reckoned_size tab T plus k = omega arith
+reckoned_size tab T (less i) k = sides_size sum k (tab i) (T i)
 
 -- every type of a context
 abbrev Smalls : List Ty → Type 0
@@ -121,10 +128,18 @@ module _ (S : Security) (p : ℕ) where
       → Small (◌>>◌ (q21 S p a w) (◌>>◌ (q23 S p a w) (◌>>=◌ m (λ s. ◌>>◌ (q22 S p s a) (accepted a)))))
   mu_small w a m l x = then (q21 S p a w) _ (then (q23 S p a w) _ (bind m _ x (λ s h. then (q22 S p s a) _ (small_yes {s = a} l))))
 
+  reckon_small : (tab : ℕ → Ty) → ((i : ℕ) → size_t (tab i) ≤ type_limit) → (o : Operation) (w : Reader) (m m' : Answer Ty) → Small m → Small m'
+      → Small (◌>>=◌ m (λ s. ◌>>◌ (q20_number p s) (◌>>◌ (q21 S p s w)
+      (◌>>=◌ m' (λ t. ◌>>◌ (q20_number p t) (◌>>◌ (q21 S p t w) (accepted (number_result tab o (of_both S w (top s) (top t))))))))))
+  reckon_small tab T o w m m' x y =
+      bind m _ x (λ s h. then (q20_number p s) _ (then (q21 S p s w) _ (bind m' _ y
+      (λ t l. then (q20_number p t) _ (then (q21 S p t w) _
+      (small_yes {s = number_result tab o (of_both S w (top s) (top t))} (reckoned_size tab T o (of_both S w (top s) (top t)))))))))
+
 pub typing_small : (S : Security) (tab : ℕ → Ty) (T : (i : ℕ) → size_t (tab i) ≤ type_limit) (Γ : List Ty) → Smalls Γ → (p : ℕ) (e : Term) → Small (typing S tab Γ p e)
 unfolding typing size_t
 typing_small S tab T Γ h p (var n) = small_yes {s = get_or Γ n no_type} (h n)
-typing_small S tab T Γ h p (unit k) = small_yes {s = one k} (omega arith)
+typing_small S tab T Γ h p (unit k) = small_yes {s = leaf one k} (omega arith)
 typing_small S tab T Γ h p (lam k i e) =
     bind (typing S tab (tab i ∷ Γ) (1 + p) e) _ (typing_small S tab T (tab i ∷ Γ) (more (tab i) Γ (T i) h) (1 + p) e) (λ s l. asked_size p (node function k (tab i) s))
 typing_small S tab T Γ h p (pair k a b) =
@@ -142,6 +157,9 @@ typing_small S tab T Γ h p (protect m e) =
     bind (typing S tab Γ (1 + p) e) _ (typing_small S tab T Γ h (1 + p) e) (λ s l. small_yes {s = raise_t S s m} (raised S s m l))
 typing_small S tab T Γ h p (mu w i e) =
     mu_small S p (S.caller (top (tab i)) w) (tab i) (typing S tab (tab i ∷ Γ) (1 + p) e) (T i) (typing_small S tab T (tab i ∷ Γ) (more (tab i) Γ (T i) h) (1 + p) e)
+typing_small S tab T Γ h p (literal k n) = small_yes {s = leaf number k} (omega arith)
+typing_small S tab T Γ h p (reckon o w a b) =
+    reckon_small S p tab T o w (typing S tab Γ (1 + p) a) (typing S tab Γ (1 + p + size a) b) (typing_small S tab T Γ h (1 + p) a) (typing_small S tab T Γ h (1 + p + size a) b)
 
 pub no_binders : Smalls []
 no_binders = no_types
@@ -200,20 +218,20 @@ module _ (S : Security) (tab : ℕ → Ty) (room : ℕ) where
 -- ---- sheets
 
 -- an object's record, alone or with the sheets of its parts behind it
-own_record : (told : Bool) (kind r ir : ℕ) → length (cond told (kind ∷ r ∷ ir ∷ 0 ∷ []) (5 ∷ 0 ∷ 0 ∷ 0 ∷ [])) ≤ sheet_width
-own_record true kind r ir = omega arith
-own_record false kind r ir = omega arith
+own_record : (told : Bool) (kind r ir n : ℕ) → length (cond told (shown_record kind r ir n) (shown_record 5 0 0 0)) ≤ sheet_width
+own_record true kind r ir n = omega arith
+own_record false kind r ir n = omega arith
 
 with_parts : (told : Bool) (kind r ir : ℕ) (parts : Bytes) (n : ℕ) → length parts ≤ sheet_width * n
-    → length (cond told (kind ∷ r ∷ ir ∷ 0 ∷ []) (5 ∷ 0 ∷ 0 ∷ 0 ∷ []) ++ cond told parts []) ≤ sheet_width * (1 + n)
+    → length (cond told (shown_record kind r ir 0) (shown_record 5 0 0 0) ++ cond told parts []) ≤ sheet_width * (1 + n)
 with_parts true kind r ir parts n l = omega (arith, l)
 with_parts false kind r ir parts n l = omega arith
 
 pub sheet_length : (t : Bytes) (g : ℕ) (e : Term) → length (sheet t g e) ≤ sheet_width * size e
 unfolding sheet size
 sheet_length t g (var n) = omega arith
-sheet_length t g (unit k) = own_record (leq t k.r g) 0 k.r k.ir
-sheet_length t g (lam k i e) = omega (arith, own_record (leq t k.r g) 4 k.r k.ir)
+sheet_length t g (unit k) = own_record (leq t k.r g) 0 k.r k.ir 0
+sheet_length t g (lam k i e) = omega (arith, own_record (leq t k.r g) 4 k.r k.ir 0)
 sheet_length t g (pair k a b) =
     with_parts (leq t k.r g) 3 k.r k.ir (sheet t g a ++ sheet t g b) (size a + size b)
     (omega (arith, length-append (sheet t g a) (sheet t g b), sheet_length t g a, sheet_length t g b))
@@ -223,3 +241,5 @@ sheet_length t g (proj d w e) = omega arith
 sheet_length t g (case w i e a b) = omega arith
 sheet_length t g (protect m e) = omega arith
 sheet_length t g (mu w i e) = omega arith
+sheet_length t g (literal k n) = own_record (leq t k.r g) 6 k.r k.ir n
+sheet_length t g (reckon o w a b) = omega arith

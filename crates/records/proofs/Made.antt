@@ -1,7 +1,7 @@
 -- A term is made of its own record and its operands, so its kind alone tells its form.
 use Rattle.std.proofs.Common.{◌≡◌, refl, ap, sym, subst, ◌∙◌, ℕ}
 use Rattle.calculus.specs.Security.{Property, Indirect}
-use Rattle.calculus.specs.Terms.{first, second, Term, var, unit, lam, pair, inj, app, proj, case, protect, mu}
+use Rattle.calculus.specs.Terms.{first, second, plus, less, Term, var, unit, lam, pair, inj, app, proj, case, protect, mu, literal, reckon}
 use Rattle.rules.specs.Answer.{Bytes}
 use Rattle.rules.specs.Limits.{script_width}
 use Rattle.rules.specs.Script.{r, ir, c, ic, number, make}
@@ -43,6 +43,9 @@ made (proj second w e) = refl
 made (case w i e a b) = ap (λ n. case w n e a b) (sym (two_bytes i))
 made (protect m e) = refl
 made (mu w i e) = ap (λ n. mu w n e) (sym (two_bytes i))
+made (literal k n) = ap (literal k) (sym (two_bytes n))
+made (reckon plus w a b) = refl
+made (reckon (less i) w a b) = ap (λ n. reckon (less n) w a b) (sym (two_bytes i))
 
 of_kind : (k : ℕ) (e : Term) → kind_of e ≡ k → e ≡ form k e
 of_kind k e h = made e ∙ ap (λ n. form n e) h

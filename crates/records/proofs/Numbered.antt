@@ -4,7 +4,7 @@ use Rattle.records.specs.Numbers.{kind_number}
 use Rattle.records.specs.declared.Kind.{Kind}
 use Rattle.records.specs.contracts.Kind.{the_type}
 use denote.Enum.Bare.{sameb}
-use Rattle.records.specs.declared.Kind.TheVariants.{Variable, Unit, Function, Pair, FirstInjection, SecondInjection, Application, FirstProjection, SecondProjection, Case, Protect, Recursion}
+use Rattle.records.specs.declared.Kind.TheVariants.{Variable, Unit, Function, Pair, FirstInjection, SecondInjection, Application, FirstProjection, SecondProjection, Case, Protect, Recursion, Literal, Sum, Less}
 
 pub same_kind : (k l : Kind) → kind_number k ≡ kind_number l → k ≡ l
 same_kind Variable Variable e = refl
@@ -19,6 +19,9 @@ same_kind SecondProjection SecondProjection e = refl
 same_kind Case Case e = refl
 same_kind Protect Protect e = refl
 same_kind Recursion Recursion e = refl
+same_kind Literal Literal e = refl
+same_kind Sum Sum e = refl
+same_kind Less Less e = refl
 same_kind k l e = absurd (omega arith)
 
 -- the derived test of equality

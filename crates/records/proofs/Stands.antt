@@ -1,7 +1,7 @@
 -- A term that stands at a record: its record's kind, and where its operands stand.
 use Rattle.std.proofs.Common.{◌≡◌, refl, ap, sym, ◌∙◌, List, [], ◌∷◌, ◌++◌, append_assoc, append-nil, ℕ, suc, ◌+◌, ◌*◌, ◌-◌, ◌≤◌, ◌<◌, arith, length, take, drop, length-append, length-drop}
 use Rattle.std.proofs.Math.Option.{some}
-use Rattle.calculus.specs.Terms.{first, second, Term, var, unit, lam, pair, inj, app, proj, case, protect, mu}
+use Rattle.calculus.specs.Terms.{first, second, plus, less, Term, var, unit, lam, pair, inj, app, proj, case, protect, mu, literal, reckon}
 use Rattle.rules.specs.Answer.{Bytes, byte}
 use Rattle.rules.specs.Limits.{script_width}
 use Rattle.rules.specs.Script.{kind, records, encode, size, term, term_end, arity}
@@ -84,6 +84,8 @@ listed (proj d w e) = refl
 listed (case w i e a b) = refl
 listed (protect m e) = refl
 listed (mu w i e) = refl
+listed (literal k n) = refl
+listed (reckon o w a b) = refl
 
 moved : {s : Bytes} {e : Term} (i j : ℕ) (rest : Bytes) → i ≡ j → drop (script_width * i) s ≡ encode e ++ rest → At s j e
 moved {s} i j rest p h = record { rest = rest; stands = ap (λ n. drop (script_width * n) s) (sym p) ∙ h }
@@ -118,7 +120,7 @@ unfolding term_end
 stands_end s i e w = tree_end term_prefix e s i (records s - i) w.rest (omega (arith, room s i e w)) w.stands
 
 -- every term's record has a kind
-known : (e : Term) → kind_of e ≤ kinds.recursion
+known : (e : Term) → kind_of e ≤ kinds.less
 known (var n) = omega arith
 known (unit k) = omega arith
 known (lam k i e) = omega arith
@@ -131,6 +133,9 @@ known (proj second w e) = omega arith
 known (case w i e a b) = omega arith
 known (protect m e) = omega arith
 known (mu w i e) = omega arith
+known (literal k n) = omega arith
+known (reckon plus w a b) = omega arith
+known (reckon (less i) w a b) = omega arith
 
-pub stands_known : (s : Bytes) (i : ℕ) (e : Term) → At s i e → kind s i ≤ kinds.recursion
+pub stands_known : (s : Bytes) (i : ℕ) (e : Term) → At s i e → kind s i ≤ kinds.less
 stands_known s i e w = omega (arith, stands_kind s i e w, known e)

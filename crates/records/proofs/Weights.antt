@@ -1,6 +1,6 @@
 -- The weight of a record is that of the node that it starts.
 use Rattle.std.proofs.Common.{◌≡◌, refl, Bool, true, false, cond, ◌&&◌, ℕ, ◌≤◌, arith, eqb}
-use Rattle.calculus.specs.Terms.{first, second, Term, var, unit, lam, pair, inj, app, proj, case, protect, mu}
+use Rattle.calculus.specs.Terms.{first, second, plus, less, Term, var, unit, lam, pair, inj, app, proj, case, protect, mu, literal, reckon}
 use Rattle.calculus.specs.Typing.{finds_own}
 use Rattle.rules.specs.Answer.{Bytes}
 use Rattle.rules.specs.Script.{weight}
@@ -23,6 +23,9 @@ node_weight (proj second w e) = refl
 node_weight (case w i e a b) = rw (two_bytes i)
 node_weight (protect m e) = refl
 node_weight (mu w i e) = refl
+node_weight (literal k n) = refl
+node_weight (reckon plus w a b) = refl
+node_weight (reckon (less i) w a b) = refl
 
 pub stands_weight : {s : Bytes} {i : ℕ} {e : Term} → At s i e → weight_at s i ≡ weight_of e
 stands_weight {s} {i} {e} a = rw (stands_kind s i e a, number_at a) (node_weight e)
@@ -46,3 +49,5 @@ weights (proj d w e) = (omega arith, omega arith)
 weights (case w i e a b) = weight_bounds i
 weights (protect m e) = (omega arith, omega arith)
 weights (mu w i e) = (omega arith, omega arith)
+weights (literal k n) = (omega arith, omega arith)
+weights (reckon o w a b) = (omega arith, omega arith)

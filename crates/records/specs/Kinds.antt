@@ -37,6 +37,15 @@ protect = 10
 abbrev pub recursion : ℕ
 recursion = 11
 
+abbrev pub literal : ℕ
+literal = 12
+
+abbrev pub sum : ℕ
+sum = 13
+
+abbrev pub less : ℕ
+less = 14
+
 -- Is it the kind of an injection, the first or the second?
 abbrev pub is_injection : ℕ → Bool
 is_injection kind = eqb kind first_injection || eqb kind second_injection

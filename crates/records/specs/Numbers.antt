@@ -15,6 +15,9 @@ use Rattle.records.specs.declared.Kind.TheVariants.{
   Case,
   Protect,
   Recursion,
+  Literal,
+  Sum,
+  Less,
 }
 use Rattle.records.specs.declared.UnknownKind.{UnknownKind}
 
@@ -31,11 +34,14 @@ kind_number SecondProjection = kinds.second_projection
 kind_number Case = kinds.case
 kind_number Protect = kinds.protect
 kind_number Recursion = kinds.recursion
+kind_number Literal = kinds.literal
+kind_number Sum = kinds.sum
+kind_number Less = kinds.less
 
 -- the kind of this number, if there is one
 abbrev pub KindIs : ℕ → Option Kind → Type 0
-KindIs n o = MatchOption o (kinds.recursion < n) (λ k. kind_number k ≡ n)
+KindIs n o = MatchOption o (kinds.less < n) (λ k. kind_number k ≡ n)
 
 -- the same, of a number that is turned into a kind
 abbrev pub Names : ℕ → Result Kind UnknownKind → Type 0
-Names n r = MatchResult r (λ k. kind_number k ≡ n) (λ e. (e.0 ≡ n) × (kinds.recursion < n))
+Names n r = MatchResult r (λ k. kind_number k ≡ n) (λ e. (e.0 ≡ n) × (kinds.less < n))

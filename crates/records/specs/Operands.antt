@@ -1,5 +1,5 @@
 -- The operands of a term, in script order. Each is total: a term stands for those that it lacks, and no rule uses them.
-use Rattle.calculus.specs.Terms.{Term, var, unit, lam, pair, inj, app, proj, case, protect, mu}
+use Rattle.calculus.specs.Terms.{Term, var, unit, lam, pair, inj, app, proj, case, protect, mu, literal, reckon}
 
 abbrev pub first_operand : Term → Term
 first_operand (var n) = var n
@@ -12,6 +12,8 @@ first_operand (proj d w e) = e
 first_operand (case w i e a b) = e
 first_operand (protect m e) = e
 first_operand (mu w i e) = e
+first_operand (literal k n) = literal k n
+first_operand (reckon o w a b) = a
 
 abbrev pub second_operand : Term → Term
 second_operand (var n) = var n
@@ -24,6 +26,8 @@ second_operand (proj d w e) = e
 second_operand (case w i e a b) = a
 second_operand (protect m e) = e
 second_operand (mu w i e) = e
+second_operand (literal k n) = literal k n
+second_operand (reckon o w a b) = b
 
 abbrev pub third_operand : Term → Term
 third_operand (var n) = var n
@@ -36,3 +40,5 @@ third_operand (proj d w e) = e
 third_operand (case w i e a b) = b
 third_operand (protect m e) = e
 third_operand (mu w i e) = e
+third_operand (literal k n) = literal k n
+third_operand (reckon o w a b) = b

@@ -1,6 +1,6 @@
 -- Item 3: the operands of a case that finds its own type "have its own depth plus two", and those of any other record plus one.
 use Rattle.std.specs.Prelude.{cond, ℕ}
-use Rattle.calculus.specs.Terms.{Term, var, unit, lam, pair, inj, app, proj, case, protect, mu}
+use Rattle.calculus.specs.Terms.{Term, var, unit, lam, pair, inj, app, proj, case, protect, mu, literal, reckon}
 use Rattle.rules.specs.Answer.{Bytes}
 use Rattle.rules.specs.Script.{own_at, weight}
 
@@ -20,3 +20,5 @@ weight_of (proj d w e) = 1
 weight_of (case w i e a b) = weight i
 weight_of (protect m e) = 1
 weight_of (mu w i e) = 1
+weight_of (literal k n) = 1
+weight_of (reckon o w a b) = 1

@@ -35,6 +35,9 @@ pub enum Kind {
     Case,
     Protect,
     Recursion,
+    Literal,
+    Sum,
+    Less,
 }
 
 // A number that no kind has.
@@ -60,6 +63,9 @@ impl TryFrom<u8> for Kind {
             9 => Ok(Kind::Case),
             10 => Ok(Kind::Protect),
             11 => Ok(Kind::Recursion),
+            12 => Ok(Kind::Literal),
+            13 => Ok(Kind::Sum),
+            14 => Ok(Kind::Less),
             _ => Err(UnknownKind(n)),
         }
     }
@@ -90,6 +96,9 @@ impl Kind {
             Kind::Case => entry(3, true, false, true, true),
             Kind::Protect => entry(1, false, true, false, false),
             Kind::Recursion => entry(1, true, false, true, true),
+            Kind::Literal => entry(0, true, true, true, false),
+            Kind::Sum => entry(2, true, false, false, false),
+            Kind::Less => entry(2, true, false, true, true),
         }
     }
 
@@ -112,13 +121,18 @@ impl Kind {
         }
     }
 
-    // Kinds 1 to 5.
+    // Kinds 1 to 5, and 12.
     pub fn is_object(self) -> bool
         ensures { result ≡ is_object (kind_number self) }
     {
         matches!(
             self,
-            Kind::Unit | Kind::Function | Kind::Pair | Kind::FirstInjection | Kind::SecondInjection
+            Kind::Unit
+                | Kind::Function
+                | Kind::Pair
+                | Kind::FirstInjection
+                | Kind::SecondInjection
+                | Kind::Literal
         )
     }
 

@@ -18,11 +18,11 @@ use Rattle.records.proofs.Stands.{kind_of, stands_kind, at_first, here}
 use Rattle.rules.proofs.TypePlaces.{type_at_outside}
 use Rattle.types.specs.Held.{type_property}
 use Rattle.redex.specs.Fates.{goes, wrong_kind, is_function, reading_fate, fate}
-use Rattle.records.specs.Operands.{first_operand}
-use Rattle.redex.specs.Found.{answer, is_destructor, takes_apart}
+use Rattle.records.specs.Operands.{first_operand, second_operand}
+use Rattle.redex.specs.Found.{answer, is_destructor, is_reckoning, Reckons, takes_apart}
 use Rattle.records.proofs.Made.{number_at}
 use Rattle.redex.proofs.Places.{reader_at}
-use Rattle.redex.proofs.Forms.{recursion_turn, destructor_operand, reading_is}
+use Rattle.redex.proofs.Forms.{recursion_turn, destructor_operand, reading_is, reckoning_is}
 
 -- a type is a function by its first byte
 made_function : (k : ℕ) (p : Property) (s t : Ty) → eqb k 3 ≡ is_function (make_type k p s t)
@@ -30,7 +30,8 @@ made_function zero p s t = refl
 made_function (suc zero) p s t = refl
 made_function (suc (suc zero)) p s t = refl
 made_function (suc (suc (suc zero))) p s t = refl
-made_function (suc (suc (suc (suc k)))) p s t = ne_eqb (suc (suc (suc (suc k)))) 3 (λ e. omega arith)
+made_function (suc (suc (suc (suc zero)))) p s t = refl
+made_function (suc (suc (suc (suc (suc k))))) p s t = ne_eqb (suc (suc (suc (suc (suc k))))) 3 (λ e. omega arith)
 
 first_function : (b : Bytes) → type_width ≤ length b → eqb (byte b 0) 3 ≡ is_function (get_or (parse_types b) 0 no_type)
 unfolding parse_types
@@ -72,7 +73,8 @@ made_top zero p s t h = absurd (false≢true h)
 made_top (suc zero) p s t h = absurd (false≢true h)
 made_top (suc (suc zero)) p s t h = absurd (false≢true h)
 made_top (suc (suc (suc zero))) p s t h = refl
-made_top (suc (suc (suc (suc k)))) p s t h = absurd (false≢true h)
+made_top (suc (suc (suc (suc zero)))) p s t h = absurd (false≢true h)
+made_top (suc (suc (suc (suc (suc k))))) p s t h = absurd (false≢true h)
 
 first_top : (b : Bytes) → So (is_function (get_or (parse_types b) 0 no_type))
     → top (get_or (parse_types b) 0 no_type) ≡ type_property b 0
@@ -120,3 +122,20 @@ module _ {s : Bytes} {i : ℕ} {e : Term} (a : At s i e) where
       (ap₂ reading_fate (sym p) (sym q)
       ∙ ap₂ reading_fate (ap₂ takes_apart k (stands_kind s (i + 1) (first_operand e) o)) (ap₂ (leq g) (reader_at o) (reader_at a))
       ∙ sym z)
+
+  -- of a sum or a comparison, by its own record and those of its two operands
+  pub reckoning_answer : (g : Bytes) (tab : ℕ → Ty) (j d : ℕ) (fits may : Bool) → Reckons s i j e
+      → (eqb (kind s (i + 1)) kinds.literal && eqb (kind s j) kinds.literal) ≡ fits → (leq g (r s (i + 1)) (r s i) && leq g (r s j) (r s i)) ≡ may
+      → answer (reading_fate fits may) i d ≡ answer (fate (properties_of g) tab e) i d
+  reckoning_answer g tab j d fits may q p m =
+      let x : So (is_reckoning (kind_of e)) = subst (λ n. So (is_reckoning n)) (stands_kind s i e a) q.reckons in
+      rw (
+        ← p,
+        ← m,
+        reckoning_is (properties_of g) tab e x,
+        stands_kind s (i + 1) (first_operand e) q.left,
+        stands_kind s j (second_operand e) q.right,
+        reader_at q.left,
+        reader_at q.right,
+        reader_at a,
+      )

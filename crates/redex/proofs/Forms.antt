@@ -1,11 +1,12 @@
 -- What a node does by its kind: which operand it evaluates next, when it is a value, when its own turn comes, and its fate.
-use Rattle.std.proofs.Common.{◌≡◌, refl, cond, ℕ, ◌+◌, ◌≤◌, ◌⊎◌, inl, inr, arith, eqb}
+use Rattle.std.proofs.Common.{◌≡◌, refl, cond, ◌&&◌, ℕ, ◌+◌, ◌≤◌, ◌⊎◌, inl, inr, arith, eqb}
 use Rattle.std.proofs.Math.Bool.{So}
 use Rattle.std.proofs.lemmas.Bool.{false≢true}
-use Rattle.calculus.specs.Security.{Security}
-use Rattle.calculus.specs.Types.{sum, product, function, Ty}
-use Rattle.calculus.specs.Terms.{first, second, Term, var, unit, lam, pair, inj, app, proj, case, protect, mu, is_value}
-use Rattle.calculus.specs.Reduction.{Context, hole, app_left, app_right, in_proj, in_inj, pair_left, pair_right, in_protect, in_case, plug}
+use Rattle.calculus.specs.Security.{Reader, Security}
+use Rattle.calculus.specs.Types.{sum, product, function, Ty, exists}
+use Rattle.calculus.specs.Terms.{first, second, Operation, plus, less, Term, var, unit, lam, pair, inj, app, proj, case, protect, mu, literal, reckon, is_value}
+use Rattle.calculus.specs.Numbers.{literal_of}
+use Rattle.calculus.specs.Reduction.{Context, hole, app_left, app_right, in_proj, in_inj, pair_left, pair_right, in_protect, in_case, reckon_left, reckon_right, plug}
 use Rattle.calculus.specs.Stuck.{built_by}
 use Rattle.calculus.proofs.Booleans.{both}
 use Rattle.rules.specs.Script.{size}
@@ -17,7 +18,7 @@ use Rattle.records.proofs.Stands.{kind_of, operands}
 use Rattle.records.proofs.Made.{number_of, by_kind}
 use Rattle.redex.specs.Contexts.{offset, level}
 use Rattle.redex.specs.Fates.{goes, wrong_kind, property_of, is_function, ready, reading_fate, fate}
-use Rattle.redex.specs.Found.{is_destructor, takes_apart}
+use Rattle.redex.specs.Found.{is_destructor, is_reckoning, takes_apart}
 
 -- x is the operand that e evaluates next, n records on and m levels down
 pub record Position (e x : Term) (n m : ℕ) : Type 0 where
@@ -29,26 +30,29 @@ pub record Position (e x : Term) (n m : ℕ) : Type 0 where
 -- e evaluates its first operand: all do but those without one and those with a binder over it
 abbrev pub Evaluates : Term → Type 0
 Evaluates e =
-    (kind_of e ≡ kinds.variable → ⊥) × (kind_of e ≡ kinds.unit → ⊥) × (kind_of e ≡ kinds.function → ⊥) × (kind_of e ≡ kinds.recursion → ⊥)
+    (kind_of e ≡ kinds.variable → ⊥) × (kind_of e ≡ kinds.unit → ⊥) × (kind_of e ≡ kinds.literal → ⊥) × (kind_of e ≡ kinds.function → ⊥)
+    × (kind_of e ≡ kinds.recursion → ⊥)
 
 pub first_position : (e : Term) → Evaluates e → (m : ℕ) → m ≡ weight_of e → Position e (first_operand e) 1 m
 unfolding plug offset level
 first_position (var n) v m h = absurd (v.0 refl)
 first_position (unit k) v m h = absurd (v.1 refl)
-first_position (lam k i e) v m h = absurd (v.2 refl)
+first_position (lam k i e) v m h = absurd (v.3 refl)
 first_position (pair k a b) v m h = record { context = pair_left k hole b; whole = refl; under = omega (arith, h); from = refl }
 first_position (inj d k i e) v m h = record { context = in_inj d k i hole; whole = refl; under = omega (arith, h); from = refl }
 first_position (app w f a) v m h = record { context = app_left w hole a; whole = refl; under = omega (arith, h); from = refl }
 first_position (proj d w e) v m h = record { context = in_proj d w hole; whole = refl; under = omega (arith, h); from = refl }
 first_position (case w i e a b) v m h = record { context = in_case w i hole a b; whole = refl; under = omega (arith, h); from = refl }
 first_position (protect i e) v m h = record { context = in_protect i hole; whole = refl; under = omega (arith, h); from = refl }
-first_position (mu w i e) v m h = absurd (v.3 refl)
+first_position (mu w i e) v m h = absurd (v.4 refl)
+first_position (literal k n) v m h = absurd (v.2 refl)
+first_position (reckon o w a b) v m h = record { context = reckon_left o w hole b; whole = refl; under = omega (arith, h); from = refl }
 
--- a pair or an application, whose first operand is a value
+-- a pair, a sum, a comparison or an application, whose first operand is a value
 pub record Second (e : Term) : Type 0 where
   pub position : Position e (second_operand e) (1 + size (first_operand e)) 1
   pub sizes : size e ≡ 1 + (size (first_operand e) + size (second_operand e))
-  pub applies : (kind_of e ≡ kinds.pair → ⊥) → kind_of e ≡ kinds.application
+  pub applies : (kind_of e ≡ kinds.pair → ⊥) → (kind_of e ≡ kinds.sum → ⊥) → (kind_of e ≡ kinds.less → ⊥) → kind_of e ≡ kinds.application
 
 -- no injection, no destructor of one operand and no protect
 abbrev pub Twofold : Term → Type 0
@@ -60,23 +64,32 @@ pub second_position : (e : Term) → Evaluates e → Twofold e → So (is_value 
 unfolding plug offset level size
 second_position (var n) v h w = absurd (v.0 refl)
 second_position (unit k) v h w = absurd (v.1 refl)
-second_position (lam k i e) v h w = absurd (v.2 refl)
+second_position (lam k i e) v h w = absurd (v.3 refl)
 second_position (pair k a b) v h w =
-    record { position = record { context = pair_right k a w hole; whole = refl; under = refl; from = omega arith }; sizes = refl; applies = λ n. absurd (n refl) }
+    record { position = record { context = pair_right k a w hole; whole = refl; under = refl; from = omega arith }; sizes = refl; applies = λ p s l. absurd (p refl) }
 second_position (inj first k i e) v h w = absurd (h.0 refl)
 second_position (inj second k i e) v h w = absurd (h.1 refl)
 second_position (app u f a) v h w =
-    record { position = record { context = app_right u f w hole; whole = refl; under = refl; from = omega arith }; sizes = refl; applies = λ n. refl }
+    record { position = record { context = app_right u f w hole; whole = refl; under = refl; from = omega arith }; sizes = refl; applies = λ p s l. refl }
 second_position (proj first u e) v h w = absurd (h.2 refl)
 second_position (proj second u e) v h w = absurd (h.3 refl)
 second_position (case u i e a b) v h w = absurd (h.4 refl)
 second_position (protect m e) v h w = absurd (h.5 refl)
-second_position (mu u i e) v h w = absurd (v.3 refl)
+second_position (mu u i e) v h w = absurd (v.4 refl)
+second_position (literal k n) v h w = absurd (v.2 refl)
+second_position (reckon plus u a b) v h w =
+    record { position = record { context = reckon_right plus u a w hole; whole = refl; under = refl; from = omega arith }; sizes = refl; applies = λ p s l. absurd (s refl) }
+second_position (reckon (less i) u a b) v h w =
+    record { position = record { context = reckon_right (less i) u a w hole; whole = refl; under = refl; from = omega arith }; sizes = refl; applies = λ p s l. absurd (l refl) }
 
--- the kinds of values
-pub unit_value : (e : Term) → kind_of e ≡ kinds.unit → So (is_value e) × (size e ≡ 1)
+-- the kinds of values; two of them have no operands
+abbrev pub IsAlone : ℕ → Type 0
+IsAlone n = (n ≡ kinds.unit) ⊎ (n ≡ kinds.literal)
+
+pub alone_value : (e : Term) → IsAlone (kind_of e) → So (is_value e) × (size e ≡ 1)
 unfolding is_value size
-unit_value e h = by_kind (λ x. So (is_value x) × (size x ≡ 1)) kinds.unit e h (refl, refl)
+alone_value e (inl h) = by_kind (λ x. So (is_value x) × (size x ≡ 1)) kinds.unit e h (refl, refl)
+alone_value e (inr h) = by_kind (λ x. So (is_value x) × (size x ≡ 1)) kinds.literal e h (refl, refl)
 
 pub function_value : (e : Term) → kind_of e ≡ kinds.function → So (is_value e)
 unfolding is_value
@@ -99,6 +112,26 @@ injection_value (proj second w e) h v = absurd (false≢true h)
 injection_value (case w i e a b) h v = absurd (false≢true h)
 injection_value (protect m e) h v = absurd (false≢true h)
 injection_value (mu w i e) h v = absurd (false≢true h)
+injection_value (literal k n) h v = absurd (false≢true h)
+injection_value (reckon plus w a b) h v = absurd (false≢true h)
+injection_value (reckon (less i) w a b) h v = absurd (false≢true h)
+
+-- what is shown of every sum and of every comparison is shown of a term whose kind is one of theirs
+pub reckoned_form : (P : Term → Type 0) (e : Term) → So (is_reckoning (kind_of e)) → ((o : Operation) (w : Reader) (a b : Term) → P (reckon o w a b)) → P e
+reckoned_form P (var n) h p = absurd (false≢true h)
+reckoned_form P (unit k) h p = absurd (false≢true h)
+reckoned_form P (lam k i e) h p = absurd (false≢true h)
+reckoned_form P (pair k a b) h p = absurd (false≢true h)
+reckoned_form P (inj first k i e) h p = absurd (false≢true h)
+reckoned_form P (inj second k i e) h p = absurd (false≢true h)
+reckoned_form P (app w f a) h p = absurd (false≢true h)
+reckoned_form P (proj first w e) h p = absurd (false≢true h)
+reckoned_form P (proj second w e) h p = absurd (false≢true h)
+reckoned_form P (case w i e a b) h p = absurd (false≢true h)
+reckoned_form P (protect m e) h p = absurd (false≢true h)
+reckoned_form P (mu w i e) h p = absurd (false≢true h)
+reckoned_form P (literal k n) h p = absurd (false≢true h)
+reckoned_form P (reckon o w a b) h p = p o w a b
 
 -- nodes whose own turn it is, and their fate
 pub variable_turn : (S : Security) (tab : ℕ → Ty) (e : Term) → kind_of e ≡ kinds.variable → So (ready e) × (fate S tab e ≡ wrong_kind)
@@ -121,6 +154,10 @@ pub application_turn : (e : Term) → kind_of e ≡ kinds.application → So (is
 unfolding ready
 application_turn e h =
     by_kind (λ x. So (is_value (first_operand x)) → So (is_value (second_operand x)) → So (ready x)) kinds.application e h both
+
+pub reckoning_turn : (e : Term) → So (is_reckoning (kind_of e)) → So (is_value (first_operand e)) → So (is_value (second_operand e)) → So (ready e)
+unfolding ready
+reckoning_turn e h = reckoned_form (λ x. So (is_value (first_operand x)) → So (is_value (second_operand x)) → So (ready x)) e h (λ o w a b. both)
 
 pub application_reads : So (is_destructor kinds.application)
 unfolding is_destructor
@@ -158,6 +195,28 @@ built_is (proj second w e) = (refl, refl, refl)
 built_is (case w i e a b) = (refl, refl, refl)
 built_is (protect m e) = (refl, refl, refl)
 built_is (mu w i e) = (refl, refl, refl)
+built_is (literal k n) = (refl, refl, refl)
+built_is (reckon plus w a b) = (refl, refl, refl)
+built_is (reckon (less i) w a b) = (refl, refl, refl)
+
+-- a literal by its kind
+pub literal_is : (e : Term) → exists (literal_of e) ≡ eqb (kind_of e) kinds.literal
+unfolding literal_of
+literal_is (var n) = refl
+literal_is (unit k) = refl
+literal_is (lam k i e) = refl
+literal_is (pair k a b) = refl
+literal_is (inj first k i e) = refl
+literal_is (inj second k i e) = refl
+literal_is (app w f a) = refl
+literal_is (proj first w e) = refl
+literal_is (proj second w e) = refl
+literal_is (case w i e a b) = refl
+literal_is (protect m e) = refl
+literal_is (mu w i e) = refl
+literal_is (literal k n) = refl
+literal_is (reckon plus w a b) = refl
+literal_is (reckon (less i) w a b) = refl
 
 -- a destructor has an operand
 pub destructor_operand : (e : Term) → So (is_destructor (kind_of e)) → 1 ≤ operands e
@@ -173,6 +232,9 @@ destructor_operand (proj d w e) h = omega arith
 destructor_operand (case w i e a b) h = omega arith
 destructor_operand (protect m e) h = absurd (false≢true h)
 destructor_operand (mu w i e) h = absurd (false≢true h)
+destructor_operand (literal k n) h = absurd (false≢true h)
+destructor_operand (reckon plus w a b) h = absurd (false≢true h)
+destructor_operand (reckon (less i) w a b) h = absurd (false≢true h)
 
 -- a destructor's fate, by its own record and by that of the operand that it reads
 pub reading_is : (S : Security) (tab : ℕ → Ty) (e : Term) → So (is_destructor (kind_of e))
@@ -190,3 +252,17 @@ reading_is S tab (proj second w e) h = rw (built_is e).1
 reading_is S tab (case w i e a b) h = rw (built_is e).2
 reading_is S tab (protect m e) h = absurd (false≢true h)
 reading_is S tab (mu w i e) h = absurd (false≢true h)
+reading_is S tab (literal k n) h = absurd (false≢true h)
+reading_is S tab (reckon plus w a b) h = absurd (false≢true h)
+reading_is S tab (reckon (less i) w a b) h = absurd (false≢true h)
+
+-- the fate of a sum or of a comparison, by its own record and those of its two operands
+pub reckoning_is : (S : Security) (tab : ℕ → Ty) (e : Term) → So (is_reckoning (kind_of e))
+    → fate S tab e ≡ reading_fate (eqb (kind_of (first_operand e)) kinds.literal && eqb (kind_of (second_operand e)) kinds.literal)
+    (S.permits (property_of (first_operand e)) (property_of e).r && S.permits (property_of (second_operand e)) (property_of e).r)
+unfolding fate
+reckoning_is S tab e h =
+    reckoned_form
+    (λ x. fate S tab x ≡ reading_fate (eqb (kind_of (first_operand x)) kinds.literal && eqb (kind_of (second_operand x)) kinds.literal)
+    (S.permits (property_of (first_operand x)) (property_of x).r && S.permits (property_of (second_operand x)) (property_of x).r))
+    e h (λ o w a b. rw (literal_is a, literal_is b))

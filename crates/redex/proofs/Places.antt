@@ -2,7 +2,7 @@
 use Rattle.std.proofs.Common.{◌≡◌, refl, ap, ◌∙◌, ◌++◌, append_assoc, ℕ, ◌+◌, ◌*◌, arith}
 use Rattle.calculus.specs.Security.{Property, Security}
 use Rattle.calculus.specs.Types.{Ty}
-use Rattle.calculus.specs.Terms.{Term, var, unit, lam, pair, inj, app, proj, case, protect, mu}
+use Rattle.calculus.specs.Terms.{plus, less, Term, var, unit, lam, pair, inj, app, proj, case, protect, mu, literal, reckon}
 use Rattle.calculus.specs.Reduction.{Context, plug}
 use Rattle.rules.specs.Answer.{Bytes}
 use Rattle.rules.specs.Limits.{script_width}
@@ -29,6 +29,9 @@ own_groups (proj d w e) = refl
 own_groups (case w i e a b) = refl
 own_groups (protect m e) = refl
 own_groups (mu w i e) = refl
+own_groups (literal k n) = refl
+own_groups (reckon plus w a b) = refl
+own_groups (reckon (less i) w a b) = refl
 
 module _ {s : Bytes} {i : ℕ} {e : Term} (a : At s i e) where
   pub groups_at : property_at s i ≡ property_of e

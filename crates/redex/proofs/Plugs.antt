@@ -1,7 +1,7 @@
 -- Plugging in bytes: a term in an evaluation context is what stands before the hole, the term, what stands after it.
 use Rattle.std.proofs.Common.{◌≡◌, refl, sym, ap, ◌∙◌, ◌++◌, append_assoc, append-nil, ℕ, ◌+◌, ◌*◌, ◌≤◌, ◌<◌, max, arith, length, take, drop, length-append, take_at, drop_at}
-use Rattle.calculus.specs.Terms.{first, second, Term}
-use Rattle.calculus.specs.Reduction.{Context, hole, app_left, app_right, in_proj, in_inj, pair_left, pair_right, in_protect, in_case, plug}
+use Rattle.calculus.specs.Terms.{first, second, plus, less, Term}
+use Rattle.calculus.specs.Reduction.{Context, hole, app_left, app_right, in_proj, in_inj, pair_left, pair_right, in_protect, in_case, reckon_left, reckon_right, plug}
 use Rattle.calculus.proofs.Contexts.{compose}
 use Rattle.rules.specs.Limits.{script_width}
 use Rattle.rules.specs.Script.{encode, size, depth}
@@ -22,6 +22,10 @@ plug_bytes (pair_left k E b) e = rw (plug_bytes E e) (simp append_assoc)
 plug_bytes (pair_right k v h E) e = rw (plug_bytes E e) (simp append_assoc)
 plug_bytes (in_protect m E) e = rw (plug_bytes E e)
 plug_bytes (in_case w i E a b) e = rw (plug_bytes E e) (simp append_assoc)
+plug_bytes (reckon_left plus w E b) e = rw (plug_bytes E e) (simp append_assoc)
+plug_bytes (reckon_left (less i) w E b) e = rw (plug_bytes E e) (simp append_assoc)
+plug_bytes (reckon_right plus w v h E) e = rw (plug_bytes E e) (simp append_assoc)
+plug_bytes (reckon_right (less i) w v h E) e = rw (plug_bytes E e) (simp append_assoc)
 
 pub plug_size : (E : Context) (e : Term) → size (plug E e) ≡ beside E + size e
 unfolding size plug beside
@@ -34,6 +38,8 @@ plug_size (pair_left k E b) e = omega (arith, plug_size E e)
 plug_size (pair_right k v h E) e = omega (arith, plug_size E e)
 plug_size (in_protect m E) e = omega (arith, plug_size E e)
 plug_size (in_case w i E a b) e = omega (arith, plug_size E e)
+plug_size (reckon_left o w E b) e = omega (arith, plug_size E e)
+plug_size (reckon_right o w v h E) e = omega (arith, plug_size E e)
 
 pub plug_depth : (E : Context) (e : Term) → depth (plug E e) ≡ max (depth_beside E) (level E + depth e)
 unfolding depth plug depth_beside level
@@ -46,6 +52,8 @@ plug_depth (pair_left k E b) e = omega (arith, plug_depth E e)
 plug_depth (pair_right k v h E) e = omega (arith, plug_depth E e)
 plug_depth (in_protect m E) e = omega (arith, plug_depth E e)
 plug_depth (in_case w i E a b) e = omega (arith, plug_depth E e)
+plug_depth (reckon_left o w E b) e = omega (arith, plug_depth E e)
+plug_depth (reckon_right o w v h E) e = omega (arith, plug_depth E e)
 
 -- Where a term is within a depth, another term in its hole is past it exactly where its own records are.
 pub plug_within : (E : Context) (e e' : Term) (n : ℕ) → depth (plug E e) ≤ n → level E + depth e' ≤ n → depth (plug E e') ≤ n
@@ -65,6 +73,10 @@ before_length (pair_left k E b) = omega (arith, before_length E)
 before_length (pair_right k v h E) = omega (arith, before_length E, length-append (encode v) (before E), encode_length term_code v)
 before_length (in_protect m E) = omega (arith, before_length E)
 before_length (in_case w i E a b) = omega (arith, before_length E)
+before_length (reckon_left plus w E b) = omega (arith, before_length E)
+before_length (reckon_left (less i) w E b) = omega (arith, before_length E)
+before_length (reckon_right plus w v h E) = omega (arith, before_length E, length-append (encode v) (before E), encode_length term_code v)
+before_length (reckon_right (less i) w v h E) = omega (arith, before_length E, length-append (encode v) (before E), encode_length term_code v)
 
 pub after_length : (E : Context) → script_width * offset E + length (after E) ≡ script_width * beside E
 unfolding after offset beside
@@ -85,6 +97,8 @@ after_length (in_case w i E a b) =
       encode_length term_code a,
       encode_length term_code b,
     )
+after_length (reckon_left o w E b) = omega (arith, after_length E, length-append (after E) (encode b), encode_length term_code b)
+after_length (reckon_right o w v h E) = omega (arith, after_length E)
 
 -- What stands around a term is what stands around another in its place.
 pub before_is : (E : Context) (e : Term) → take (script_width * offset E) (encode (plug E e)) ≡ before E
@@ -108,6 +122,8 @@ compose_offset (pair_left k E b) F = omega (arith, compose_offset E F)
 compose_offset (pair_right k v h E) F = omega (arith, compose_offset E F)
 compose_offset (in_protect m E) F = omega (arith, compose_offset E F)
 compose_offset (in_case w i E a b) F = omega (arith, compose_offset E F)
+compose_offset (reckon_left o w E b) F = omega (arith, compose_offset E F)
+compose_offset (reckon_right o w v h E) F = omega (arith, compose_offset E F)
 
 pub compose_level : (E F : Context) → level (compose E F) ≡ level E + level F
 unfolding compose level
@@ -120,3 +136,5 @@ compose_level (pair_left k E b) F = omega (arith, compose_level E F)
 compose_level (pair_right k v h E) F = omega (arith, compose_level E F)
 compose_level (in_protect m E) F = omega (arith, compose_level E F)
 compose_level (in_case w i E a b) F = omega (arith, compose_level E F)
+compose_level (reckon_left o w E b) F = omega (arith, compose_level E F)
+compose_level (reckon_right o w v h E) F = omega (arith, compose_level E F)

@@ -1,13 +1,16 @@
 -- Fate and contractum are the step function's: of a node whose own turn it is, and of a term around it.
-use Rattle.std.proofs.Common.{◌≡◌, refl, ap, ◌∙◌, Bool, true, false, cond, ℕ, zero}
+use Rattle.std.proofs.Common.{◌≡◌, refl, ap, ◌∙◌, Bool, true, false, cond, ◌&&◌, ℕ, zero}
 use Rattle.std.proofs.Math.Bool.{So}
+use Rattle.std.proofs.Math.Option.{Option, none, some}
 use Rattle.std.proofs.lemmas.Bool.{false≢true}
 use Rattle.calculus.specs.Security.{Reader, Security}
-use Rattle.calculus.specs.Types.{sum, product, function, Ty, one, node, top}
-use Rattle.calculus.specs.Terms.{Side, Term, var, unit, lam, pair, inj, app, proj, case, protect, mu, is_value, subst}
-use Rattle.calculus.specs.Reduction.{unrolled, Context, plug, Outcome, moved, operand_first, reading, apply, project, branch, unroll, step}
+use Rattle.calculus.specs.Types.{sum, product, function, Ty, leaf, node, top}
+use Rattle.calculus.specs.Terms.{Side, Operation, Term, var, unit, lam, pair, inj, app, proj, case, protect, mu, literal, reckon, is_value, subst}
+use Rattle.calculus.specs.Numbers.{Literal, literal_of}
+use Rattle.calculus.specs.Reduction.{unrolled, Context, plug, Outcome, moved, operand_first, reading, apply, project, branch, unroll, calculate, step}
 use Rattle.calculus.specs.Stuck.{built_by}
 use Rattle.calculus.proofs.Booleans.{and_left, and_right}
+use Rattle.calculus.proofs.Numbers.{literal_some}
 use Rattle.calculus.proofs.Outcomes.{unfinished, within}
 use Rattle.calculus.proofs.Values.{value_step}
 use Rattle.calculus.proofs.Contexts.{plug_step}
@@ -41,6 +44,8 @@ module _ (S : Security) (tab : ℕ → Ty) where
   apply_is w (case u i e a b) v = refl
   apply_is w (protect m e) v = refl
   apply_is w (mu u i e) v = refl
+  apply_is w (literal k n) v = refl
+  apply_is w (reckon o u a b) v = refl
 
   project_is : (d : Side) (w : Reader) (v : Term) → project S d w v ≡ fires (proj d w v)
   unfolding project fate contractum built_by
@@ -54,6 +59,8 @@ module _ (S : Security) (tab : ℕ → Ty) where
   project_is d w (case u i e a b) = refl
   project_is d w (protect m e) = refl
   project_is d w (mu u i e) = refl
+  project_is d w (literal k n) = refl
+  project_is d w (reckon o u a b) = refl
 
   branch_is : (w : Reader) (j : ℕ) (v a b : Term) → branch S w v a b ≡ fires (case w j v a b)
   unfolding branch fate contractum built_by
@@ -67,14 +74,28 @@ module _ (S : Security) (tab : ℕ → Ty) where
   branch_is w j (case u i e f g) a b = refl
   branch_is w j (protect m e) a b = refl
   branch_is w j (mu u i e) a b = refl
+  branch_is w j (literal k n) a b = refl
+  branch_is w j (reckon o u e f) a b = refl
 
   unroll_is : (w : Reader) (i : ℕ) (e : Term) (t : Ty)
       → unroll S w i e t ≡ fated (cond (is_function t) goes wrong_kind) (subst zero (unrolled S w i (top t) e) e)
   unfolding unroll
-  unroll_is w i e (one k) = refl
+  unroll_is w i e (leaf b k) = refl
   unroll_is w i e (node sum k s t) = refl
   unroll_is w i e (node product k s t) = refl
   unroll_is w i e (node function k s t) = refl
+
+  calculate_is : (o : Operation) (w : Reader) (a b : Term) → calculate S tab o w (literal_of a) (literal_of b) ≡ fires (reckon o w a b)
+  unfolding calculate fate contractum literal_of
+  calculate_is o w a b = by (literal_of a) (literal_of b) refl refl
+    where
+      by : (x y : Option Literal) → literal_of a ≡ x → literal_of b ≡ y → calculate S tab o w (literal_of a) (literal_of b) ≡ fires (reckon o w a b)
+      by none y p q = rw p
+      by (some x) none p q = rw (p, q)
+      by (some x) (some y) p q =
+          literal_some a p λ a_is.
+          literal_some b q λ b_is.
+          rw (a_is, b_is) (reading_is (S.permits x.own w && S.permits y.own w) _)
 
   pub turn_step : (e : Term) → So (ready e) → step S tab e ≡ fires e
   unfolding step ready operand_first fate contractum
@@ -89,6 +110,9 @@ module _ (S : Security) (tab : ℕ → Ty) where
   turn_step (case w i e a b) h = rw (value_step S tab e h) (branch_is w i e a b)
   turn_step (protect m e) h = rw (value_step S tab e h)
   turn_step (mu w i e) h = unroll_is w i e (tab i)
+  turn_step (literal k n) h = absurd (false≢true h)
+  turn_step (reckon o w a b) h =
+      rw (value_step S tab a (and_left _ _ h), value_step S tab b (and_right (is_value a) _ h)) (calculate_is o w a b)
 
   -- the step of a term around a node whose own turn it is
   pub plug_turn : (E : Context) (e : Term) → So (ready e) → step S tab (plug E e) ≡ within (plug E) (fires e)

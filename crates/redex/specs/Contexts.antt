@@ -1,6 +1,7 @@
 -- What stands around the hole of an evaluation context: the bytes, the records and the depths are the same for every term in the hole.
 use Rattle.std.specs.Prelude.{[], ◌++◌, ℕ, ◌+◌, max}
-use Rattle.calculus.specs.Terms.{choose}
+use Rattle.calculus.specs.Security.{Reader}
+use Rattle.calculus.specs.Terms.{choose, Operation, plus, less}
 use Rattle.calculus.specs.Reduction.{
   Context,
   hole,
@@ -12,10 +13,17 @@ use Rattle.calculus.specs.Reduction.{
   pair_right,
   in_protect,
   in_case,
+  reckon_left,
+  reckon_right,
 }
 use Rattle.rules.specs.Answer.{Bytes}
 use Rattle.rules.specs.Script.{full_record, script_record, object_record, encode, size, weight, depth}
 use Rattle.records.specs.Kinds as kinds
+
+-- the record of a sum or of a comparison
+abbrev pub reckon_record : Operation → Reader → Bytes
+reckon_record plus w = script_record kinds.sum w 0 0
+reckon_record (less i) w = script_record kinds.less w 0 i
 
 -- the bytes before the hole
 unfoldable pub before : Context → Bytes
@@ -29,6 +37,8 @@ before (pair_left k E b) = object_record kinds.pair k 0 ++ before E
 before (pair_right k v h E) = object_record kinds.pair k 0 ++ (encode v ++ before E)
 before (in_protect m E) = full_record kinds.protect 0 m.ir 0 0 m.ic ++ before E
 before (in_case w i E a b) = script_record kinds.case w 0 i ++ before E
+before (reckon_left o w E b) = reckon_record o w ++ before E
+before (reckon_right o w v h E) = reckon_record o w ++ (encode v ++ before E)
 
 -- the bytes after the hole
 unfoldable pub after : Context → Bytes
@@ -42,6 +52,8 @@ after (pair_left k E b) = after E ++ encode b
 after (pair_right k v h E) = after E
 after (in_protect m E) = after E
 after (in_case w i E a b) = after E ++ (encode a ++ encode b)
+after (reckon_left o w E b) = after E ++ encode b
+after (reckon_right o w v h E) = after E
 
 -- the records before the hole
 unfoldable pub offset : Context → ℕ
@@ -55,6 +67,8 @@ offset (pair_left k E b) = 1 + offset E
 offset (pair_right k v h E) = 1 + (size v + offset E)
 offset (in_protect m E) = 1 + offset E
 offset (in_case w i E a b) = 1 + offset E
+offset (reckon_left o w E b) = 1 + offset E
+offset (reckon_right o w v h E) = 1 + (size v + offset E)
 
 -- the records before and after the hole
 unfoldable pub beside : Context → ℕ
@@ -68,6 +82,8 @@ beside (pair_left k E b) = 1 + (beside E + size b)
 beside (pair_right k v h E) = 1 + (size v + beside E)
 beside (in_protect m E) = 1 + beside E
 beside (in_case w i E a b) = 1 + (beside E + (size a + size b))
+beside (reckon_left o w E b) = 1 + (beside E + size b)
+beside (reckon_right o w v h E) = 1 + (size v + beside E)
 
 -- the depth of the hole: each record around it is one level, and a case that finds its own type two
 unfoldable pub level : Context → ℕ
@@ -80,6 +96,8 @@ level (pair_left k E b) = 1 + level E
 level (pair_right k v h E) = 1 + level E
 level (in_protect m E) = 1 + level E
 level (in_case w i E a b) = weight i + level E
+level (reckon_left o w E b) = 1 + level E
+level (reckon_right o w v h E) = 1 + level E
 
 -- the depth of the deepest record before or after the hole, 0 where there is none
 unfoldable pub depth_beside : Context → ℕ
@@ -93,3 +111,5 @@ depth_beside (pair_left k E b) = 1 + max (depth_beside E) (depth b)
 depth_beside (pair_right k v h E) = 1 + max (depth v) (depth_beside E)
 depth_beside (in_protect m E) = 1 + depth_beside E
 depth_beside (in_case w i E a b) = weight i + max (depth_beside E) (max (depth a) (depth b))
+depth_beside (reckon_left o w E b) = 1 + max (depth_beside E) (depth b)
+depth_beside (reckon_right o w v h E) = 1 + max (depth v) (depth_beside E)

@@ -1,8 +1,10 @@
 -- What becomes of a node once its evaluated operands are values, apart from what it contracts to.
 use Rattle.std.specs.Prelude.{Bool, true, false, cond, ◌&&◌, ℕ, zero}
+use Rattle.std.proofs.Math.Option.{Option, none, some}
 use Rattle.calculus.specs.Security.{Property, Reader, Security}
-use Rattle.calculus.specs.Types.{sum, product, function, Ty, one, node, same, top}
-use Rattle.calculus.specs.Terms.{Side, first, choose, Term, var, unit, lam, pair, inj, app, proj, case, protect, mu, is_value, subst, raise_value}
+use Rattle.calculus.specs.Types.{sum, product, function, Ty, leaf, node, same, top, exists}
+use Rattle.calculus.specs.Terms.{Side, first, choose, Term, var, unit, lam, pair, inj, app, proj, case, protect, mu, literal, reckon, is_value, subst, raise_value}
+use Rattle.calculus.specs.Numbers.{Literal, literal_of, of_both, reckoned}
 use Rattle.calculus.specs.Reduction.{unrolled, Outcome, moved, denied, stuck}
 use Rattle.calculus.specs.Stuck.{built_by}
 use Rattle.records.specs.Operands.{first_operand, second_operand}
@@ -23,6 +25,8 @@ property_of (proj d w e) = only_reader w
 property_of (case w i e a b) = only_reader w
 property_of (protect m e) = record { r = 0; ir = m.ir; c = 0; ic = m.ic }
 property_of (mu w i e) = only_reader w
+property_of (literal k n) = k
+property_of (reckon o w a b) = only_reader w
 
 -- The parts of a term that a rule of table 1 takes apart. Each is total: a term without the part has a stand-in, which no rule uses.
 abbrev pub side_of : Term → Side
@@ -36,10 +40,20 @@ side_of (proj d w e) = d
 side_of (case w i e a b) = first
 side_of (protect m e) = first
 side_of (mu w i e) = first
+side_of (literal k n) = first
+side_of (reckon o w a b) = first
+
+abbrev value_or : Option Literal → ℕ
+value_or none = 0
+value_or (some x) = x.value
+
+-- the number of a literal
+abbrev pub value_of : Term → ℕ
+value_of e = value_or (literal_of e)
 
 -- Is it a function type?
 abbrev pub is_function : Ty → Bool
-is_function (one k) = false
+is_function (leaf b k) = false
 is_function (node f k s t) = same function f
 
 -- Is it a node's own turn to reduce: no value, and its evaluated operands are values?
@@ -55,6 +69,8 @@ ready (proj d w e) = is_value e
 ready (case w i e a b) = is_value e
 ready (protect m e) = is_value e
 ready (mu w i e) = true
+ready (literal k n) = false
+ready (reckon o w a b) = is_value a && is_value b
 
 -- what becomes of a node whose own turn it is
 pub data Fate : Type 0 where
@@ -65,7 +81,7 @@ pub data Fate : Type 0 where
   -- no rule has the operand's kind, or the node is a free variable
   wrong_kind : Fate
 
--- the fate of a destructor whose operand has the wanted kind or not, and which may read it or not: "wrong kind (decided before 2)"
+-- the fate of a node whose operands have the wanted kinds or not, and which may read them or not: "wrong kind (decided before 2)"
 abbrev pub reading_fate : Bool → Bool → Fate
 reading_fate fits may = cond fits (cond may goes not_permitted) wrong_kind
 
@@ -82,6 +98,9 @@ fate S tab (proj d w e) = reading_fate (built_by product e) (S.permits (property
 fate S tab (case w i e a b) = reading_fate (built_by sum e) (S.permits (property_of e) w)
 fate S tab (protect m e) = goes
 fate S tab (mu w i e) = cond (is_function (tab i)) goes wrong_kind
+fate S tab (literal k n) = wrong_kind
+fate S tab (reckon o w a b) =
+    reading_fate (exists (literal_of a) && exists (literal_of b)) (S.permits (property_of a) w && S.permits (property_of b) w)
 
 -- Table 1's right sides. What no left side of table 1 fits is its own contractum.
 unfoldable pub contractum : Security → (ℕ → Ty) → Term → Term
@@ -97,6 +116,8 @@ contractum S tab (case w i e a b) =
     protect (S.influence (property_of e) w) (subst zero (first_operand e) (choose (side_of e) a b))
 contractum S tab (protect m e) = raise_value S e m
 contractum S tab (mu w i e) = subst zero (unrolled S w i (top (tab i)) e) e
+contractum S tab (literal k n) = literal k n
+contractum S tab (reckon o w a b) = reckoned tab o (of_both S w (property_of a) (property_of b)) (value_of a) (value_of b)
 
 -- the step of a node whose own turn it is
 abbrev pub fated : Fate → Term → Outcome

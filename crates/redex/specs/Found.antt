@@ -7,8 +7,9 @@ use Rattle.calculus.specs.Terms.{Term, is_value}
 use Rattle.calculus.specs.Reduction.{Context, plug, denied, stuck, step}
 use Rattle.rules.specs.Answer.{Bytes}
 use Rattle.rules.specs.Limits.{depth_limit}
-use Rattle.rules.specs.Script.{size, depth}
+use Rattle.rules.specs.Script.{kind, size, depth}
 use Rattle.records.specs.Kinds as kinds
+use Rattle.records.specs.Operands.{first_operand, second_operand}
 use Rattle.records.specs.Place.{At}
 use Rattle.redex.specs.Contexts.{offset, level}
 use Rattle.redex.specs.Fates.{Fate, goes, not_permitted, wrong_kind, ready, fate}
@@ -52,6 +53,22 @@ is_projection kind = eqb kind kinds.first_projection || eqb kind kinds.second_pr
 -- A destructor reads what it takes apart: an application, a projection or a case.
 unfoldable pub is_destructor : ℕ → Bool
 is_destructor kind = eqb kind kinds.application || (is_projection kind || eqb kind kinds.case)
+
+-- Is it the kind of a sum or of a comparison, whose two operands are read in one step?
+abbrev pub is_reckoning : ℕ → Bool
+is_reckoning kind = eqb kind kinds.sum || eqb kind kinds.less
+
+-- e, a sum or a comparison, stands at record i, and its operands at the next record and at record j
+pub record Reckons (s : Bytes) (i j : ℕ) (e : Term) : Type 0 where
+  pub at : At s i e
+  pub reckons : So (is_reckoning (kind s i))
+  pub left : At s (i + 1) (first_operand e)
+  pub right : At s j (second_operand e)
+
+-- one such term stands there
+pub record Reckoning (s : Bytes) (i j : ℕ) : Type 0 where
+  pub tree : Term
+  pub stands : Reckons s i j tree
 
 -- Does a destructor of this kind take apart a value of that kind: an application a function, a projection a pair, a case an injection?
 abbrev pub takes_apart : ℕ → ℕ → Bool

@@ -2,7 +2,7 @@
 
 #![tactic(auto)]
 
-ghost use Rattle.std.specs.Prelude.{◌≡◌, ℕ, ◌+◌, ◌<◌};
+ghost use Rattle.std.specs.Prelude.{◌≡◌, ◌&&◌, eqb, ℕ, ◌+◌, ◌<◌};
 ghost use Rattle.std.proofs.Math.Bool.{So};
 ghost use Rattle.calculus.specs.Security.{Security};
 ghost use Rattle.calculus.specs.Types.{Ty};
@@ -13,8 +13,8 @@ ghost use Rattle.rules.specs.Script.{records, kind, r};
 ghost use Rattle.records.specs.Kinds as kinds;
 ghost use Rattle.records.specs.Numbers.{kind_number};
 ghost use Rattle.records.specs.Place.{At, Here};
-ghost use Rattle.redex.specs.Fates.{is_function, fate};
-ghost use Rattle.redex.specs.Found.{Shallow, Finds, answer, is_destructor, takes_apart};
+ghost use Rattle.redex.specs.Fates.{is_function, reading_fate, fate};
+ghost use Rattle.redex.specs.Found.{Shallow, Finds, answer, is_destructor, takes_apart, Reckons, Reckoning};
 
 use lattice::Group;
 use records::Kind;
@@ -48,27 +48,24 @@ fn takes_apart(destructor: Kind, value: Kind) -> bool
     }
 }
 
-// May the destructor at record `at` read the value at the next record?
-fn may_read(groups: &[u8], script: &[u8], at: usize) -> bool
-    requires { at + 1 < records script.now }
-    ensures { result ≡ leq groups.now (r script.now (at + 1)) (r script.now at) }
+// May the node at record `at` read the value at record `operand`?
+fn may_read(groups: &[u8], script: &[u8], at: usize, operand: usize) -> bool
+    requires { (at < records script.now) × (operand < records script.now) }
+    ensures { result ≡ leq groups.now (r script.now operand) (r script.now at) }
 {
-    let read = records::reader(script, at + 1);
+    let read = records::reader(script, operand);
     let reader = records::reader(script, at);
     read.at_or_below(groups, reader)
 }
 
-// The answer of the destructor at record `at`, whose evaluated operands are values: the kind is asked before the reader.
-fn reading(groups: &[u8], script: &[u8], at: usize, depth: usize) -> Found
-    requires { Here script.now at × So (is_destructor (kind script.now at)) }
-    ensures { (tab : ℕ → Ty) (e : Term) → At script.now at e
-        → result ≡ answer (fate (properties_of groups.now) tab e) at depth }
+// The answer of the node at record `at`, whose evaluated operands are values, of the wanted kinds or not, and which may read them
+// or not: the kinds come before the reader.
+fn verdict(fits: bool, may: bool, at: usize, depth: usize) -> Found
+    ensures { result ≡ answer (reading_fate fits may) at depth }
 {
-    let destructor = records::kind_of(script, at);
-    let value = records::kind_of(script, at + 1);
-    if !takes_apart(destructor, value) {
+    if !fits {
         Found::Stuck
-    } else if may_read(groups, script, at) {
+    } else if may {
         Found::Redex {
             place: at,
             around: depth,
@@ -76,6 +73,49 @@ fn reading(groups: &[u8], script: &[u8], at: usize, depth: usize) -> Found
     } else {
         Found::Denied
     }
+}
+
+// The answer of the destructor at record `at`, whose evaluated operands are values.
+fn reading(groups: &[u8], script: &[u8], at: usize, depth: usize) -> Found
+    requires { Here script.now at × So (is_destructor (kind script.now at)) }
+    ensures { (tab : ℕ → Ty) (e : Term) → At script.now at e
+        → result ≡ answer (fate (properties_of groups.now) tab e) at depth }
+{
+    let operand = at + 1;
+    let destructor = records::kind_of(script, at);
+    let value = records::kind_of(script, operand);
+    let fits = takes_apart(destructor, value);
+    let may = may_read(groups, script, at, operand);
+    verdict(fits, may, at, depth)
+}
+
+// Are two values of these kinds literals?
+fn both_literals(left: Kind, right: Kind) -> bool
+    ensures { result ≡ (eqb (kind_number left) kinds.literal && eqb (kind_number right) kinds.literal) }
+{
+    left == Kind::Literal && right == Kind::Literal
+}
+
+// May the node at record `at` read the value at the next record and that at record `second`?
+fn may_read_both(groups: &[u8], script: &[u8], at: usize, second: usize) -> bool
+    requires { (at + 1 < records script.now) × (second < records script.now) }
+    ensures { result ≡ (leq groups.now (r script.now (at + 1)) (r script.now at)
+        && leq groups.now (r script.now second) (r script.now at)) }
+{
+    may_read(groups, script, at, at + 1) && may_read(groups, script, at, second)
+}
+
+// The answer of the sum or of the comparison at record `at`, whose two operands are values, the second at record `second`.
+fn reckoning(groups: &[u8], script: &[u8], at: usize, second: usize, depth: usize) -> Found
+    requires { Reckoning script.now at second }
+    ensures { (tab : ℕ → Ty) (e : Term) → Reckons script.now at second e
+        → result ≡ answer (fate (properties_of groups.now) tab e) at depth }
+{
+    let left = records::kind_of(script, at + 1);
+    let right = records::kind_of(script, second);
+    let fits = both_literals(left, right);
+    let may = may_read_both(groups, script, at, second);
+    verdict(fits, may, at, depth)
 }
 
 // The answer of the recursion at record `at`.
@@ -104,7 +144,7 @@ pub fn find(groups: &[u8], types: &[u8], script: &[u8], at: usize, depth: usize)
     let kind = records::kind_of(script, at);
     match kind {
         Kind::Variable => return Found::Stuck,
-        Kind::Unit => return Found::Value(at + 1),
+        Kind::Unit | Kind::Literal => return Found::Value(at + 1),
         Kind::Function => return Found::Value(records::end_of(script, at)),
         Kind::Recursion => return unrolling(types, script, at, depth),
         _ => {}
@@ -133,6 +173,7 @@ pub fn find(groups: &[u8], types: &[u8], script: &[u8], at: usize, depth: usize)
     };
     match kind {
         Kind::Pair => Found::Value(end),
+        Kind::Sum | Kind::Less => reckoning(groups, script, at, next, depth),
         _ => reading(groups, script, at, depth),
     }
 }

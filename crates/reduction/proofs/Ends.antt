@@ -1,25 +1,22 @@
 -- How a step ends, from what the search and the count say; and a step's answer to the questions.
-use Rattle.std.proofs.Common.{◌≡◌, refl, sym, ◌∙◌, None, Some, Result, Ok, Err, ap, true, false, List, [], ℕ, ◌≤◌}
+use Rattle.std.proofs.Common.{◌≡◌, refl, sym, ◌∙◌, None, Some, Result, Ok, Err, ap, true, false, [], ℕ}
 use Rattle.std.proofs.Common.{subst as transport}
 use Rattle.calculus.specs.Security.{Security}
 use Rattle.calculus.specs.Types.{Ty}
 use Rattle.calculus.specs.Terms.{Term}
 use Rattle.calculus.specs.Reduction.{moved, step}
-use Rattle.rules.specs.Answer.{Bytes, Octets, Answer, accepted, refused, ◌>>◌}
-use Rattle.rules.specs.Limits.{table_limit}
+use Rattle.rules.specs.Answer.{Bytes, Answer, accepted, refused, ◌>>◌}
 use Rattle.rules.specs.Groups.{properties_of}
-use Rattle.rules.specs.Types.{type_count, type_at, q8}
+use Rattle.rules.specs.Types.{type_at}
 use Rattle.rules.specs.Script.{records, term}
 use Rattle.rules.specs.Step.{End, at_value, moves, may_not, wrong_kind, too_big, exceeds, limited, step_in}
-use Rattle.rules.specs.Calls.{step_report, types_check, groups_check, script_check, stepping, written_after}
-use Rattle.rules.proofs.Asked.{and_then, few_types}
-use Rattle.demands.proofs.Checked.{script_passed}
+use Rattle.rules.specs.Calls.{step_report, script_check, stepping, written_after}
 use Rattle.redex.specs.Found.{Site, Finds, finds_redex}
 use Rattle.redex.specs.declared.Found.TheVariants.{Value, Redex, Denied, Stuck}
 use Rattle.redex.proofs.Searches.{finds_step}
 use Rattle.answer.specs.Numbers.{number}
 use Rattle.answer.specs.declared.Refusal.{Refusal}
-use Rattle.reduction.specs.Steps.{Startable, told, said_step}
+use Rattle.reduction.specs.Steps.{told, said_step}
 use Rattle.reduction.specs.declared.Stop.{Stop}
 use Rattle.reduction.specs.declared.StepReport.{StepReport as Reported}
 
@@ -76,12 +73,3 @@ pub passed_step : (g t s : Bytes) (room : ℕ) → script_check [] g t s ≡ acc
     → stepping g t s room ≡ accepted (step_in (properties_of g) (type_at t) room (term s))
 unfolding stepping
 passed_step g t s room h = ap (λ (o : Answer (Unit {0})). ◌>>◌ o (accepted (step_in (properties_of g) (type_at t) room (term s)))) h
-
-table_small : (g t : Bytes) → types_check g t ≡ accepted tt → type_count t ≤ table_limit
-unfolding types_check
-table_small g t h = few_types t (and_then (q8 t) _ (and_then (groups_check g) _ h).1).0
-
-pub startable : (rooms : List ℕ) (g t s : Bytes) → Octets s → script_check rooms g t s ≡ accepted tt → Startable t s
-startable rooms g t s o h =
-    let p = script_passed rooms g t s o h in
-    record { encoded = p.encoded; small = p.fit.small; shallow = p.fit.shallow; table = table_small g t p.types }

@@ -17,17 +17,17 @@ use Rattle.redex.specs.Found.{Site}
 use Rattle.redex.proofs.Plugs.{plug_size, plug_depth, plug_within, plug_past, after_length, before_is, after_is}
 use Rattle.redex.proofs.Places.{site_at}
 use Rattle.substitution.proofs.Reading.{term_length}
-use Rattle.reduction.specs.Steps.{Startable}
+use Rattle.reduction.proofs.Starts.{Started}
 
-module _ {S : Security} {tab : ℕ → Ty} {t s : Bytes} {at around : ℕ} (st : Startable t s) (x : Site S tab 0 0 (term s) at around) where
+module _ {S : Security} {tab : ℕ → Ty} {g t s : Bytes} {at around : ℕ} (st : Started g t s) (x : Site S tab 0 0 (term s) at around) where
   pub redex_at : At s at x.redex
   redex_at = site_at x (at_start s st.encoded)
 
   pub redex_small : size x.redex ≤ script_limit
-  redex_small = omega (arith, st.small, ap size x.whole, plug_size x.context x.redex)
+  redex_small = omega (arith, st.fit.small, ap size x.whole, plug_size x.context x.redex)
 
   pub redex_shallow : around + depth x.redex ≤ depth_limit
-  redex_shallow = omega (arith, st.shallow, ap depth x.whole, plug_depth x.context x.redex, x.around_is)
+  redex_shallow = omega (arith, st.fit.shallow, ap depth x.whole, plug_depth x.context x.redex, x.around_is)
 
   script_is : s ≡ encode (plug x.context x.redex)
   script_is = sym st.encoded ∙ ap encode x.whole
@@ -65,7 +65,7 @@ module _ {S : Security} {tab : ℕ → Ty} {t s : Bytes} {at around : ℕ} (st :
   deeper e' = by (dec_lt depth_limit (around + depth e'))
     where
       whole : depth (plug x.context x.redex) ≤ depth_limit
-      whole = omega (arith, st.shallow, ap depth x.whole)
+      whole = omega (arith, st.fit.shallow, ap depth x.whole)
 
       by : Dec (depth_limit < around + depth e') → ltb depth_limit (around + depth e') ≡ ltb depth_limit (depth (plug x.context e'))
       by (yes l) =

@@ -1,14 +1,14 @@
 -- One step: what it is given, and what it reports.
-use Rattle.std.specs.Prelude.{◌≡◌, ℕ, ◌+◌, ◌*◌, ◌≤◌, length, Option, None, Some, Result, Ok, Err}
+use Rattle.std.specs.Prelude.{◌≡◌, [], ℕ, ◌+◌, ◌*◌, ◌≤◌, length, Option, None, Some, Result, Ok, Err}
 use Rattle.calculus.specs.Terms.{Term}
 use Rattle.calculus.specs.Reduction.{plug}
-use Rattle.rules.specs.Answer.{Bytes, Answer, accepted, refused}
-use Rattle.rules.specs.Limits.{script_limit, depth_limit, table_limit, script_width}
+use Rattle.rules.specs.Answer.{Bytes, Octets, Answer, accepted, refused}
+use Rattle.rules.specs.Limits.{script_width}
 use Rattle.rules.specs.Groups.{properties_of}
-use Rattle.rules.specs.Types.{type_count, type_at}
-use Rattle.rules.specs.Script.{encode, term, size, depth}
+use Rattle.rules.specs.Types.{type_at}
+use Rattle.rules.specs.Script.{term, size}
 use Rattle.rules.specs.Step.{End, at_value, moves, may_not, wrong_kind, too_big}
-use Rattle.rules.specs.Calls.{StepReport}
+use Rattle.rules.specs.Calls.{StepReport, script_check}
 use Rattle.answer.specs.Numbers.{number}
 use Rattle.answer.specs.declared.Refusal.{Refusal}
 use Rattle.redex.specs.Fates.{contractum}
@@ -19,22 +19,21 @@ use Rattle.reduction.specs.declared.Stop.{Stop}
 use Rattle.reduction.specs.declared.Stop.TheVariants.{Value, MayNot, WrongKind, TooBig}
 use Rattle.reduction.specs.declared.StepReport.{StepReport as Reported}
 
--- the script is one whole term, within the limits, and so is the types table
-pub record Startable (t s : Bytes) : Type 0 where
-  pub encoded : encode (term s) ≡ s
-  pub small : size (term s) ≤ script_limit
-  pub shallow : depth (term s) ≤ depth_limit
-  pub table : type_count t ≤ table_limit
+-- The script and its tables pass questions 2 to 19 and 36. Every script that a run reaches does.
+pub record Startable (g t s : Bytes) : Type 0 where
+  pub groups : Octets g
+  pub script : Octets s
+  pub passed : script_check [] g t s ≡ accepted tt
 
 -- The term can be stepped: its redex stands at record `at` with `around` records around it.
 pub record Sited (g t s : Bytes) (at around : ℕ) : Type 0 where
-  pub start : Startable t s
+  pub start : Startable g t s
   pub site : Site (properties_of g) (type_at t) 0 0 (term s) at around
 
 -- The new term can be written: the redex at record `at` has this plan and ends before record `end`, and the buffer has room for the
 -- whole.
 pub record Placing (g t s : Bytes) (at : ℕ) (p : Plan) (end : ℕ) (w : Bytes) : Type 0 where
-  pub start : Startable t s
+  pub start : Startable g t s
   pub around : ℕ
   pub site : Site (properties_of g) (type_at t) 0 0 (term s) at around
   pub planned : Planned s site.redex p

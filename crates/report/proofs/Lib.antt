@@ -1,1 +1,2 @@
+pub mod SheetBytes
 pub mod Texts

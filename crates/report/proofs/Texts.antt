@@ -15,6 +15,7 @@ use Rattle.rules.specs.Reach.{verdict}
 use Rattle.rules.specs.Report.{refusal_line, accepted_line, run_line, sheet_line, sheet_lines, sheet_text, value_text, run_text, checked_text, script_text, after_words, our_words, report}
 use Rattle.rules.specs.Words.{words_check}
 use Rattle.demands.proofs.Answers.{accepted_inj}
+use Rattle.demands.proofs.Checked.{Fit}
 use Rattle.rules.proofs.Asked.{ask_true, and_then}
 use Rattle.substitution.proofs.Reading.{term_length}
 use Rattle.packing.proofs.Exported.{run_ends}
@@ -22,6 +23,7 @@ use Rattle.memory.specs.Written.{Written}
 use Rattle.memory.specs.declared.Writer.{Writer}
 use Rattle.memory.proofs.Placed.{keeps}
 use Rattle.lines.proofs.Lines.{refusal_length, accepted_length, run_length, sheet_length, sheet_lines_first, no_line}
+use Rattle.report.proofs.SheetBytes.{term_octets, last_fits}
 use Rattle.report.specs.Room.{value_room, run_room, report_room}
 
 -- no answer is both
@@ -54,12 +56,14 @@ whole_lines w (suc n) [] rest e = absurd (omega arith)
 whole_lines w (suc n) (k ∷ []) rest e = absurd (omega arith)
 whole_lines w (suc n) (k ∷ r ∷ []) rest e = absurd (omega arith)
 whole_lines w (suc n) (k ∷ r ∷ ir ∷ []) rest e = absurd (omega arith)
-whole_lines w (suc n) (k ∷ r ∷ ir ∷ z ∷ b) rest e =
-    let four : sheet_width * suc n ≡ suc (suc (suc (suc (sheet_width * n)))) = omega arith in
-    ap (λ (m : ℕ). sheet_lines w (take m (k ∷ r ∷ ir ∷ z ∷ (b ++ rest)))) four
-    ∙ sheet_lines_first w k r ir z (take (sheet_width * n) (b ++ rest))
-    ∙ ap (λ (x : Bytes). sheet_line w k r ir ++ x) (whole_lines w n b rest (omega arith))
-    ∙ sym (sheet_lines_first w k r ir z b)
+whole_lines w (suc n) (k ∷ r ∷ ir ∷ z ∷ []) rest e = absurd (omega arith)
+whole_lines w (suc n) (k ∷ r ∷ ir ∷ z ∷ lo ∷ []) rest e = absurd (omega arith)
+whole_lines w (suc n) (k ∷ r ∷ ir ∷ z ∷ lo ∷ hi ∷ b) rest e =
+    let six : sheet_width * suc n ≡ suc (suc (suc (suc (suc (suc (sheet_width * n)))))) = omega arith in
+    ap (λ (m : ℕ). sheet_lines w (take m (k ∷ r ∷ ir ∷ z ∷ lo ∷ hi ∷ (b ++ rest)))) six
+    ∙ sheet_lines_first w k r ir z lo hi (take (sheet_width * n) (b ++ rest))
+    ∙ ap (λ (x : Bytes). sheet_line w k r ir (lo + 256 * hi) ++ x) (whole_lines w n b rest (omega arith))
+    ∙ sym (sheet_lines_first w k r ir z lo hi b)
 
 -- and their lines are the sheet's
 pub counted_lines : (w : Bytes) (a : Answer Bytes) (count : ℕ) (old page : Bytes) → accepted count ≡ sheet_records a → page ≡ sheet_after a old
@@ -185,45 +189,45 @@ after_run end steps records room w l = omega (arith, w.ends, keeps w, run_length
 pub run_line_fits : (end steps records at room : ℕ) → at + 81 ≤ room → at + length (run_line end steps records) ≤ room
 run_line_fits end steps records at room l = omega (arith, run_length end steps records)
 
-pub sheet_room : (w : Bytes) (a : Answer Bytes) → ((b : Bytes) → a ≡ accepted b → length b ≤ report_sheet) → length (sheet_text w a) ≤ value_room
-sheet_room w (accepted b) f = omega (arith, sheet_length w b, f b refl)
+pub sheet_room : (w : Bytes) (a : Answer Bytes) → ((b : Bytes) → a ≡ accepted b → (length b ≤ report_sheet) × Octets b) → length (sheet_text w a) ≤ value_room
+sheet_room w (accepted b) f = let p = f b refl in omega (arith, sheet_length w b p.1, p.0)
 sheet_room w (refused q p) f = omega (arith, refusal_length q p)
 
-pub value_length : (w g t : Bytes) (x : Ran) → length (value_text w g t x) ≤ value_room
+pub value_length : (w g t : Bytes) (x : Ran) → Octets g → Fit g t x.last → length (value_text w g t x) ≤ value_room
 unfolding value_text
-value_length w g t x = go (eqb x.end 0) refl
+value_length w g t x octets F = go (eqb x.end 0) refl
   where
     a : Answer Bytes
     a = sheeting g t (encode x.last) 0 report_sheet
 
     go : (b : Bool) → eqb x.end 0 ≡ b → length (value_text w g t x) ≤ value_room
-    go true e = rw (e, value_text) (sheet_room w a (page_fits g t (encode x.last) 0 report_sheet))
+    go true e = rw (e, value_text) (sheet_room w a (λ b h. (page_fits g t (encode x.last) 0 report_sheet b h, term_octets g t x.last 0 report_sheet octets F b h)))
     go false e = rw (e, value_text) (omega arith)
 
-run_text_length : (w g t : Bytes) (a : Answer Ran) → length (run_text w g t a) ≤ run_room
+run_text_length : (w g t : Bytes) (a : Answer Ran) → Octets g → ((x : Ran) → a ≡ accepted x → Fit g t x.last) → length (run_text w g t a) ≤ run_room
 unfolding run_text
-run_text_length w g t (accepted x) =
+run_text_length w g t (accepted x) octets F =
     omega
-    (arith, length-append (run_line x.end x.steps (size x.last)) (value_text w g t x), run_length x.end x.steps (size x.last), value_length w g t x)
-run_text_length w g t (refused q p) = omega (arith, refusal_length q p)
+    (arith, length-append (run_line x.end x.steps (size x.last)) (value_text w g t x), run_length x.end x.steps (size x.last), value_length w g t x octets (F x refl))
+run_text_length w g t (refused q p) octets F = omega (arith, refusal_length q p)
 
-script_length : (w g t s : Bytes) → length (script_text w g t s) ≤ report_room
+script_length : (w g t s : Bytes) → Octets g → Octets s → length (script_text w g t s) ≤ report_room
 unfolding script_text checked_text
-script_length w g t s = go (verdict g t s)
+script_length w g t s octets_g octets_s = go (verdict g t s)
   where
     go : (a : Answer Ty) → length (checked_text w g t s a) ≤ report_room
     go (accepted type) =
         let r : Bytes = run_text w g t (running g t s report_budget report_buffer report_buffer) in
         omega
-        (arith, length-append (accepted_line (size_t type)) r, accepted_length (size_t type), run_text_length w g t (running g t s report_budget report_buffer report_buffer))
+        (arith, length-append (accepted_line (size_t type)) r, accepted_length (size_t type), run_text_length w g t (running g t s report_budget report_buffer report_buffer) octets_g (last_fits g t s report_budget report_buffer report_buffer octets_g octets_s))
     go (refused q p) = omega (arith, refusal_length q p)
 
 -- No report is longer, whatever the files hold.
-pub report_length : (words : Option Bytes) (g t s : Bytes) → length (report words g t s) ≤ report_room
+pub report_length : (words : Option Bytes) (g t s : Bytes) → Octets g → Octets s → length (report words g t s) ≤ report_room
 unfolding report
-report_length none g t s = script_length our_words g t s
-report_length (some w) g t s = go (words_check w)
+report_length none g t s octets_g octets_s = script_length our_words g t s octets_g octets_s
+report_length (some w) g t s octets_g octets_s = go (words_check w)
   where
     go : (a : Answer (Unit {0})) → length (after_words a (script_text w g t s)) ≤ report_room
-    go (accepted u) = script_length w g t s
+    go (accepted u) = script_length w g t s octets_g octets_s
     go (refused q p) = omega (arith, refusal_length q p)

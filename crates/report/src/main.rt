@@ -50,7 +50,7 @@ const RUN_LENGTH: usize = SCRIPT_LIMIT * SCRIPT_WIDTH;
 const SHEET_LENGTH: usize = SCRIPT_LIMIT * SHEET_WIDTH;
 
 // No report is longer (`report_room`).
-const REPORT_LENGTH: usize = 450671;
+const REPORT_LENGTH: usize = 499823;
 
 // The value's text: the sheet of the run's last term for group 0, only when the end is 0.
 fn value_text(

@@ -2,7 +2,7 @@
 use Rattle.std.proofs.Common.{◌≡◌, refl, ap, sym, ◌∙◌, Bool, true, false, cond, List, [], ◌∷◌, ◌++◌, ℕ, suc, ◌+◌, add-one, arith}
 use Rattle.std.proofs.Math.Nat.{add-zero}
 use Rattle.std.proofs.lemmas.List.{append-nil}
-use Rattle.calculus.specs.Terms.{first, second, Term, var, unit, lam, pair, inj, app, proj, case, protect, mu}
+use Rattle.calculus.specs.Terms.{first, second, plus, less, Term, var, unit, lam, pair, inj, app, proj, case, protect, mu, literal, reckon}
 use Rattle.rules.specs.Answer.{Bytes, Answer, accepted, refused, ask, ◌>>◌}
 use Rattle.rules.specs.Script.{records, term, encode, size, counts}
 use Rattle.rules.proofs.TermCode.{term_operands}
@@ -29,6 +29,7 @@ counts_are : (q : Counted) (n : ℕ) (e : Term) → counts (wide q) (deeper q) b
 unfolding counts binds
 counts_are q n (var m) = refl
 counts_are q n (unit k) = refl
+counts_are q n (literal k m) = refl
 counts_are depth n (lam k i e) = simp (add-one, append-nil)
 counts_are depth n (pair k a b) = simp (add-one, append-nil)
 counts_are depth n (inj first k i e) = simp (add-one, append-nil)
@@ -39,6 +40,8 @@ counts_are depth n (proj second w e) = simp (add-one, append-nil)
 counts_are depth n (case w i e a b) = simp (widened_by, append-nil)
 counts_are depth n (protect m e) = simp (add-one, append-nil)
 counts_are depth n (mu w i e) = simp (add-one, append-nil)
+counts_are depth n (reckon plus w a b) = simp (add-one, append-nil)
+counts_are depth n (reckon (less i) w a b) = simp (add-one, append-nil)
 counts_are binders n (lam k i e) = simp (add-one, append-nil)
 counts_are binders n (pair k a b) = simp (add-zero, append-nil)
 counts_are binders n (inj first k i e) = simp (add-zero, append-nil)
@@ -49,6 +52,8 @@ counts_are binders n (proj second w e) = simp (add-zero, append-nil)
 counts_are binders n (case w i e a b) = simp (add-zero, add-one, append-nil)
 counts_are binders n (protect m e) = simp (add-zero, append-nil)
 counts_are binders n (mu w i e) = simp (add-one, append-nil)
+counts_are binders n (reckon plus w a b) = simp (add-zero, append-nil)
+counts_are binders n (reckon (less i) w a b) = simp (add-zero, append-nil)
 
 -- the scan of the term u at record i, whose record has number n
 abbrev pub scanned : (q : Counted) (s : Bytes) (i n : ℕ) (u : Term) → Answer ℕ

@@ -12,7 +12,7 @@ use Rattle.records.specs.Labels.{property_at}
 use Rattle.answer.proofs.Implications.{not_or_implies}
 
 -- each kind's number is at most the last
-pub known : (k : Kind) → leb (kind_number k) kinds.recursion ≡ true
+pub known : (k : Kind) → leb (kind_number k) kinds.less ≡ true
 known k = search rules
 
 or_implies : (a b : Bool) → (a || b) ≡ (not a ⇒ b)
@@ -20,7 +20,7 @@ or_implies true b = refl
 or_implies false b = refl
 
 module _ (s : Bytes) (i : ℕ) {k : ℕ} {f : Signature} {p : Property} (kind_is : k ≡ kind s i) (line_is : f ≡ signature_of k) (property_is : p ≡ property_at s i) where
-  pub ok14_is : {z n : ℕ} → leb k 11 ≡ true → z ≡ zero_byte s i → n ≡ number s i
+  pub ok14_is : {z n : ℕ} → leb k kinds.less ≡ true → z ≡ zero_byte s i → n ≡ number s i
       → (((((eqb z 0 && (f.r || eqb p.r 0)) && (f.ir || eqb p.ir 0)) && (f.number || eqb n 0)) && (f.c || eqb p.c 0)) && (f.ic || eqb p.ic 0)) ≡ ok14 s i
   unfolding ok14
   ok14_is known ez en = rw (line_is, property_is, ez, en, kind_is) (simp (or_implies, and_assoc, rw kind_is at known))

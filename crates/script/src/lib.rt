@@ -2,13 +2,14 @@
 
 #![tactic(auto)]
 
-ghost use Rattle.std.specs.Prelude.{◌≡◌, ◌<◌, ltb};
-ghost use Rattle.rules.specs.Script.{records, kind, is_object, ok14, ok15, ok36_object, ok16, q13_of, q13, q14, q15, q36_objects, q16, q17};
-ghost use Rattle.rules.specs.Types.{type_count};
+ghost use Rattle.std.specs.Prelude.{◌≡◌, ◌&&◌, ◌<◌, eqb, ltb};
+ghost use Rattle.rules.specs.Script.{records, kind, is_object, ok14, ok15, ok36_object, ok16, sum_of_units, q13_of, q13, q14, q15, q36_objects, q16, q17};
+ghost use Rattle.rules.specs.Types.{type_count, type_kind};
 ghost use Rattle.answer.specs.Said.{said};
 
 use answer::{Checked, Question};
 use records::{Kind, SCRIPT_WIDTH};
+use types::TYPE_WIDTH;
 
 pub const SCRIPT_LIMIT: usize = 8192;
 
@@ -32,7 +33,7 @@ pub fn question_13(script: &[u8], buffers: &[usize]) -> Checked
     question_13_of(script, SCRIPT_WIDTH, buffers)
 }
 
-// Is the kind of record i at most 11, and are its unnamed fields 0?
+// Is the kind of record i at most 14, and are its unnamed fields 0?
 #[tactic(auto, unfolding(rules::specs::Script::ok14))]
 fn fields_right(script: &[u8], i: usize) -> bool
     requires { i < records script.now }
@@ -51,7 +52,7 @@ fn fields_right(script: &[u8], i: usize) -> bool
         & (named.ic | (p.ic.0 == 0))
 }
 
-// 14. Kind at most 11, unnamed fields 0?
+// 14. Kind at most 14, unnamed fields 0?
 pub fn question_14(script: &[u8]) -> Checked
     ensures { said result ≡ q14 script.now }
 {
@@ -62,7 +63,7 @@ pub fn question_14(script: &[u8]) -> Checked
     )
 }
 
-// Is record i an object's: of kinds 1 to 5?
+// Is record i an object's: of kinds 1 to 5 or 12?
 fn is_object(script: &[u8], i: usize) -> bool
     requires { i < records script.now }
     ensures { result ≡ is_object (kind script.now i) }
@@ -89,7 +90,7 @@ fn groups_right(groups: &[u8], script: &[u8], i: usize) -> bool
         & (!kind.is_object() | p.ir.within(groups, p.r))
 }
 
-// 15. Named groups in table, and for kinds 1 to 5 ir ⊑ r?
+// 15. Named groups in table, and for kinds 1 to 5 and 12 ir ⊑ r?
 pub fn question_15(groups: &[u8], script: &[u8]) -> Checked
     ensures { said result ≡ q15 groups.now script.now }
 {
@@ -110,7 +111,7 @@ fn creators_right(groups: &[u8], script: &[u8], i: usize) -> bool
     !is_object(script, i) | p.ic.within(groups, p.c)
 }
 
-// 36. For kinds 1 to 5, ic ⊑ c?
+// 36. For kinds 1 to 5 and 12, ic ⊑ c?
 pub fn question_36(groups: &[u8], script: &[u8]) -> Checked
     ensures { said result ≡ q36_objects groups.now script.now }
 {
@@ -128,7 +129,26 @@ fn exists(types: &[u8], n: usize) -> bool
     n < types::type_count(types)
 }
 
-// Does the type that record i names exist, a sum for 4 and 5, a function for 11? A case that finds its own type names none.
+// Is the kind of type record i 0? Past the table's end it is read as 0; where a table has whole types, a sum's sides are there.
+fn reads_unit(types: &[u8], i: usize) -> bool
+    requires { i < 65538 }
+    ensures { result ≡ eqb (type_kind types.now i) 0 }
+{
+    types
+        .get(TYPE_WIDTH * i)
+        .is_none_or(|kind| *kind == types::Kind::Unit.number())
+}
+
+// Is n a type of the table, and a sum of two units?
+fn is_sum_of_units(types: &[u8], n: usize) -> bool
+    requires { n < 65536 }
+    ensures { result ≡ (ltb n (type_count types.now) && sum_of_units types.now n) }
+{
+    types::is_of_kind(types, n, types::Kind::Sum)
+        && (reads_unit(types, n + 1) && reads_unit(types, n + 2))
+}
+
+// Does the type that record i names exist, a sum for 4 and 5, a function for 11, a sum of two units for 14? A case that finds its own type names none.
 #[tactic(auto, unfolding(rules::specs::Script::ok16, rules::specs::Script::signature_of, rules::specs::Script::signatures))]
 fn type_right(types: &[u8], script: &[u8], i: usize) -> bool
     requires { i < records script.now }
@@ -144,11 +164,12 @@ fn type_right(types: &[u8], script: &[u8], i: usize) -> bool
         ),
         Some(Kind::Case) => records::finds_own(script, i) || exists(types, n),
         Some(Kind::Recursion) => types::is_of_kind(types, n, types::Kind::Function),
+        Some(Kind::Less) => is_sum_of_units(types, n),
         _ => true,
     }
 }
 
-// 16. Does a named type exist, a sum for 4 and 5, a function for 11?
+// 16. Does a named type exist, a sum for 4 and 5, a function for 11, a sum of two units for 14?
 pub fn question_16(types: &[u8], script: &[u8]) -> Checked
     ensures { said result ≡ q16 types.now script.now }
 {

@@ -1,10 +1,12 @@
 -- What a look finds at a term's record and at its operands.
-use Rattle.std.proofs.Common.{◌≡◌, ℕ, ◌+◌, ◌≤◌, ◌<◌, Bool, true, false, cond, ◌&&◌, Option, Some, None, ◌⊎◌, inl, inr, refl, sym, ap, ◌∙◌, arith}
+use Rattle.std.proofs.Common.{◌≡◌, ℕ, ◌+◌, ◌≤◌, ◌<◌, Bool, true, false, cond, ◌&&◌, Option, Some, None, ◌⊎◌, inl, inr, refl, sym, ap, ◌∙◌, true≢false, arith}
+use Rattle.std.proofs.Math.Bool.{false≢true}
+use Rattle.std.proofs.lemmas.Bool.Decides.{nat_tests}
 use Rattle.calculus.specs.Security.{Property}
-use Rattle.calculus.specs.Terms.{Side, first, second, choose, Term, var, unit, lam, pair, inj, app, proj, case, protect, mu, is_value}
+use Rattle.calculus.specs.Terms.{Side, first, second, choose, plus, less, Term, var, unit, lam, pair, inj, app, proj, case, protect, mu, literal, reckon, is_value}
 use Rattle.rules.specs.Answer.{Bytes}
 use Rattle.rules.specs.Groups.{leq}
-use Rattle.rules.specs.Script.{kind, size, r}
+use Rattle.rules.specs.Script.{kind, size, r, is_object}
 use Rattle.rules.proofs.PrefixLaws.{record_is}
 use Rattle.rules.proofs.RecordFields.{r_is}
 use Rattle.rules.proofs.TermCode.{term_code, term_head}
@@ -24,26 +26,30 @@ kind_is {s} {i} u e w = e ∙ stands_kind s i u w
 
 -- a term as a walk over values sees it
 pub data View : Term → Type 0 where
-  other : {e : Term} → is_value e ≡ false → (kinds.unit ≤ kind_of e → kinds.second_injection < kind_of e) → View e
+  other : {e : Term} → is_value e ≡ false → is_object (kind_of e) ≡ false → View e
   a_unit : {k : Property} → View (unit k)
   a_function : {k : Property} {i : ℕ} {e : Term} → View (lam k i e)
+  a_literal : {k : Property} {n : ℕ} → View (literal k n)
   a_pair : {k : Property} {a b : Term} → View (pair k a b)
   injection : {d : Side} {k : Property} {i : ℕ} {e : Term} → kinds.first_injection ≤ choose d kinds.first_injection kinds.second_injection → choose d kinds.first_injection kinds.second_injection ≤ kinds.second_injection → View (inj d k i e)
 
 pub view : (e : Term) → View e
 unfolding is_value
-view (var n) = other {e = var n} refl (λ l. absurd (omega arith))
+view (var n) = other {e = var n} refl refl
 view (unit k) = a_unit
 view (lam k i e) = a_function
 view (pair k a b) = a_pair
 view (inj first k i e) = injection {d = first} (omega arith) (omega arith)
 view (inj second k i e) = injection {d = second} (omega arith) (omega arith)
-view (app w f a) = other {e = app w f a} refl (λ l. omega arith)
-view (proj first w e) = other {e = proj first w e} refl (λ l. omega arith)
-view (proj second w e) = other {e = proj second w e} refl (λ l. omega arith)
-view (case w i e a b) = other {e = case w i e a b} refl (λ l. omega arith)
-view (protect m e) = other {e = protect m e} refl (λ l. omega arith)
-view (mu w i e) = other {e = mu w i e} refl (λ l. omega arith)
+view (app w f a) = other {e = app w f a} refl refl
+view (proj first w e) = other {e = proj first w e} refl refl
+view (proj second w e) = other {e = proj second w e} refl refl
+view (case w i e a b) = other {e = case w i e a b} refl refl
+view (protect m e) = other {e = protect m e} refl refl
+view (mu w i e) = other {e = mu w i e} refl refl
+view (literal k n) = a_literal
+view (reckon plus w a b) = other {e = reckon plus w a b} refl refl
+view (reckon (less i) w a b) = other {e = reckon (less i) w a b} refl refl
 
 -- the readers of an object: r of its own record
 abbrev pub own : Term → ℕ
@@ -74,6 +80,8 @@ module _ (g : Bytes) (group : ℕ) where
   lines_at_most (case w i e a b) = omega arith
   lines_at_most (protect m e) = omega arith
   lines_at_most (mu w i e) = omega arith
+  lines_at_most (literal k n) = omega arith
+  lines_at_most (reckon o w a b) = omega arith
 
   pub lines_size : (shown : Bool) (e : Term) → lines_if g group shown e ≤ size e
   lines_size true e = lines_at_most e
@@ -112,23 +120,34 @@ module _ (g : Bytes) (group : ℕ) where
         go false v h = v
         go true v h = absurd (cc)
 
--- objects are of the kinds from the unit to the second injection
-pub no_object : {e : Term} → View e → (kinds.unit ≤ kind_of e → kinds.second_injection < kind_of e) → is_value e ≡ false
-no_object (other v k) h = v
-no_object a_unit h = absurd (omega (arith, h (omega arith)))
-no_object a_function h = absurd (omega (arith, h (omega arith)))
-no_object a_pair h = absurd (omega (arith, h (omega arith)))
-no_object (injection l m) h = absurd (omega (arith, h (omega arith)))
+-- a pair's and the injections' kinds are an object's
+object_with_parts : (k : ℕ) → kinds.function < k → k ≤ kinds.second_injection → is_object k ≡ true
+object_with_parts k l m = grind (arith, nat_tests)
 
--- units and functions, whatever the body
-pub no_parts : (g : Bytes) (group : ℕ) (shown : Bool) {e : Term} → View e → kinds.unit ≤ kind_of e → kind_of e ≤ kinds.function
+-- so a term of no object's kind has none of them
+pub no_such_parts : {A : Type 0} (k : ℕ) → is_object k ≡ false → kinds.function < k → k ≤ kinds.second_injection → A
+no_such_parts k n l m = absurd (false≢true (sym n ∙ object_with_parts k l m))
+
+-- what is of no object's kind is no value
+pub no_object : {e : Term} → View e → is_object (kind_of e) ≡ false → is_value e ≡ false
+no_object (other v k) h = v
+no_object a_unit h = absurd (true≢false h)
+no_object a_function h = absurd (true≢false h)
+no_object a_literal h = absurd (true≢false h)
+no_object a_pair h = absurd (true≢false h)
+no_object (injection {d = first} l m) h = absurd (true≢false h)
+no_object (injection {d = second} l m) h = absurd (true≢false h)
+
+-- units, functions, whatever the body, and literals
+pub no_parts : (g : Bytes) (group : ℕ) (shown : Bool) {e : Term} → View e → is_object (kind_of e) ≡ true → (kinds.function < kind_of e → kinds.second_injection < kind_of e)
     → (is_value e ≡ true) × (lines_if g group shown e ≡ cond shown 1 0)
 unfolding is_value lines
-no_parts g group shown (other v k) l m = absurd (omega (arith, k l))
-no_parts g group shown a_unit l m = (refl, refl)
-no_parts g group shown a_function l m = (refl, refl)
-no_parts g group shown a_pair l m = absurd (omega arith)
-no_parts g group shown (injection p q) l m = absurd (omega arith)
+no_parts g group shown (other v k) o h = absurd (true≢false (sym o ∙ k))
+no_parts g group shown a_unit o h = (refl, refl)
+no_parts g group shown a_function o h = (refl, refl)
+no_parts g group shown a_literal o h = (refl, refl)
+no_parts g group shown a_pair o h = absurd (omega (arith, h (omega arith)))
+no_parts g group shown (injection p q) o h = absurd (omega (arith, h (omega arith)))
 
 -- an injection: its part is the operand
 pub record Injects (e : Term) : Type 0 where
@@ -149,9 +168,10 @@ pub record Pairs (e : Term) : Type 0 where
 
 pub injects : {e : Term} → View e → kinds.function < kind_of e → kind_of e ≤ kinds.second_injection → (kind_of e ≡ kinds.pair → ⊥) → Injects e
 unfolding is_value lines size
-injects (other v k) l m n = absurd (omega (arith, k (omega arith)))
+injects {e} (other v k) l m n = no_such_parts (kind_of e) k l m
 injects a_unit l m n = absurd (omega arith)
 injects a_function l m n = absurd (omega arith)
+injects a_literal l m n = absurd (omega arith)
 injects a_pair l m n = absurd (n refl)
 injects (injection {d} {k} {i} {e = f} p q) l m n = record { one = omega arith; value = refl; sized = refl; counted = counts }
   where
@@ -166,9 +186,10 @@ both_or_none false a b = refl
 
 pub pairs : {e : Term} → View e → kind_of e ≡ kinds.pair → Pairs e
 unfolding is_value lines size
-pairs (other v k) h = absurd (omega (arith, k (omega arith)))
+pairs {e} (other v k) h = no_such_parts (kind_of e) k (omega arith) (omega arith)
 pairs a_unit h = absurd (omega arith)
 pairs a_function h = absurd (omega arith)
+pairs a_literal h = absurd (omega arith)
 pairs (a_pair {k} {a} {b}) h = record { two = omega arith; value = refl; sized = refl; counted = counts }
   where
     counts : (g : Bytes) (group : ℕ) (shown : Bool)
@@ -181,9 +202,10 @@ pairs (injection p q) h = absurd (omega arith)
 -- a pair and an injection have a first operand, and are no values unless it is one
 pub first_part : {e : Term} → View e → kinds.function < kind_of e → kind_of e ≤ kinds.second_injection → (1 ≤ operands e) × (is_value (first_operand e) ≡ false → is_value e ≡ false)
 unfolding is_value
-first_part (other v k) l m = absurd (omega (arith, k (omega arith)))
+first_part {e} (other v k) l m = no_such_parts (kind_of e) k l m
 first_part a_unit l m = absurd (omega arith)
 first_part a_function l m = absurd (omega arith)
+first_part a_literal l m = absurd (omega arith)
 first_part a_pair l m = (omega arith, λ v. rw v)
 first_part (injection p q) l m = (omega arith, λ v. v)
 
@@ -206,9 +228,11 @@ module _ (g : Bytes) (group : ℕ) (shown inside : Bool) (e : Term) (i n own_lin
       rw (p.value, f.value, a, b)
 
 -- what the walks ask of an object's kind
-pub plain : {k : Kind} → (k ≡ the.Unit) ⊎ (k ≡ the.Function) → (kinds.unit ≤ kind_number k) × (kind_number k ≤ kinds.function)
-plain (inl e) = rw e (omega arith, omega arith)
-plain (inr e) = rw e (omega arith, omega arith)
+pub plain : {k : Kind} → (k ≡ the.Unit) ⊎ ((k ≡ the.Function) ⊎ (k ≡ the.Literal))
+    → (is_object (kind_number k) ≡ true) × (kinds.function < kind_number k → kinds.second_injection < kind_number k)
+plain (inl e) = rw e (refl, λ l. omega arith)
+plain (inr (inl e)) = rw e (refl, λ l. omega arith)
+plain (inr (inr e)) = rw e (refl, λ l. omega arith)
 
 pub of_injection : {k : Kind} → (k ≡ the.FirstInjection) ⊎ (k ≡ the.SecondInjection)
     → (kinds.function < kind_number k) × (kind_number k ≤ kinds.second_injection) × (kind_number k ≡ kinds.pair → ⊥)
@@ -216,33 +240,39 @@ of_injection (inl e) = rw e (omega arith, omega arith, λ h. omega arith)
 of_injection (inr e) = rw e (omega arith, omega arith, λ h. omega arith)
 
 -- a kind that is none of a pair's and the injections'
-pub no_parts_kind : (k : Kind) → (k ≡ the.Pair → ⊥) → (k ≡ the.FirstInjection → ⊥) → (k ≡ the.SecondInjection → ⊥) → kind_number k ≤ kinds.second_injection
-    → kind_number k ≤ kinds.function
-no_parts_kind the.Variable a b c l = omega arith
-no_parts_kind the.Unit a b c l = omega arith
-no_parts_kind the.Function a b c l = omega arith
+pub no_parts_kind : (k : Kind) → (k ≡ the.Pair → ⊥) → (k ≡ the.FirstInjection → ⊥) → (k ≡ the.SecondInjection → ⊥) → kinds.function < kind_number k
+    → kinds.second_injection < kind_number k
+no_parts_kind the.Variable a b c l = absurd (omega arith)
+no_parts_kind the.Unit a b c l = absurd (omega arith)
+no_parts_kind the.Function a b c l = absurd (omega arith)
 no_parts_kind the.Pair a b c l = absurd (a refl)
 no_parts_kind the.FirstInjection a b c l = absurd (b refl)
 no_parts_kind the.SecondInjection a b c l = absurd (c refl)
-no_parts_kind the.Application a b c l = absurd (omega arith)
-no_parts_kind the.FirstProjection a b c l = absurd (omega arith)
-no_parts_kind the.SecondProjection a b c l = absurd (omega arith)
-no_parts_kind the.Case a b c l = absurd (omega arith)
-no_parts_kind the.Protect a b c l = absurd (omega arith)
-no_parts_kind the.Recursion a b c l = absurd (omega arith)
+no_parts_kind the.Application a b c l = omega arith
+no_parts_kind the.FirstProjection a b c l = omega arith
+no_parts_kind the.SecondProjection a b c l = omega arith
+no_parts_kind the.Case a b c l = omega arith
+no_parts_kind the.Protect a b c l = omega arith
+no_parts_kind the.Recursion a b c l = omega arith
+no_parts_kind the.Literal a b c l = omega arith
+no_parts_kind the.Sum a b c l = omega arith
+no_parts_kind the.Less a b c l = omega arith
 
--- and none of the unit's and the function's either
-pub no_object_kind : (k : Kind) → (k ≡ the.Unit → ⊥) → (k ≡ the.Function → ⊥) → (k ≡ the.Pair → ⊥) → (k ≡ the.FirstInjection → ⊥) → (k ≡ the.SecondInjection → ⊥)
-    → kinds.unit ≤ kind_number k → kinds.second_injection < kind_number k
-no_object_kind the.Variable u f a b c l = absurd (omega arith)
-no_object_kind the.Unit u f a b c l = absurd (u refl)
-no_object_kind the.Function u f a b c l = absurd (f refl)
-no_object_kind the.Pair u f a b c l = absurd (a refl)
-no_object_kind the.FirstInjection u f a b c l = absurd (b refl)
-no_object_kind the.SecondInjection u f a b c l = absurd (c refl)
-no_object_kind the.Application u f a b c l = omega arith
-no_object_kind the.FirstProjection u f a b c l = omega arith
-no_object_kind the.SecondProjection u f a b c l = omega arith
-no_object_kind the.Case u f a b c l = omega arith
-no_object_kind the.Protect u f a b c l = omega arith
-no_object_kind the.Recursion u f a b c l = omega arith
+-- and none of the unit's, the function's and the literal's either
+pub no_object_kind : (k : Kind) → (k ≡ the.Unit → ⊥) → (k ≡ the.Function → ⊥) → (k ≡ the.Literal → ⊥) → (k ≡ the.Pair → ⊥) → (k ≡ the.FirstInjection → ⊥)
+    → (k ≡ the.SecondInjection → ⊥) → is_object (kind_number k) ≡ false
+no_object_kind the.Variable u f n a b c = refl
+no_object_kind the.Unit u f n a b c = absurd (u refl)
+no_object_kind the.Function u f n a b c = absurd (f refl)
+no_object_kind the.Pair u f n a b c = absurd (a refl)
+no_object_kind the.FirstInjection u f n a b c = absurd (b refl)
+no_object_kind the.SecondInjection u f n a b c = absurd (c refl)
+no_object_kind the.Application u f n a b c = refl
+no_object_kind the.FirstProjection u f n a b c = refl
+no_object_kind the.SecondProjection u f n a b c = refl
+no_object_kind the.Case u f n a b c = refl
+no_object_kind the.Protect u f n a b c = refl
+no_object_kind the.Recursion u f n a b c = refl
+no_object_kind the.Literal u f n a b c = absurd (n refl)
+no_object_kind the.Sum u f n a b c = refl
+no_object_kind the.Less u f n a b c = refl

@@ -1,6 +1,6 @@
 -- A value that stands in a script: what looking it over tells, and what writing its sheet is given.
 use Rattle.std.specs.Prelude.{◌≡◌, Bool, true, cond, ℕ, ◌+◌, Option, Some, None}
-use Rattle.calculus.specs.Terms.{Term, var, unit, lam, pair, inj, app, proj, case, protect, mu, is_value}
+use Rattle.calculus.specs.Terms.{Term, var, unit, lam, pair, inj, app, proj, case, protect, mu, literal, reckon, is_value}
 use Rattle.rules.specs.Answer.{Bytes}
 use Rattle.rules.specs.Groups.{leq}
 use Rattle.rules.specs.Script.{size}
@@ -22,6 +22,8 @@ lines g group (proj d w e) = 0
 lines g group (case w i e a b) = 0
 lines g group (protect m e) = 0
 lines g group (mu w i e) = 0
+lines g group (literal k n) = 1
+lines g group (reckon o w a b) = 0
 
 -- none where the value isn't shown
 abbrev pub lines_if : Bytes → ℕ → Bool → Term → ℕ

@@ -6,14 +6,14 @@ ghost use Rattle.std.specs.Prelude.{◌≡◌, true, cond, ◌+◌, ◌*◌, ◌
 ghost use Rattle.calculus.specs.Terms.{Term, is_value};
 ghost use Rattle.rules.specs.Limits.{sheet_width};
 ghost use Rattle.rules.specs.Groups.{leq};
-ghost use Rattle.rules.specs.Script.{records, r, size};
+ghost use Rattle.rules.specs.Script.{records, kind, r, number, size};
 ghost use Rattle.rules.specs.Sheet.{sheet};
 ghost use Rattle.rules.specs.Calls.{sheeting, sheet_records, sheet_after};
 ghost use Rattle.answer.specs.Said.{said};
 ghost use Rattle.records.specs.Numbers.{kind_number};
 ghost use Rattle.records.specs.Place.{At, Here};
 ghost use Rattle.memory.specs.Written.{Room, Written};
-ghost use Rattle.sheet.specs.Shown.{shown_number, shown_kind, line, bytes_of};
+ghost use Rattle.sheet.specs.Shown.{shown_number, shown_kind, literal_number, line, bytes_of};
 ghost use Rattle.sheet.specs.Value.{looked, SheetRoom};
 ghost use Rattle.sheet.specs.Before.{before_26};
 
@@ -22,7 +22,7 @@ use lattice::{Group, Indirect, Reader};
 use memory::Writer;
 use records::Kind;
 
-pub const SHEET_WIDTH: usize = 4;
+pub const SHEET_WIDTH: usize = 6;
 
 // The kinds of sheet records, in the order of their numbers.
 #[derive(Clone, Copy, Debug, PartialEq, Eq)]
@@ -33,6 +33,7 @@ pub enum Shown {
     Pair,
     Function,
     Closed,
+    Number,
 }
 
 impl Shown {
@@ -49,6 +50,7 @@ struct Line {
     pub kind: Shown,
     pub r: Reader,
     pub ir: Indirect,
+    pub number: u16,
 }
 
 // Where a look over a value has come to: the script record after the value, and the sheet record after its own.
@@ -93,7 +95,7 @@ fn look(
     let inside = shown & is_open(groups, value, i, group);
     match records::kind_of(value, i) {
         // A function's body is neither asked to be a value nor counted.
-        Kind::Unit | Kind::Function => Some(Reached {
+        Kind::Unit | Kind::Function | Kind::Literal => Some(Reached {
             next: records::end_of(value, i),
             line: own,
         }),
@@ -119,6 +121,7 @@ fn shown_kind(kind: Kind) -> Shown
     ensures { shown_number result ≡ shown_kind (kind_number kind) }
 {
     match kind {
+        Kind::Literal => Shown::Number,
         Kind::Function => Shown::Function,
         Kind::Pair => Shown::Pair,
         Kind::FirstInjection => Shown::First,
@@ -127,7 +130,18 @@ fn shown_kind(kind: Kind) -> Shown
     }
 }
 
-// The sheet record of the object at record i: its kind and groups are told, or it is closed.
+// The number that is shown of the object at record i: a literal's, and 0 of all else.
+fn literal_number(value: &[u8], i: usize) -> u16
+    requires { Here value.now i }
+    ensures { result ≡ literal_number (kind value.now i) (number value.now i) }
+{
+    match records::kind_of(value, i) {
+        Kind::Literal => records::number(value, i),
+        _ => 0,
+    }
+}
+
+// The sheet record of the object at record i: its kind, its groups and a literal's number are told, or it is closed.
 fn line_of(value: &[u8], i: usize, told: bool) -> Line
     requires { Here value.now i }
     ensures { bytes_of result ≡ line told value.now i }
@@ -136,12 +150,19 @@ fn line_of(value: &[u8], i: usize, told: bool) -> Line
         let kind = shown_kind(records::kind_of(value, i));
         let r = records::reader(value, i);
         let ir = records::indirect(value, i);
-        return Line { kind, r, ir };
+        let number = literal_number(value, i);
+        return Line {
+            kind,
+            r,
+            ir,
+            number,
+        };
     }
     Line {
         kind: Shown::Closed,
         r: Reader(0),
         ir: Indirect(0),
+        number: 0,
     }
 }
 
@@ -150,7 +171,8 @@ fn put(line: Line, out: &mut Writer)
     requires { Room (bytes_of line) out.old }
     ensures { Written (bytes_of line) out.old out.new }
 {
-    let bytes = [line.kind.number(), line.r.0, line.ir.0, 0];
+    let [low, high] = line.number.to_le_bytes();
+    let bytes = [line.kind.number(), line.r.0, line.ir.0, 0, low, high];
     out.put(&bytes);
 }
 

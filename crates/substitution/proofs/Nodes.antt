@@ -1,6 +1,6 @@
 -- Substitution, records and depth of a node by its operands, whatever its kind.
 use Rattle.std.proofs.Common.{◌≡◌, refl, ap, ap₂, ◌∙◌, Bool, true, false, cond, List, [], ◌∷◌, ◌++◌, ℕ, suc, ◌+◌, ◌*◌, ◌≤◌, max, arith, add-one, add-zero, eqb, length}
-use Rattle.calculus.specs.Terms.{first, second, Term, var, unit, lam, pair, inj, app, proj, case, protect, mu, subst}
+use Rattle.calculus.specs.Terms.{first, second, plus, less, Term, var, unit, lam, pair, inj, app, proj, case, protect, mu, literal, reckon, subst}
 use Rattle.rules.specs.Script.{encode, size, depth}
 use Rattle.rules.proofs.Prefix.{All, joined, total}
 use Rattle.rules.proofs.Parts.{all_of, total_append}
@@ -32,6 +32,8 @@ term_depth_is (proj d w e) = omega arith
 term_depth_is (case w i e a b) = omega arith
 term_depth_is (protect m e) = omega arith
 term_depth_is (mu w i e) = omega arith
+term_depth_is (literal k n) = refl
+term_depth_is (reckon o w a b) = omega arith
 
 -- a variable, or a node of another kind
 pub data View : Term → Type 0 where
@@ -54,6 +56,9 @@ view (proj second w e) = node (positive 7)
 view (case w i e a b) = node (positive 8)
 view (protect m e) = node (positive 9)
 view (mu w i e) = node (positive 10)
+view (literal k n) = node (positive 11)
+view (reckon plus w a b) = node (positive 12)
+view (reckon (less i) w a b) = node (positive 13)
 
 -- operands from the j-th on of a node of kind k, with v for the node's variable n
 abbrev pub under : ℕ → ℕ → Term → ℕ → List Term → List Term
@@ -86,6 +91,9 @@ subst_node n v (proj second w e) h = record { head = refl; weight = refl; operan
 subst_node n v (case w i e a b) h = record { head = refl; weight = refl; operands = rw (add-zero n, add-one n) }
 subst_node n v (protect m e) h = record { head = refl; weight = refl; operands = rw (add-zero n) }
 subst_node n v (mu w i e) h = record { head = refl; weight = refl; operands = rw (add-one n) }
+subst_node n v (literal k m) h = record { head = refl; weight = refl; operands = refl }
+subst_node n v (reckon plus w a b) h = record { head = refl; weight = refl; operands = rw (add-zero n) }
+subst_node n v (reckon (less i) w a b) h = record { head = refl; weight = refl; operands = rw (add-zero n) }
 
 pub subst_var : (n : ℕ) (v : Term) (m : ℕ) → subst n v (var m) ≡ cond (eqb m n) v (var m)
 unfolding subst

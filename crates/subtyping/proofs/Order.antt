@@ -3,39 +3,38 @@ use Rattle.std.proofs.Common.{◌≡◌, ℕ, ◌+◌, ◌*◌, ◌≤◌, ◌<�
 use Rattle.std.proofs.Common.{refl, ap, ap₂, sym, ◌∙◌, arith, eqb-true, eq-eqb, ne_eqb, true≢false}
 use Rattle.std.proofs.Math.Bool.{and-eq-true_iff}
 use Rattle.calculus.specs.Security.{Security}
-use Rattle.calculus.specs.Types.{sum, product, function, Ty, one, node, top, size_t}
+use Rattle.calculus.specs.Types.{one, number, sum, product, function, Ty, leaf, node, top, size_t}
 use Rattle.calculus.specs.Subtyping.{Direction, below, above, opposite, leftward, le_toward, subtype}
 use Rattle.calculus.proofs.Subtyping.{subtype_sound, subtype_opposite, subtype_size}
 use Rattle.rules.specs.Answer.{Bytes}
 use Rattle.rules.specs.Limits.{type_width}
-use Rattle.rules.specs.Types.{former_kind}
+use Rattle.rules.specs.Types.{former_kind, leaf_kind, sides}
 use Rattle.rules.specs.Comparison.{equal_properties, equal_types}
 use Rattle.subtyping.specs.declared.Related.{Related}
 use Rattle.types.specs.declared.Kind.{Kind}
-use Rattle.types.specs.declared.Kind.TheVariants.{Unit, Function}
+use Rattle.types.specs.declared.Kind.TheVariants.{Function}
 use Rattle.types.specs.Kinds.{kind_number}
 use Rattle.types.specs.Held.{Held, Starts, Sided, Counted, kind_of, left_of, right_of}
 use Rattle.subtyping.specs.Compared.{compared}
-use Rattle.types.specs.contracts.Kind.{the_type}
-use Rattle.types.proofs.Formers.{former_not_unit, same_former}
-use Rattle.types.proofs.Numbered.{same_kind, tests_numbers, eqb_comm}
-use Rattle.types.proofs.Parts.{held_length, two_of}
-use denote.Enum.Bare.{sameb}
+use Rattle.types.proofs.Formers.{former_not_leaf, same_leaves, same_former}
+use Rattle.types.proofs.Numbered.{same_kind, eqb_comm}
+use Rattle.types.proofs.Parts.{held_length, two_of, sideless}
 
 -- the direction of the left sides
 abbrev pub turned : Ty → Direction → Direction
-turned (one k) d = d
+turned (leaf b k) d = d
 turned (node f k s t) d = leftward f d
 
 -- it turns round at a function, and nowhere else
 pub turned_round : (d : Direction) {k : Kind} → k ≡ Function → (s : Ty) → kind_number k ≡ kind_of s → opposite d ≡ turned s d
-turned_round d f (one k) e = absurd (omega (arith, ap kind_number f))
+turned_round d f (leaf one k) e = absurd (omega (arith, ap kind_number f))
+turned_round d f (leaf number k) e = absurd (omega (arith, ap kind_number f))
 turned_round d f (node sum k s t) e = absurd (omega (arith, ap kind_number f))
 turned_round d f (node product k s t) e = absurd (omega (arith, ap kind_number f))
 turned_round d f (node function k s t) e = refl
 
 pub straight_on : (d : Direction) {k : Kind} → (k ≡ Function → ⊥) → (s : Ty) → kind_number k ≡ kind_of s → d ≡ turned s d
-straight_on d n (one k) e = refl
+straight_on d n (leaf b k) e = refl
 straight_on d n (node sum k s t) e = refl
 straight_on d n (node product k s t) e = refl
 straight_on d {k} n (node function l s t) e = absurd (n (same_kind k Function e))
@@ -52,11 +51,11 @@ both b None x = None
 module _ (S : Security) where
   -- what is left once the first records are compared
   sides_below : Direction → Ty → Ty → Bool
-  sides_below d (one k) t = true
+  sides_below d (leaf b k) t = true
   sides_below d (node f k s s') t = subtype S (leftward f d) s (left_of t) && subtype S d s' (right_of t)
 
   sides_equal : Ty → Ty → Bool
-  sides_equal (one k) t = true
+  sides_equal (leaf b k) t = true
   sides_equal (node f k s s') t = equal_types s (left_of t) && equal_types s' (right_of t)
 
   abbrev pub firsts : Direction → Ty → Ty → Bool
@@ -76,18 +75,19 @@ module _ (S : Security) where
 
   subtype_is : (d : Direction) (s t : Ty) → subtype S d s t ≡ firsts d s t && sides_below d s t
   unfolding subtype sides_below
-  subtype_is d (one k) (one l) = and_true (le_toward S d k l)
-  subtype_is d (one k) (node g l t t') = rw (ne_eqb _ _ (λ z. former_not_unit g (sym z)))
-  subtype_is d (node f k s s') (one l) = rw (ne_eqb _ _ (former_not_unit f))
+  subtype_is d (leaf b k) (leaf b' l) = ap (λ c. c && le_toward S d k l) (same_leaves b b') ∙ and_true (eqb (leaf_kind b) (leaf_kind b') && le_toward S d k l)
+  subtype_is d (leaf b k) (node g l t t') = rw (ne_eqb _ _ (λ z. former_not_leaf g b (sym z)))
+  subtype_is d (node f k s s') (leaf b' l) = rw (ne_eqb _ _ (former_not_leaf f b'))
   subtype_is d (node f k s s') (node g l t t') =
       ap (λ b. b && (le_toward S d k l && (subtype S (leftward f d) s t && subtype S d s' t'))) (same_former f g)
       ∙ and_assoc (eqb (former_kind f) (former_kind g)) (le_toward S d k l) _
 
   equal_is : (s t : Ty) → equal_types s t ≡ eqb (kind_of s) (kind_of t) && (equal_properties (top s) (top t) && sides_equal s t)
   unfolding equal_types sides_equal
-  equal_is (one k) (one l) = and_true (equal_properties k l)
-  equal_is (one k) (node g l t t') = rw (ne_eqb _ _ (λ z. former_not_unit g (sym z)))
-  equal_is (node f k s s') (one l) = rw (ne_eqb _ _ (former_not_unit f))
+  equal_is (leaf b k) (leaf b' l) =
+      ap (λ c. c && equal_properties k l) (same_leaves b b') ∙ ap (λ c. eqb (leaf_kind b) (leaf_kind b') && c) (and_true (equal_properties k l))
+  equal_is (leaf b k) (node g l t t') = rw (ne_eqb _ _ (λ z. former_not_leaf g b (sym z)))
+  equal_is (node f k s s') (leaf b' l) = rw (ne_eqb _ _ (former_not_leaf f b'))
   equal_is (node f k s s') (node g l t t') =
       ap (λ b. b && (equal_properties k l && (equal_types s t && equal_types s' t'))) (same_former f g)
 
@@ -108,13 +108,13 @@ module _ (S : Security) where
       (sym (subtype_is d s t ∙ ap (λ b. b && sides_below d s t) e))
       (sym (equal_is s t ∙ ap (λ b. b && (equal_properties (top s) (top t) && sides_equal s t)) k))
 
-  pub of_unit : (d : Direction) (s t : Ty) (b : Bool) → kind_of s ≡ 0 → firsts d s t ≡ true → b ≡ equal_properties (top s) (top t)
-      → walked b 1 ≡ compared S d s t
+  pub of_leaf : (d : Direction) (s t : Ty) (x : Bool) → (sides (kind_of s) ≡ 2 → ⊥) → firsts d s t ≡ true → x ≡ equal_properties (top s) (top t)
+      → walked x 1 ≡ compared S d s t
   unfolding sides_below sides_equal size_t
-  of_unit d (one k) t b z e f = ap (λ c. walked c 1) (f ∙ and_true (equal_properties k (top t))) ∙ of_sides d (one k) t e
-  of_unit d (node sum k s s') t b z e f = absurd (omega arith)
-  of_unit d (node product k s s') t b z e f = absurd (omega arith)
-  of_unit d (node function k s s') t b z e f = absurd (omega arith)
+  of_leaf d (leaf b k) t x n e f = ap (λ c. walked c 1) (f ∙ and_true (equal_properties k (top t))) ∙ of_sides d (leaf b k) t e
+  of_leaf d (node sum k s s') t x n e f = absurd (n refl)
+  of_leaf d (node product k s s') t x n e f = absurd (n refl)
+  of_leaf d (node function k s s') t x n e f = absurd (n refl)
 
   both_cond : (b p q x y : Bool) (n m : ℕ)
       → both b (cond p (walked x n) None) (cond q (walked y m) None) ≡ cond (p && q) (walked (b && (x && y)) (1 + (n + m))) None
@@ -122,12 +122,12 @@ module _ (S : Security) where
   both_cond b true false x y n m = refl
   both_cond b false q x y n m = refl
 
-  pub of_both : (d : Direction) (s t : Ty) → (kind_of s ≡ 0 → ⊥) → firsts d s t ≡ true
+  pub of_both : (d : Direction) (s t : Ty) → sides (kind_of s) ≡ 2 → firsts d s t ≡ true
       → both (equal_properties (top s) (top t)) (compared S (turned s d) (left_of s) (left_of t)) (compared S d (right_of s) (right_of t))
       ≡ compared S d s t
   unfolding sides_below sides_equal size_t
-  of_both d (one k) t n e = absurd (n refl)
-  of_both d (node f k s s') t n e =
+  of_both d (leaf b k) t two e = absurd (sideless b two)
+  of_both d (node f k s s') t two e =
       both_cond (equal_properties k (top t)) (subtype S (leftward f d) s (left_of t)) (subtype S d s' (right_of t))
       (equal_types s (left_of t)) (equal_types s' (right_of t)) (size_t s) (size_t s')
       ∙ of_sides d (node f k s s') t e
@@ -179,15 +179,7 @@ abbrev pub alike : (S : Security) (d : Direction) {a b : Bytes} {x : Bool} {k : 
     → Alike S d a b x k
 alike S d w o f k = record { sa = w.0; sb = w.1; ka = k; ok = asked S d o; same_first = f }
 
--- Whether they are of units is asked next.
-module _ (k : Kind) {z : Bool} (e : z ≡ sameb the_type k Unit) where
-  unit_is : z ≡ true → kind_number k ≡ 0
-  unit_is f = eqb-true _ _ (sym (tests_numbers k Unit) ∙ sym e ∙ f)
-
-  pub two_sides : z ≡ false → kind_number k ≡ 0 → ⊥
-  two_sides f g = true≢false (sym (eq-eqb _ _ g) ∙ sym (tests_numbers k Unit) ∙ sym e ∙ f)
-
--- Past that the left sides are compared too, with the answer x; then the right sides.
+-- Where they have sides the left ones are compared too, with the answer x; then the right sides.
 pub record Lefts (S : Security) (d : Direction) (a b : Bytes) (f : Bool) (x : Option Related) : Type 0 where
   pub sided_l : Sided a
   pub sided_r : Sided b
@@ -195,21 +187,25 @@ pub record Lefts (S : Security) (d : Direction) (a b : Bytes) (f : Bool) (x : Op
   pub same_first : (s t : Ty) → Held a s → Held b t → f ≡ equal_properties (top s) (top t)
   pub said : (s t : Ty) → Held a s → Held b t → x ≡ compared S (turned s d) (left_of s) (left_of t)
 
-module _ {S : Security} {d : Direction} {a b : Bytes} {f : Bool} {k : Kind} (h : Alike S d a b f k) {z : Bool} (e : z ≡ sameb the_type k Unit) where
-  pub at_unit : z ≡ true → (s t : Ty) → Held a s → Held b t → walked f 1 ≡ compared S d s t
-  at_unit u s t p q = of_unit S d s t f (sym (h.ka s p) ∙ unit_is k e u) (h.ok s t p q) (h.same_first s t p q)
+module _ {S : Security} {d : Direction} {a b : Bytes} {f : Bool} {k : Kind} (h : Alike S d a b f k) where
+  pub at_leaf : false ≡ eqb (sides (kind_number k)) 2 → (s t : Ty) → Held a s → Held b t → walked f 1 ≡ compared S d s t
+  at_leaf e s t p q =
+      of_leaf S d s t f (λ two. true≢false (sym (eq-eqb _ _ (ap sides (h.ka s p) ∙ two)) ∙ sym e)) (h.ok s t p q) (h.same_first s t p q)
 
   pub kb : (t : Ty) → Held b t → kind_number k ≡ kind_of t
   kb t q =
       h.ka h.sa.type h.sa.held
       ∙ eqb-true _ _ ((and-eq-true_iff (eqb (kind_of h.sa.type) (kind_of t)) _).0 (h.ok h.sa.type t h.sa.held q)).0
 
-  module _ (n : z ≡ false) where
+  module _ (e : true ≡ eqb (sides (kind_number k)) 2) where
+    pub two : sides (kind_number k) ≡ 2
+    two = eqb-true _ _ (sym e)
+
     abbrev pub sided_a : Sided a
-    sided_a = record { type = h.sa.type; held = h.sa.held; two = λ g. two_sides k e n (h.ka h.sa.type h.sa.held ∙ g) }
+    sided_a = record { type = h.sa.type; held = h.sa.held; two = ap sides (sym (h.ka h.sa.type h.sa.held)) ∙ two }
 
     abbrev pub sided_b : Sided b
-    sided_b = record { type = h.sb.type; held = h.sb.held; two = λ g. two_sides k e n (kb h.sb.type h.sb.held ∙ g) }
+    sided_b = record { type = h.sb.type; held = h.sb.held; two = ap sides (sym (kb h.sb.type h.sb.held)) ∙ two }
 
     -- the answer, in one way or the other
     abbrev pub lefts : (x : Option Related) → Lefts S d a b f x → Lefts S d a b f x

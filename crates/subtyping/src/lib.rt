@@ -52,7 +52,7 @@ pub fn at_or_below(groups: &[u8], lower: &[u8], upper: &[u8]) -> Option<Related>
     }
     let first = first_same(lower, upper);
     let lower_kind = types::kind_of(lower);
-    if lower_kind == Kind::Unit {
+    if !lower_kind.has_sides() {
         return Some(Related {
             same: first,
             records: 1,
@@ -83,7 +83,7 @@ pub fn at_or_above(groups: &[u8], upper: &[u8], lower: &[u8]) -> Option<Related>
     }
     let first = first_same(upper, lower);
     let upper_kind = types::kind_of(upper);
-    if upper_kind == Kind::Unit {
+    if !upper_kind.has_sides() {
         return Some(Related {
             same: first,
             records: 1,

@@ -1,12 +1,21 @@
--- Formers are told apart by the numbers of their kinds, which no unit has.
+-- Formers and leaves are told apart by the numbers of their kinds.
 use Rattle.std.proofs.Common.{◌≡◌, refl, arith, eqb}
-use Rattle.calculus.specs.Types.{Former, sum, product, function, same}
-use Rattle.rules.specs.Types.{former_kind}
+use Rattle.calculus.specs.Types.{Leaf, one, number, same_leaf, Former, sum, product, function, same}
+use Rattle.rules.specs.Types.{leaf_kind, former_kind}
 
-pub former_not_unit : (f : Former) → former_kind f ≡ 0 → ⊥
-former_not_unit sum e = omega arith
-former_not_unit product e = omega arith
-former_not_unit function e = omega arith
+pub former_not_leaf : (f : Former) (b : Leaf) → former_kind f ≡ leaf_kind b → ⊥
+former_not_leaf sum one e = omega arith
+former_not_leaf sum number e = omega arith
+former_not_leaf product one e = omega arith
+former_not_leaf product number e = omega arith
+former_not_leaf function one e = omega arith
+former_not_leaf function number e = omega arith
+
+pub same_leaves : (b c : Leaf) → same_leaf b c ≡ eqb (leaf_kind b) (leaf_kind c)
+same_leaves one one = refl
+same_leaves one number = refl
+same_leaves number one = refl
+same_leaves number number = refl
 
 pub same_former : (f g : Former) → same f g ≡ eqb (former_kind f) (former_kind g)
 same_former sum sum = refl

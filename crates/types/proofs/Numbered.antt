@@ -5,13 +5,14 @@ use Rattle.types.specs.Kinds.{kind_number}
 use Rattle.types.specs.declared.Kind.{Kind}
 use Rattle.types.specs.contracts.Kind.{the_type}
 use denote.Enum.Bare.{sameb}
-use Rattle.types.specs.declared.Kind.TheVariants.{Unit, Sum, Pair, Function}
+use Rattle.types.specs.declared.Kind.TheVariants.{Unit, Sum, Pair, Function, Number}
 
 pub same_kind : (k l : Kind) → kind_number k ≡ kind_number l → k ≡ l
 same_kind Unit Unit e = refl
 same_kind Sum Sum e = refl
 same_kind Pair Pair e = refl
 same_kind Function Function e = refl
+same_kind Number Number e = refl
 same_kind k l e = absurd (omega arith)
 
 -- the derived test of equality

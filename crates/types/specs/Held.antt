@@ -1,10 +1,10 @@
 -- A slice that starts with an encoded type, and the parts of a type.
 use Rattle.std.specs.Prelude.{◌≡◌, ◌++◌, ℕ, ◌+◌, ◌*◌, set}
 use Rattle.calculus.specs.Security.{Property}
-use Rattle.calculus.specs.Types.{Ty, one, node, size_t}
+use Rattle.calculus.specs.Types.{Ty, leaf, node, size_t}
 use Rattle.rules.specs.Answer.{Bytes}
 use Rattle.rules.specs.Limits.{type_width}
-use Rattle.rules.specs.Types.{type_r, type_ir, type_c, type_ic, former_kind, encode_type}
+use Rattle.rules.specs.Types.{type_r, type_ir, type_c, type_ic, sides, leaf_kind, former_kind, encode_type}
 
 -- s starts with the records of t
 pub record Held (s : Bytes) (t : Ty) : Type 0 where
@@ -17,29 +17,29 @@ pub record Starts (s : Bytes) : Type 0 where
   pub held : Held s type
 
 abbrev pub kind_of : Ty → ℕ
-kind_of (one k) = 0
+kind_of (leaf b k) = leaf_kind b
 kind_of (node f k s t) = former_kind f
 
--- the sides; a unit has none and stands for both
+-- the sides; a type without them stands for both
 abbrev pub left_of : Ty → Ty
-left_of (one k) = one k
+left_of (leaf b k) = leaf b k
 left_of (node f k s t) = s
 
 abbrev pub right_of : Ty → Ty
-right_of (one k) = one k
+right_of (leaf b k) = leaf b k
 right_of (node f k s t) = t
 
 -- s starts with a type that has two sides
 pub record Sided (s : Bytes) : Type 0 where
   pub type : Ty
   pub held : Held s type
-  pub two : kind_of type ≡ 0 → ⊥
+  pub two : sides (kind_of type) ≡ 2
 
 -- and the left one has n records
 pub record Counted (s : Bytes) (n : ℕ) : Type 0 where
   pub type : Ty
   pub held : Held s type
-  pub two : kind_of type ≡ 0 → ⊥
+  pub two : sides (kind_of type) ≡ 2
   pub count : n ≡ size_t (left_of type)
 
 -- the property of record i, and the table with another in its place

@@ -35,6 +35,7 @@ pub enum Kind {
     Sum,
     Pair,
     Function,
+    Number,
 }
 
 // A number that no kind has.
@@ -52,6 +53,7 @@ impl TryFrom<u8> for Kind {
             1 => Ok(Kind::Sum),
             2 => Ok(Kind::Pair),
             3 => Ok(Kind::Function),
+            4 => Ok(Kind::Number),
             _ => Err(UnknownKind(n)),
         }
     }
@@ -62,6 +64,13 @@ impl Kind {
         ensures { result ≡ kind_number self }
     {
         self as u8
+    }
+
+    // Is a type of this kind followed by a left and a right one?
+    pub fn has_sides(self) -> bool
+        ensures { result ≡ eqb (sides (kind_number self)) 2 }
+    {
+        !matches!(self, Kind::Unit | Kind::Number)
     }
 }
 
@@ -132,13 +141,13 @@ pub fn put_property(types: &mut [u8], i: usize, property: Property)
     types[TYPE_WIDTH * i + IC] = property.ic.0;
 }
 
-// How many sides record i is followed by: none if it is a unit.
+// How many sides record i is followed by: none or two.
 fn sides_at(types: &[u8], i: usize) -> usize
     requires { i < type_count types.now }
     ensures { result ≡ sides (type_kind types.now i) }
 {
     match kind_at(types, i) {
-        Some(Kind::Unit) => 0,
+        Some(Kind::Unit | Kind::Number) => 0,
         _ => 2,
     }
 }

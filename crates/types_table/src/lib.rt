@@ -73,7 +73,7 @@ fn well_formed(n: usize, types: &[u8], i: usize) -> bool
         & in_table(n, types::property_at(types, i))
 }
 
-// 9. Kind at most 3, byte 3 equal to 0, groups in table?
+// 9. Kind at most 4, byte 3 equal to 0, groups in table?
 pub fn question_9(groups: &[u8], types: &[u8]) -> Checked
     ensures { said result ≡ q9 groups.now types.now }
 {

@@ -1,12 +1,14 @@
 -- A script that has passed questions 2 to 19 is ready for typing.
-use Rattle.std.proofs.Common.{◌≡◌, refl, sym, subst, false, ◌||◌, [], ℕ, suc, ◌≤◌, ◌<◌, arith, ltb-true, ltb, length, length-drop}
+use mathlib.Core.Bool.{and-eq-true_iff}
+use Rattle.std.proofs.Common.{◌≡◌, refl, sym, subst, false, ◌||◌, eqb-true, [], ℕ, suc, ◌≤◌, ◌<◌, arith, ltb-true, ltb, length, length-drop}
 use Rattle.std.proofs.Math.Bool.{So}
 use Rattle.calculus.specs.Typing.{finds_own}
-use Rattle.calculus.specs.Terms.{Term, var, unit, lam, pair, inj, app, proj, case, protect, mu}
+use Rattle.calculus.specs.Terms.{plus, less, Term, var, unit, lam, pair, inj, app, proj, case, protect, mu, literal, reckon}
 use Rattle.rules.specs.Limits.{work_length}
 use Rattle.rules.specs.Answer.{Bytes, Octets, accepted}
-use Rattle.rules.specs.Types.{type_count}
-use Rattle.rules.specs.Script.{term}
+use Rattle.calculus.specs.Types.{sum}
+use Rattle.rules.specs.Types.{former_kind, type_count, type_kind}
+use Rattle.rules.specs.Script.{sum_of_units, term}
 use Rattle.rules.specs.Calls.{types_check, script_check}
 use Rattle.demands.proofs.Formed.{Formed as FormedOver}
 use Rattle.demands.proofs.Checked.{Passed, script_passed}
@@ -21,6 +23,10 @@ table_of g t h = record { entry = λ i l. record { held = type_held g t h i l; s
 named_of : (i n : ℕ) → So (finds_own i || ltb i n) → finds_own i ≡ false → i < n
 named_of i n h e = ltb-true i n (subst (λ b. So (b || ltb i n)) e h)
 
+-- and of a less than: a sum of two units is a sum
+sum_of : (t : Bytes) (i : ℕ) → So (sum_of_units t i) → type_kind t i ≡ former_kind sum
+sum_of t i h = eqb-true (type_kind t i) (former_kind sum) ((and-eq-true_iff _ _).0 h).0
+
 -- what it names is in the table, and its variables are bound; its groups are not asked for here
 pub formed_of : (g t : Bytes) (e : Term) (b : ℕ) → FormedOver g t b e → Formed t b e
 unfolding Formed FormedOver
@@ -34,6 +40,9 @@ formed_of g t (proj d w e) b F = formed_of g t e b F.1
 formed_of g t (case w i e x y) b F = (named_of i (type_count t) F.1, (formed_of g t e b F.2, (formed_of g t x (suc b) F.3, formed_of g t y (suc b) F.4)))
 formed_of g t (protect m e) b F = formed_of g t e b F.1
 formed_of g t (mu w i e) b F = ((F.1, F.2), formed_of g t e (suc b) F.3)
+formed_of g t (literal k n) b F = tt
+formed_of g t (reckon plus w x y) b F = (formed_of g t x b F.1, formed_of g t y b F.2)
+formed_of g t (reckon (less i) w x y) b F = ((F.1, sum_of t i F.2), (formed_of g t x b F.3, formed_of g t y b F.4))
 
 pub no_binders : (w : Bytes) → Holds [] (high 0 w)
 no_binders w = record { len = simp length-drop (omega arith); slot = λ n l. absurd (omega arith) }

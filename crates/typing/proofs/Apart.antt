@@ -1,39 +1,48 @@
 -- The rules of `typing`, taken apart at the operands.
-use Rattle.std.proofs.Common.{◌≡◌, refl, ap, List, ◌∷◌, ℕ, ◌+◌, ◌≤◌, arith}
-use Rattle.calculus.specs.Security.{Security}
+use Rattle.std.proofs.Common.{◌≡◌, refl, ap, ◌∙◌, List, ◌∷◌, ℕ, ◌+◌, ◌≤◌, arith}
+use Rattle.calculus.specs.Security.{Property, Security}
 use Rattle.calculus.specs.Types.{sum, product, function, Ty, top}
-use Rattle.calculus.specs.Terms.{first, second, Term, var, unit, lam, pair, inj, app, proj, case, protect, mu}
+use Rattle.calculus.specs.Terms.{first, second, Operation, Term, var, unit, lam, pair, inj, app, proj, case, protect, mu, literal, reckon}
+use Rattle.calculus.specs.Numbers.{of_both}
 use Rattle.rules.specs.Answer.{Answer, accepted, refused, ◌>>=◌ as bind, ◌>>◌ as then}
 use Rattle.rules.specs.Script.{size}
-use Rattle.rules.specs.Typing.{left, right, q20, q21, q22_of_branch, q23, typing}
+use Rattle.rules.specs.Typing.{left, right, q20, q20_number, q21, q22_of_branch, q23, number_result, typing}
+use Rattle.types.specs.declared.Kind.TheVariants.{Number}
 use Rattle.inference.specs.Operands.{operand_count}
 use Rattle.records.specs.Operands.{first_operand, second_operand}
-use Rattle.inference.specs.Stages.{leaf_type, before_first, first_context, wanting, reads, after_one, between, second_context, after_two, case_type}
+use Rattle.inference.specs.Stages.{leaf_type, before_first, first_context, wanting, reads, may_read, after_one, between, second_context, reckoned_type, after_two, case_type}
 
 then_assoc : {A : Type 0} (a b : Answer (Unit {0})) (c : Answer A) → then a (then b c) ≡ then (then a b) c
 then_assoc (accepted tt) b c = refl
 then_assoc (refused q p) b c = refl
 
--- what is left when both operands of a pair or an application, or the first two of a case, have their types
+bind_same : {A B : Type 0} (a : Answer A) {f g : A → Answer B} → ((x : A) → f x ≡ g x) → bind a f ≡ bind a g
+bind_same (accepted x) h = h x
+bind_same (refused q p) h = refl
+
+-- what is left when both operands of a node of two, or the first two of a case, have their types
 unfoldable pub after_second : Security → (ℕ → Ty) → List Ty → ℕ → Term → Ty → Ty → Answer Ty
 after_second S tab Γ p (var n) s t = accepted t
 after_second S tab Γ p (unit k) s t = accepted t
 after_second S tab Γ p (lam k i e) s t = accepted t
-after_second S tab Γ p (pair k a b) s t = after_two S p (pair k a b) s t
+after_second S tab Γ p (pair k a b) s t = after_two S tab p (pair k a b) s t
 after_second S tab Γ p (inj d k i e) s t = accepted t
-after_second S tab Γ p (app w f a) s t = after_two S p (app w f a) s t
+after_second S tab Γ p (app w f a) s t = after_two S tab p (app w f a) s t
 after_second S tab Γ p (proj d w e) s t = accepted t
 after_second S tab Γ p (case w i e a b) s t =
     then (q22_of_branch S p tab i t)
     (bind (typing S tab (right s ∷ Γ) (1 + p + size e + size a) b) (λ u. case_type S tab p i t u (S.influence (top s) w)))
 after_second S tab Γ p (protect m e) s t = accepted t
 after_second S tab Γ p (mu w i e) s t = accepted t
+after_second S tab Γ p (literal k n) s t = accepted t
+after_second S tab Γ p (reckon o w a b) s t = after_two S tab p (reckon o w a b) s t
 
 module _ (S : Security) (tab : ℕ → Ty) (Γ : List Ty) (p : ℕ) where
   pub typing_leaf : (e : Term) → operand_count e ≡ 0 → typing S tab Γ p e ≡ leaf_type Γ e
   unfolding operand_count typing leaf_type
   typing_leaf (var n) o = refl
   typing_leaf (unit k) o = refl
+  typing_leaf (literal k n) o = refl
   typing_leaf e o = absurd (omega arith)
 
   -- a recursion's questions come before its body
@@ -55,6 +64,7 @@ module _ (S : Security) (tab : ℕ → Ty) (Γ : List Ty) (p : ℕ) where
   unfolding operand_count before_first first_context typing
   stops_first (var n) q x o a h = absurd (omega arith)
   stops_first (unit k) q x o a h = absurd (omega arith)
+  stops_first (literal k n) q x o a h = absurd (omega arith)
   stops_first (mu w i e) q x o a h = rw (recursion_typed w i e, a, h)
   stops_first e q x o a h = rw h
 
@@ -72,6 +82,21 @@ module _ (S : Security) (tab : ℕ → Ty) (Γ : List Ty) (p : ℕ) where
   one_typed e t o a h = absurd (omega arith)
 
   -- the first of several typed
+  -- what is left when the left operand of what is reckoned has its type s
+  abbrev right_reckoned : Operation → ℕ → Ty → Ty → Answer Ty
+  right_reckoned o w s t = then (q20_number p t) (then (q21 S p t w) (accepted (number_result tab o (of_both S w (top s) (top t)))))
+
+  both_reckoned : (o : Operation) (w : ℕ) (s t : Ty) → right_reckoned o w s t ≡ reckoned_type S tab p o w s t
+  both_reckoned o w s t = go (q20_number p t) (q21 S p t w)
+    where
+      k : Property
+      k = of_both S w (top s) (top t)
+
+      go : (a b : Answer (Unit {0})) → then a (then b (accepted (number_result tab o k))) ≡ bind (then (then a b) (accepted k)) (λ l. accepted (number_result tab o l))
+      go (accepted x) (accepted y) = refl
+      go (accepted x) (refused q y) = refl
+      go (refused q x) b = refl
+
   pub first_typed : (e : Term) (s : Ty) → 2 ≤ operand_count e → typing S tab (first_context tab Γ e) (1 + p) (first_operand e) ≡ accepted s
       → typing S tab Γ p e
       ≡ then (between S p e s) (bind (typing S tab (second_context Γ e s) (1 + p + size (first_operand e)) (second_operand e)) (after_second S tab Γ p e s))
@@ -80,12 +105,17 @@ module _ (S : Security) (tab : ℕ → Ty) (Γ : List Ty) (p : ℕ) where
   first_typed (app w f a) s o h = rw h (then_assoc (q20 p function s) (q21 S p s w) (bind (typing S tab Γ (1 + p + size f) a) (after_second S tab Γ p (app w f a) s)))
   first_typed (case w i e a b) s o h =
       rw h (then_assoc (q20 p sum s) (q21 S p s w) (bind (typing S tab (left s ∷ Γ) (1 + p + size e) a) (after_second S tab Γ p (case w i e a b) s)))
+  first_typed (reckon o w a b) s d h =
+      rw h
+      (then_assoc (q20_number p s) (q21 S p s w) (bind (typing S tab Γ (1 + p + size a) b) (right_reckoned o w s))
+      ∙ ap (then (may_read S p Number s w)) (bind_same (typing S tab Γ (1 + p + size a) b) (λ t. both_reckoned o w s t)))
   first_typed e s o h = absurd (omega arith)
 
-  pub second_typed : (e : Term) (s t : Ty) → operand_count e ≡ 2 → after_second S tab Γ p e s t ≡ after_two S p e s t
+  pub second_typed : (e : Term) (s t : Ty) → operand_count e ≡ 2 → after_second S tab Γ p e s t ≡ after_two S tab p e s t
   unfolding operand_count after_second
   second_typed (pair k a b) s t o = refl
   second_typed (app w f a) s t o = refl
+  second_typed (reckon o w a b) s t d = refl
   second_typed e s t o = absurd (omega arith)
 
   pub branch_typed : {e : Term} {w i : ℕ} {x y z : Term} (s t : Ty) → e ≡ case w i x y z

@@ -2,9 +2,9 @@
 use Rattle.std.proofs.Common.{◌≡◌, refl, sym, ap, ◌∙◌, Bool, true, false, cond, List, [], ◌∷◌, ◌++◌, append-nil, ℕ, suc, ◌+◌, ◌*◌, ◌≤◌, max, arith, length, drop}
 use Rattle.calculus.specs.Types.{Ty}
 use Rattle.calculus.specs.Typing.{finds_own}
-use Rattle.calculus.specs.Terms.{first, second, Term, var, unit, lam, pair, inj, app, proj, case, protect, mu}
+use Rattle.calculus.specs.Terms.{first, second, plus, less, Term, var, unit, lam, pair, inj, app, proj, case, protect, mu, literal, reckon}
 use Rattle.records.specs.Kinds as kinds
-use Rattle.inference.proofs.Shapes.{Several, is_pair, is_app, is_case, several}
+use Rattle.inference.proofs.Shapes.{Several, is_pair, is_app, is_case, is_reckon, several}
 use Rattle.rules.specs.Limits.{answer_length, script_width}
 use Rattle.rules.specs.Answer.{Bytes}
 use Rattle.rules.specs.Script.{kind, encode, size, depth}
@@ -29,6 +29,7 @@ unfolding operand_count
 three_of is_pair o = absurd (omega arith)
 three_of is_app o = absurd (omega arith)
 three_of is_case o = is_three
+three_of is_reckon o = absurd (omega arith)
 
 pub three : (e : Term) → operand_count e ≡ 3 → Three e
 three e o = three_of (several e (omega arith)) o
@@ -55,11 +56,14 @@ module _ (s : Bytes) where
   first_at (case w i e a b) p o = at_operand s (case w i e a b) p 1 [] e (a ∷ b ∷ []) refl refl
   first_at (protect m e) p o = at_operand s (protect m e) p 1 [] e [] refl refl
   first_at (mu w i e) p o = at_operand s (mu w i e) p 1 [] e [] refl refl
+  first_at (literal k n) p o = absurd (omega arith)
+  first_at (reckon o w a b) p d = at_operand s (reckon o w a b) p 1 [] a (b ∷ []) refl refl
 
   pub second_at : {e : Term} {j : ℕ} → Several e → s ≡ encode e → j ≡ 1 + size (first_operand e) → At s j (second_operand e)
   second_at {j = j} (is_pair {k = k} {a = a} {b = b}) p z = at_operand s (pair k a b) p j (a ∷ []) b [] refl (omega arith)
   second_at {j = j} (is_app {w = w} {f = f} {a = a}) p z = at_operand s (app w f a) p j (f ∷ []) a [] refl (omega arith)
   second_at {j = j} (is_case {w = w} {i = i} {e = e} {a = a} {b = b}) p z = at_operand s (case w i e a b) p j (e ∷ []) a (b ∷ []) refl (omega arith)
+  second_at {j = j} (is_reckon {o = o} {w = w} {a = a} {b = b}) p z = at_operand s (reckon o w a b) p j (a ∷ []) b [] refl (omega arith)
 
   pub third_at : {e : Term} {j : ℕ} → Three e → s ≡ encode e → j ≡ 1 + size (first_operand e) + size (second_operand e) → At s j (third_operand e)
   third_at {j = j} (is_three {w = w} {i = i} {e = e} {a = a} {b = b}) p z = at_operand s (case w i e a b) p j (e ∷ a ∷ []) b [] refl (omega arith)
@@ -77,12 +81,15 @@ first_ends (proj d w e) o = omega arith
 first_ends (case w i e a b) o = absurd (omega arith)
 first_ends (protect m e) o = omega arith
 first_ends (mu w i e) o = omega arith
+first_ends (literal k n) o = absurd (omega arith)
+first_ends (reckon o w a b) d = absurd (omega arith)
 
 second_ends : {e : Term} → Several e → operand_count e ≡ 2 → size e ≡ 1 + size (first_operand e) + size (second_operand e)
 unfolding operand_count size
 second_ends is_pair o = omega arith
 second_ends is_app o = omega arith
 second_ends is_case o = absurd (omega arith)
+second_ends is_reckon o = omega arith
 
 third_ends : {e : Term} → Three e → size e ≡ 1 + size (first_operand e) + size (second_operand e) + size (third_operand e)
 unfolding size
@@ -110,6 +117,7 @@ pub first_smaller : (e : Term) → 1 ≤ operand_count e → Smaller e (first_op
 unfolding operand_count size depth
 first_smaller (var n) o = absurd (omega arith)
 first_smaller (unit k) o = absurd (omega arith)
+first_smaller (literal k n) o = absurd (omega arith)
 first_smaller (case w i e a b) o = record { deeper = omega (arith, (weights (case w i e a b)).0); larger = omega arith }
 first_smaller e o = record { deeper = omega arith; larger = omega arith }
 
@@ -117,6 +125,7 @@ pub second_smaller : {e : Term} → Several e → Smaller e (second_operand e) (
 unfolding size depth
 second_smaller is_pair = record { deeper = omega arith; larger = omega arith }
 second_smaller is_app = record { deeper = omega arith; larger = omega arith }
+second_smaller is_reckon = record { deeper = omega arith; larger = omega arith }
 second_smaller (is_case {w = w} {i = i} {e = e} {a = a} {b = b}) = record { deeper = omega (arith, (weights (case w i e a b)).0); larger = omega arith }
 
 pub third_larger : {e : Term} → Three e → 1 + (size (first_operand e) + size (second_operand e)) + size (third_operand e) ≤ size e
@@ -137,12 +146,17 @@ first_formed t tab Γ (proj d w e) o f = f
 first_formed t tab Γ (case w i e a b) o f = f.1.0
 first_formed t tab Γ (protect m e) o f = f
 first_formed t tab Γ (mu w i e) o f = f.1
+first_formed t tab Γ (literal k n) o f = absurd (omega arith)
+first_formed t tab Γ (reckon plus w x y) o f = f.0
+first_formed t tab Γ (reckon (less i) w x y) o f = f.1.0
 
 pub second_formed : (t : Bytes) (Γ : List Ty) (u : Ty) {e : Term} → Several e → Formed t (length Γ) e → Formed t (length (second_context Γ e u)) (second_operand e)
 unfolding Formed second_context
 second_formed t Γ u is_pair f = f.1
 second_formed t Γ u is_app f = f.1
 second_formed t Γ u is_case f = f.1.1.0
+second_formed t Γ u (is_reckon {o = plus}) f = f.1
+second_formed t Γ u (is_reckon {o = less i}) f = f.1.1
 
 pub third_formed : (t : Bytes) (b : ℕ) {e : Term} → Three e → Formed t b e → Formed t (suc b) (third_operand e)
 unfolding Formed
@@ -159,6 +173,7 @@ unfolding operand_count second_context
 second_room Γ u is_pair = omega arith
 second_room Γ u is_app = omega arith
 second_room Γ u is_case = omega arith
+second_room Γ u is_reckon = omega arith
 
 -- A case that finds its own type weighs two: one level is spent on the binder's slot, the other on the first branch's type.
 pub third_room : {e : Term} {w i : ℕ} {x y z : Term} → e ≡ case w i x y z
@@ -175,6 +190,7 @@ unfolding kept_front
 several_front is_pair = refl
 several_front is_app = refl
 several_front is_case = refl
+several_front is_reckon = refl
 
 pub at_most_three : (e : Term) → operand_count e ≤ 3
 unfolding operand_count
@@ -192,6 +208,8 @@ first_bound tab Γ (inj first k i e) = omega arith
 first_bound tab Γ (inj second k i e) = omega arith
 first_bound tab Γ (proj first w e) = omega arith
 first_bound tab Γ (proj second w e) = omega arith
+first_bound tab Γ (reckon plus w a b) = omega arith
+first_bound tab Γ (reckon (less i) w a b) = omega arith
 first_bound tab Γ e = omega arith
 
 second_bound : (Γ : List Ty) (u : Ty) {e : Term} → Several e → length (second_context Γ e u) ≡ length Γ + binds (kind (encode e) 0) 1
@@ -199,6 +217,8 @@ unfolding second_context encode binds
 second_bound Γ u is_pair = omega arith
 second_bound Γ u is_app = omega arith
 second_bound Γ u is_case = omega arith
+second_bound Γ u (is_reckon {o = plus}) = omega arith
+second_bound Γ u (is_reckon {o = less i}) = omega arith
 
 pub first_binders : (s : Bytes) (tab : ℕ → Ty) (Γ : List Ty) (e : Term) → s ≡ encode e → length (first_context tab Γ e) ≡ length Γ + binds (kind s 0) 0
 first_binders s tab Γ e p = first_bound tab Γ e ∙ ap (λ x. length Γ + binds (kind x 0) 0) (sym p)

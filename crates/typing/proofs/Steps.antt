@@ -347,12 +347,15 @@ module _ (g : Bytes) {types s : Bytes} {place b : ℕ} {w : Bytes} (v : Ready ty
   pub two_room : answer_length * 2 ≤ length w₄
   two_room = omega (arith, v.room, d.same, depth_positive (first_operand v.tree), (first_smaller v.tree (omega arith)).deeper)
 
-  abbrev pub two_of : Two g s place w₄ n m
+  abbrev pub two_of : Two g types s place w₄ n m
   two_of =
       record {
+        table = v.table;
         tree = v.tree;
         is = v.is;
         two = o;
+        binders = b;
+        formed = v.formed;
         first = t;
         second = d.other;
         sized = d.front o;
@@ -361,7 +364,7 @@ module _ (g : Bytes) {types s : Bytes} {place b : ℕ} {w : Bytes} (v : Ready ty
         room = two_room;
       }
 
-  pub ends_meets : {x : Result ℕ Refusal} {w₅ : Bytes} → Meets (after_two (properties_of g) place v.tree t d.other) b w₄ x w₅
+  pub ends_meets : {x : Result ℕ Refusal} {w₅ : Bytes} → Meets (after_two (properties_of g) (type_at types) place v.tree t d.other) b w₄ x w₅
       → Meets (typing (properties_of g) (type_at types) v.ctx place v.tree) b w x w₅
   ends_meets h = rebase d.kept (meets_of (d.is ∙ second_typed (properties_of g) (type_at types) v.ctx place v.tree t d.other o) h)
 

@@ -47,8 +47,8 @@ fn operand(s: &[u8], i: usize, end: usize) -> &[u8]
     records::part(s, i, end)
 }
 
-// Where the second operand's part of the work buffer starts: behind a pair's or an application's first type. A case has the
-// tested sides in its slot.
+// Where the second operand's part of the work buffer starts: behind the first type of a node of two. A case has the tested sides in
+// its slot.
 fn kept_between(o: usize) -> usize
     ensures { result ≡ kept_between o }
 {
@@ -93,7 +93,7 @@ fn type_node(
     let second = operand(s, i2, i3);
     let m = type_node(groups, types, second, place + i2, c2, &mut w[mid..])?;
     if o == 2 {
-        return inference::after_two(groups, s, place, w, n, m);
+        return inference::after_two(groups, types, s, place, w, n, m);
     }
     inference::after_first_branch(groups, types, s, place, b, w)?;
     let end = operand_end(s, o, 3, i3);

@@ -1,13 +1,12 @@
 -- The walk calls itself at records further on, and `Stages` has its laws.
-use Rattle.std.proofs.Common.{ℕ, ◌+◌, ap, sym, ◌∙◌, arith}
+use Rattle.std.proofs.Common.{ℕ, ◌+◌, ap, ◌∙◌, arith}
 use Rattle.rules.specs.Groups.{properties_of}
-use Rattle.types.specs.Kinds.{kind_number}
 use Rattle.types.specs.Held.{right_of}
 use Rattle.common_types.specs.Directions.{said_direction}
 use Rattle.common_types.specs.Walks.{TwoTypes}
 use Rattle.types.proofs.Parts.{starts_of}
 use Rattle.common_types.proofs.Places.{room, in_range}
-use Rattle.common_types.proofs.Stages.{First, Sided, Lefts, at_once, at_units, firsts, at_function, at_other, lefts, walked_lefts}
+use Rattle.common_types.proofs.Stages.{First, Sided, Lefts, at_once, at_leaves, no_sides, firsts, at_function, at_other, lefts, walked_lefts}
 use Rattle.common_types.proofs.Stages.{no_left, rights, no_right, both_found, few}
 use Rattle.common_types.proofs.+common.Goals as goal
 use Rattle.common_types.proofs.+common.Goals.{in-Function, in_default, Joined-kind, After-common, After-common-2}
@@ -25,8 +24,8 @@ sided t c p =
     let d = said_direction c.args.direction in
     let k = c.kind_of-kind.ensures p.first (c.type_at.ensures p.first p.first_at) in
     elim c.match-kind.branch [
-      | in-Function w ↦ at_function S d p k w.in-Function.is (ap said_direction w.leftward-is ∙ w.opposite-leftward.ensures)
-      | in_default w ↦ at_other S d p k w.in_default.not-Unit w.in_default.not-Function (ap said_direction w.leftward-is)
+      | in-Function w ↦ at_function S d p _ k c.if-not-has_sides.ensures w.in-Function.is (ap said_direction w.leftward-is ∙ w.opposite-leftward.ensures)
+      | in_default w ↦ at_other S d p _ k c.if-not-has_sides.ensures w.in_default.not-Function (ap said_direction w.leftward-is)
     ]
 
 -- the left sides, as their walk takes them, and what it answers
@@ -49,12 +48,12 @@ pub returns-then-not-of_one_kind : goal.returns-then-not-of_one_kind
 returns-then-not-of_one_kind t c p =
     at_once (properties_of c.args.groups.now) (said_direction c.args.direction) p (c.if-not-of_one_kind.ensures p)
 
-pub returns-in-Unit : goal.returns-in-Unit
-returns-in-Unit t c p =
+pub returns-then-not-has_sides : goal.returns-then-not-has_sides
+returns-then-not-has_sides t c p =
     let S = properties_of c.args.groups.now in
     let d = said_direction c.args.direction in
     let f = firsts p S d (c.if-not-of_one_kind.ensures p) c.bound_first.ensures in
-    at_units f (sym (c.kind_of-kind.ensures p.first (c.type_at.ensures p.first p.first_at)) ∙ ap kind_number c.in-Unit.is)
+    at_leaves f (no_sides S d p _ (c.kind_of-kind.ensures p.first (c.type_at.ensures p.first p.first_at)) c.if-not-has_sides.ensures)
 
 pub overflow_add-next : goal.overflow_add-next
 overflow_add-next t c = omega (arith, room c.requires.first_at, c.bound_first.auto.w)

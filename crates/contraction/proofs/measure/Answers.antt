@@ -9,10 +9,10 @@ use Rattle.records.proofs.Stands.{there}
 use Rattle.records.proofs.Made.{influence_of}
 use Rattle.redex.specs.Fates.{contractum}
 use Rattle.contraction.specs.declared.Plan.{Plan}
-use Rattle.contraction.specs.declared.Plan.TheVariants.{Part, Body, Raised, Unrolled}
-use Rattle.contraction.specs.Plans.{Planned, Ready, Measures, Both, Recursive}
+use Rattle.contraction.specs.declared.Plan.TheVariants.{Part, Body, Raised, Unrolled, Reckoned}
+use Rattle.contraction.specs.Plans.{Planned, Ready, Measures, Both, Recursive, Literals}
 use Rattle.substitution.specs.Substituted.{Within}
-use Rattle.contraction.proofs.Plans.{part_plan, body_plan, LiftPlan, lift_plan, RollPlan, roll_plan, protection_of, raise_size, contractum_limit, few, counted, protect_counted}
+use Rattle.contraction.proofs.Plans.{part_plan, body_plan, LiftPlan, lift_plan, RollPlan, roll_plan, ReckonPlan, reckon_plan, protection_of, raise_size, contractum_limit, few, counted, protect_counted}
 use Rattle.substitution.proofs.Nodes.{depth_size}
 use Rattle.contraction.proofs.measure.Goals as goal
 
@@ -60,6 +60,20 @@ module _ {s : Bytes} {at : ℕ} {plan : Plan} (q : Ready s at plan) where
         stands = transport (λ (e : Term). At s at e) p.is q.stands;
         small = transport (λ (e : Term). size e ≤ script_limit) p.is q.small;
         shallow = transport (λ (e : Term). depth e ≤ depth_limit) p.is q.shallow;
+      }
+
+  abbrev reckoned : plan ≡ Reckoned → ReckonPlan q.tree
+  reckoned e = reckon_plan (planned e)
+
+  abbrev reckon_ready : plan ≡ Reckoned → Literals s at
+  reckon_ready e =
+      let p = reckoned e in
+      record {
+        operation = p.operation;
+        label = p.label;
+        left = p.left;
+        right = p.right;
+        stands = transport (λ (e : Term). At s at e) p.is q.stands;
       }
 
   -- what is counted of a body with a value put in is few
@@ -116,3 +130,11 @@ pub returns-in-Unrolled : goal.returns-in-Unrolled
 returns-in-Unrolled c q S tab =
     transport (λ (e : Term). Measures (contractum S tab e) c.measure_unrolled.result) (sym (rolled q c.in-Unrolled.is).is)
     (c.measure_unrolled.ensures (roll_ready q c.in-Unrolled.is) S tab)
+
+pub measure_reckoned-requires : goal.measure_reckoned-requires
+measure_reckoned-requires c = reckon_ready c.requires c.in-Reckoned.is
+
+pub returns-in-Reckoned : goal.returns-in-Reckoned
+returns-in-Reckoned c q S tab =
+    transport (λ (e : Term). Measures (contractum S tab e) c.measure_reckoned.result) (sym (reckoned q c.in-Reckoned.is).is)
+    (c.measure_reckoned.ensures (reckon_ready q c.in-Reckoned.is) S tab)

@@ -1,15 +1,17 @@
 -- A destructor's operand stands after it, and that operand's own after that.
-use Rattle.std.proofs.Common.{◌≡◌, sym, ap, ◌∙◌, inl, inr, ℕ, arith}
+use Rattle.std.proofs.Common.{◌≡◌, sym, ap, ◌∙◌, ◌⊎◌, inl, inr, ℕ, arith}
+use Rattle.std.proofs.Math.Bool.{So}
 use Rattle.rules.specs.Answer.{Bytes}
 use Rattle.rules.specs.Script.{kind}
 use Rattle.records.specs.Numbers.{kind_number}
 use Rattle.records.specs.declared.Kind.{Kind}
-use Rattle.records.specs.declared.Kind.TheVariants.{Application, FirstProjection, SecondProjection, Protect, Recursion}
+use Rattle.records.specs.declared.Kind.TheVariants.{Application, FirstProjection, SecondProjection, Protect, Recursion, Sum, Less}
 use Rattle.records.proofs.Stands.{kind_of, there, stands_kind, here}
 use Rattle.records.proofs.Numbered.{same_kind}
+use Rattle.redex.specs.Found.{is_reckoning}
 use Rattle.redex.proofs.Forms.{one_reads, application_reads}
 use Rattle.contraction.specs.Plans.{Fires, Branches}
-use Rattle.contraction.proofs.Redexes.{Taken, taken, plan_unrolled, plan_raised, plan_first, plan_second, plan_applied, only_case}
+use Rattle.contraction.proofs.Redexes.{Taken, taken, plan_unrolled, plan_raised, plan_reckoned, plan_first, plan_second, plan_applied, only_case}
 use Rattle.contraction.proofs.plan_of.Goals as goal
 use Rattle.contraction.proofs.plan_of.Goals.{In_default}
 
@@ -29,6 +31,10 @@ module _ {s : Bytes} {at : ℕ} {k : Kind} (q : Fires s at) (kind_is : kind_numb
   applied_taken : k ≡ Application → Taken s at q.tree
   applied_taken h = taken q.stands q.left (rw (is_kind h) application_reads)
 
+  reckoning_kind : (k ≡ Sum) ⊎ (k ≡ Less) → So (is_reckoning (kind_of q.tree))
+  reckoning_kind (inl h) = rw (is_kind h)
+  reckoning_kind (inr h) = rw (is_kind h)
+
 -- what is left is a case
 abbrev case_left : (c : In_default) → Fires c.args.script.now c.args.at → Branches c.args.script.now c.args.at
 case_left c q =
@@ -40,7 +46,7 @@ case_left c q =
       left = q.left;
       cases = stands_kind _ _ _ q.stands ∙ only_case q.left (other_kind q k Recursion d.not-Recursion) (other_kind q k Protect d.not-Protect)
           (other_kind q k FirstProjection d.not-FirstProjection) (other_kind q k SecondProjection d.not-SecondProjection)
-          (other_kind q k Application d.not-Application);
+          (other_kind q k Application d.not-Application) (other_kind q k Sum d.not-Sum) (other_kind q k Less d.not-Less);
     }
 
 pub overflow_add-inner : goal.overflow_add-inner
@@ -51,6 +57,9 @@ returns-in-Recursion c q = plan_unrolled _ c.args.at q.left (is_kind q c.kind_of
 
 pub returns-in-Protect : goal.returns-in-Protect
 returns-in-Protect c q = plan_raised _ c.args.at q.left (is_kind q c.kind_of.ensures c.in-Protect.is)
+
+pub returns-in-Sum : goal.returns-in-Sum
+returns-in-Sum c q = plan_reckoned _ c.args.at q.left (reckoning_kind q c.kind_of.ensures c.in-Sum.is)
 
 pub returns-in-FirstProjection : goal.returns-in-FirstProjection
 returns-in-FirstProjection c q =

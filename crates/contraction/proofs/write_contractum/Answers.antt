@@ -1,6 +1,6 @@
 use Rattle.contraction.proofs.Plans.{renamed}
 use Rattle.contraction.proofs.Rooms.{part_is, part_room, body_is, body_room}
-use Rattle.contraction.proofs.Rooms.{raised_is, raised_room, unrolled_is, unrolled_room}
+use Rattle.contraction.proofs.Rooms.{raised_is, raised_room, unrolled_is, unrolled_room, reckoned_is, reckoned_room}
 use Rattle.contraction.proofs.write_contractum.Goals as goal
 
 pub write_part-requires : goal.write_part-requires
@@ -26,3 +26,9 @@ returns-in-Raised c q = renamed (raised_is q c.in-Raised.is) (c.write_raised.ens
 
 pub returns-in-Unrolled : goal.returns-in-Unrolled
 returns-in-Unrolled c q = renamed (unrolled_is q c.in-Unrolled.is) (c.write_unrolled.ensures (unrolled_room q c.in-Unrolled.is))
+
+pub write_reckoned-requires : goal.write_reckoned-requires
+write_reckoned-requires c = reckoned_room c.requires c.in-Reckoned.is
+
+pub returns-in-Reckoned : goal.returns-in-Reckoned
+returns-in-Reckoned c q = renamed (reckoned_is q c.in-Reckoned.is) (c.write_reckoned.ensures (reckoned_room q c.in-Reckoned.is))

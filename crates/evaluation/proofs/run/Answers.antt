@@ -7,15 +7,15 @@ use Rattle.rules.specs.Calls.{script_check}
 use Rattle.demands.proofs.Checked.{script_passed}
 use Rattle.reduction.specs.Steps.{Startable}
 use Rattle.evaluation.specs.Runs.{front, Loaded}
-use Rattle.reduction.proofs.Ends.{startable}
+use Rattle.reduction.proofs.Starts.{startable}
 use Rattle.evaluation.proofs.Buffers.{copied_script, loaded}
 use Rattle.evaluation.proofs.Answers.{refused_keeps, ran_so, demanded}
 use Rattle.evaluation.proofs.run.Goals as goal
 
 -- the script was accepted, and both buffers have room for it
-module _ (g t s first scratch : Bytes) (octets : Octets s) (yes : accepted tt ≡ script_check (length first ∷ length scratch ∷ []) g t s) where
-  ready : Startable t s
-  ready = startable (length first ∷ length scratch ∷ []) g t s octets (sym yes)
+module _ (g t s first scratch : Bytes) (octets_g : Octets g) (octets : Octets s) (yes : accepted tt ≡ script_check (length first ∷ length scratch ∷ []) g t s) where
+  ready : Startable g t s
+  ready = startable (length first ∷ length scratch ∷ []) g t s octets_g octets (sym yes)
 
   roomy : (length s ≤ length first) × (length s ≤ length scratch)
   roomy =
@@ -38,25 +38,27 @@ returns-in_err-script_check c =
 pub put-requires : goal.put-requires
 put-requires c =
     let a = c.args in
-    let r = roomy a.groups.now a.types.now a.script.now a.first.now a.scratch.now (λ k. omega (arith, c.type_inv.script k)) c.in_ok-script_check.ensures in
+    let r = roomy a.groups.now a.types.now a.script.now a.first.now a.scratch.now (λ k. omega (arith, c.type_inv.groups k)) (λ k. omega (arith, c.type_inv.script k)) c.in_ok-script_check.ensures in
     omega (arith, r.0)
 
 pub run_term-requires : goal.run_term-requires
 run_term-requires c =
     let a = c.args in
+    let groups : Octets a.groups.now = λ k. omega (arith, c.type_inv.groups k) in
     let octets : Octets a.script.now = λ k. omega (arith, c.type_inv.script k) in
-    let q = ready a.groups.now a.types.now a.script.now a.first.now a.scratch.now octets c.in_ok-script_check.ensures in
-    let r = roomy a.groups.now a.types.now a.script.now a.first.now a.scratch.now octets c.in_ok-script_check.ensures in
+    let q = ready a.groups.now a.types.now a.script.now a.first.now a.scratch.now groups octets c.in_ok-script_check.ensures in
+    let r = roomy a.groups.now a.types.now a.script.now a.first.now a.scratch.now groups octets c.in_ok-script_check.ensures in
     let b = c.put.new.to in
     let room = min (length b) (length a.scratch.now) in
-    transport (λ (n : ℕ). Loaded a.types.now b n room) (sym c.record_count-records.ensures)
+    transport (λ (n : ℕ). Loaded a.groups.now a.types.now b n room) (sym c.record_count-records.ensures)
     (loaded a.script.now a.first.now b q c.put.ensures room (omega (arith, r.0, r.1, c.put.auto.to)))
 
 pub returns : goal.returns
 returns c =
     let a = c.args in
+    let groups : Octets a.groups.now = λ k. omega (arith, c.type_inv.groups k) in
     let octets : Octets a.script.now = λ k. omega (arith, c.type_inv.script k) in
-    let q = ready a.groups.now a.types.now a.script.now a.first.now a.scratch.now octets c.in_ok-script_check.ensures in
+    let q = ready a.groups.now a.types.now a.script.now a.first.now a.scratch.now groups octets c.in_ok-script_check.ensures in
     let b = c.put.new.to in
     let h = ran_so a.groups.now a.types.now a.script.now a.budget a.first.now a.scratch.now (sym c.in_ok-script_check.ensures) b _ _ (front b c.record_count-records.result)
     c.run_term.result c.put.auto.to
@@ -65,5 +67,5 @@ returns c =
       h.0,
       h.1,
       h.2,
-      demanded a.groups.now a.types.now a.script.now a.budget a.first.now a.scratch.now (λ k. omega (arith, c.type_inv.groups k)) octets _ _ _ h,
+      demanded a.groups.now a.types.now a.script.now a.budget a.first.now a.scratch.now groups octets _ _ _ h,
     )

@@ -12,6 +12,7 @@ use Rattle.rules.specs.Step.{step_in}
 use Rattle.rules.specs.Calls.{front_after}
 use Rattle.rules.proofs.Scripts.{term_encode}
 use Rattle.records.proofs.Stands.{at_start}
+use Rattle.reduction.proofs.Starts.{started}
 use Rattle.reduction.specs.Steps.{told, end_number}
 use Rattle.reduction.specs.declared.Stop.{Stop}
 use Rattle.evaluation.specs.Runs.{front}
@@ -82,16 +83,21 @@ loop-steps-preserved c =
     let w = new_term (goal.at.loop-steps-preserved c).In-Ok in
     let first = c.put.new.to in
     let scratch = c.step_term.new.written in
-    let b = copied S tab room c.args.types.now l.first first l.scratch scratch here w.new _ w.is w.count
+    let b = copied S tab room l.first first l.scratch scratch here w.new _ w.is w.count
     (same_room _ _ _ _ l.auto.scratch c.step_term.ensures).1 c.put.ensures in
     record {
       kept = c.put.auto.to ∙ l.invariant.kept;
-      loaded = reloaded S tab room c.args.types.now l.first first l.scratch scratch here w.new _ l.invariant.loaded.start.table w.is w.count b;
+      loaded = reloaded first l.invariant.loaded (λ k. omega (arith, c.type_inv.first k)) w.new _ w.is w.count b;
       left = transport
           (λ (e : Term). Left S tab room c.args.budget (front c.args.first.now c.args.records) e (l.steps + 1))
           (sym (ap term b ∙ term_encode w.new))
           (advanced S tab room c.args.budget l.steps (front c.args.first.now c.args.records) here w.new l.invariant.left c.loop-steps-test.true w.is);
     }
+
+pub find-found-requires : goal.find-found-requires
+find-found-requires c =
+    let q = started c.loop-steps.invariant.loaded.start in
+    record { tree = front c.loop-steps.first c.loop-steps.n; at = at_start _ q.encoded; shallow = omega (arith, q.fit.shallow) }
 
 pub returns : goal.returns
 returns c =
@@ -102,5 +108,5 @@ returns c =
     halted _ l.steps _ _
     (spent S tab (length c.args.scratch.now) c.args.budget l.steps (front c.args.first.now c.args.records) (front l.first l.n) l.invariant.left
     (omega (arith, c.loop-steps-test.false, l.auto.steps-end)) c.find-found.result
-    (c.find-found.ensures (front l.first l.n) (at_start _ q.encoded)))
+    (c.find-found.ensures (front l.first l.n) (at_start _ (started q).encoded)))
     (ap end_number c.spent_on.ensures) (omega (arith, c.loop-steps-test.false, l.auto.steps-end)) refl l.invariant.loaded (omega (arith, c.requires.1, l.invariant.kept))

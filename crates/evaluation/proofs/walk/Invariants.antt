@@ -8,6 +8,6 @@ use Rattle.evaluation.proofs.walk.Given as goal
 abbrev pub invariant-loop-steps : goal.invariant-loop-steps
 invariant-loop-steps l = record {
   kept : length l.first ≡ length l.initial.first;
-  loaded : Loaded l.types l.first l.n (length l.fn.scratch);
+  loaded : Loaded l.groups l.types l.first l.n (length l.fn.scratch);
   left : Left (properties_of l.groups) (type_at l.types) (length l.fn.scratch) l.budget (front l.initial.first l.records) (front l.first l.n) l.steps;
 }

@@ -58,7 +58,7 @@ module _ {types s w : Bytes} {n : ℕ} (v : One types s w n) where
     injects : {l : Bytes} → l ≡ drop (type_width * number s 0) types → SlotSided l × (Starts (drop type_width w) × (answer_length ≤ length w))
     injects h =
         let m = inj_index types v.binders _ v.tree v.formed injection in
-        (named_sided v.table m.0 m.1 h, (record { type = v.type; held = behind }, v.room))
+        (named_sided v.table m.0 m.1 refl h, (record { type = v.type; held = behind }, v.room))
 
   -- no injection: the type is in front
   module _ {e : Term} (q : v.tree ≡ e) (z : kept_front e ≡ 0) where

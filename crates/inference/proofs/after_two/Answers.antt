@@ -1,55 +1,100 @@
--- A node of two operands that is no pair is an application.
-use Rattle.std.proofs.Common.{◌≡◌, ℕ, refl, sym, ap, ◌∙◌}
-use Rattle.calculus.specs.Types.{function}
-use Rattle.calculus.specs.Terms.{Term, app}
+-- The node's shape from its fields, then the callee's answer for that shape.
+use Rattle.std.proofs.Common.{◌≡◌, ℕ, ◌≤◌, ◌<◌, length, drop, refl, sym, ap, ◌∙◌, arith}
+use Rattle.calculus.specs.Security.{Property}
+use Rattle.calculus.specs.Types.{sum}
+use Rattle.calculus.specs.Terms.{Term}
 use Rattle.rules.specs.Answer.{Bytes}
+use Rattle.rules.specs.Limits.{answer_length}
 use Rattle.rules.specs.Groups.{properties_of}
+use Rattle.rules.specs.Types.{former_kind, type_at, type_count, type_kind, sides}
 use Rattle.rules.specs.Script.{kind, r, number}
-use Rattle.types.specs.Held.{kind_of}
-use Rattle.records.specs.Numbers.{kind_number}
-use Rattle.records.specs.declared.Kind.{Kind}
-use Rattle.records.specs.declared.Kind.TheVariants.{Pair}
-use Rattle.records.specs.Operands.{first_operand, second_operand}
+use Rattle.types.specs.Held.{Starts, kind_of}
+use Rattle.types.specs.declared.Kind.TheVariants.{Function}
+use Rattle.records.specs.Kinds as kinds
+use Rattle.records.specs.Labels.{property_at}
+use Rattle.types.proofs.Parts.{starts_of}
 use Rattle.inference.specs.Stages.{between, after_two, Two}
 use Rattle.inference.proofs.Regions.{slot_of}
-use Rattle.inference.proofs.Shapes.{arity_of, application_left, of_fields, read_by}
+use Rattle.inference.proofs.Shapes.{long, arity_of, less_left, labelled, of_fields, read_by}
+use Rattle.inference.proofs.Names.{within, named_slot, named_sided, flag_index}
 use Rattle.inference.proofs.Rules.{read_two, gives_of}
 use Rattle.inference.proofs.after_two.Goals as goal
+use Rattle.inference.proofs.after_two.Goals.{In_default}
 
-module _ {g s : Bytes} {place : ℕ} {w : Bytes} {n m : ℕ} (v : Two g s place w n m) where
+module _ {g types s : Bytes} {place : ℕ} {w : Bytes} {n m : ℕ} (v : Two g types s place w n m) where
   -- the rule for a node of a shape
   rule : {e : Term} → v.tree ≡ e
-      → after_two (properties_of g) place v.tree v.first v.second ≡ after_two (properties_of g) place e v.first v.second
-  rule q = ap (λ e. after_two (properties_of g) place e v.first v.second) q
+      → after_two (properties_of g) (type_at types) place v.tree v.first v.second ≡ after_two (properties_of g) (type_at types) place e v.first v.second
+  rule q = ap (λ e. after_two (properties_of g) (type_at types) place e v.first v.second) q
 
-  module _ {k : Kind} (f : kind_number k ≡ kind s 0) (ne : k ≡ Pair → ⊥) where
-    is_app : (w : ℕ) → w ≡ r s 0 → v.tree ≡ app w (first_operand v.tree) (second_operand v.tree)
-    is_app w e =
-        let z = application_left k (arity_of v.tree v.is f ∙ v.two) ne in
-        of_fields s v.tree _ {n = number s 0} v.is (sym z ∙ f) (ap (read_by s) e) refl
+  -- its form, with the groups or the reader as they were read
+  shape : {k : ℕ} {p : Property} → k ≡ kind s 0 → p ≡ property_at s 0 → v.tree ≡ labelled k p (number s 0) v.tree
+  shape {k} f e = of_fields s v.tree k v.is f e refl
 
-    sided : kind_of v.first ≡ 0 → ⊥
-    unfolding between
-    sided =
-        read_two (properties_of g) place function v.first (r s 0)
-        (sym (ap (λ e. between (properties_of g) place e v.first) (is_app (r s 0) refl)) ∙ v.asked)
+  read_shape : {k reader : ℕ} → k ≡ kind s 0 → reader ≡ r s 0 → v.tree ≡ labelled k (read_by s reader) (number s 0) v.tree
+  read_shape f e = shape f (ap (read_by s) e)
+
+  -- an application's function
+  sided : kinds.application ≡ kind s 0 → sides (kind_of v.first) ≡ 2
+  unfolding between
+  sided f =
+      read_two (properties_of g) place Function v.first (r s 0) refl
+      (sym (ap (λ e. between (properties_of g) place e v.first) (shape f refl)) ∙ v.asked)
+
+  -- the sum that a less than names
+  flag_named : kinds.less ≡ kind s 0 → (number s 0 < type_count types) × (type_kind types (number s 0) ≡ former_kind sum)
+  flag_named = flag_index types s v.binders v.tree v.is v.formed
+
+  operands : Starts w × (Starts (drop answer_length w) × (answer_length ≤ length w))
+  operands = (starts_of v.sized.held, (starts_of v.other.held, omega (arith, v.room)))
+
+-- what is left is a less than
+is_less : (c : In_default) → kinds.less ≡ kind c.args.s.now 0
+is_less c =
+    let v = c.requires in
+    let o = c.in_default in
+    sym (less_left _ (arity_of v.tree v.is c.kind_of.ensures ∙ v.two) o.not-Pair o.not-Application o.not-Sum) ∙ c.kind_of.ensures
 
 pub returns-in-Pair : goal.returns-in-Pair
 unfolding after_two
 returns-in-Pair c v =
-    let s = c.args.s.now in
-    let e = of_fields s v.tree _ {n = number s 0} v.is c.in-Pair.ensures c.property.ensures refl in
-    gives_of (rule v e) (c.pair.ensures v.first v.second v.sized v.other)
+    gives_of (rule v (shape v c.in-Pair.ensures c.property.ensures)) (c.pair.ensures v.first v.second v.sized v.other)
 
 pub apply-requires : goal.apply-requires
 apply-requires c =
     let v = c.requires in (
-      record { type = v.first; held = v.sized.held; two = sided v c.kind_of.ensures c.in_default.not-Pair },
+      record { type = v.first; held = v.sized.held; two = sided v c.in-Application.ensures },
       (record { type = v.second; held = v.other.held }, v.room),
     )
+
+pub returns-in-Application : goal.returns-in-Application
+unfolding after_two
+returns-in-Application c v =
+    gives_of (rule v (read_shape v c.in-Application.ensures c.reader.ensures)) (c.apply.ensures v.first v.second (slot_of v.sized) v.other.held)
+
+pub total-requires : goal.total-requires
+total-requires c = operands c.requires
+
+pub returns-in-Sum : goal.returns-in-Sum
+unfolding after_two
+returns-in-Sum c v =
+    gives_of (rule v (read_shape v c.in-Sum.ensures c.reader-in-Sum.ensures)) (c.total.ensures (type_at c.args.types.now) v.first v.second v.sized.held v.other.held)
+
+pub named-requires : goal.named-requires
+named-requires c =
+    let v = c.requires in
+    (long v.tree v.is, within _ _ (flag_named v (is_less (goal.at.named-requires c).In_default)).0)
+
+pub comparison-requires : goal.comparison-requires
+comparison-requires c =
+    let v = c.requires in
+    let m = flag_named v (is_less (goal.at.comparison-requires c).In_default) in
+    (named_sided v.table m.0 m.1 refl c.named.ensures, operands v)
 
 pub returns-in_default : goal.returns-in_default
 unfolding after_two
 returns-in_default c v =
-    let e = is_app v c.kind_of.ensures c.in_default.not-Pair c.reader.result.0 c.reader.ensures in
-    gives_of (rule v e) (c.apply.ensures v.first v.second (slot_of v.sized) v.other.held)
+    let q = is_less (goal.at.returns-in_default c).In_default in
+    gives_of (rule v (read_shape v q c.reader-in_default.ensures))
+    (c.comparison.ensures (type_at c.args.types.now) (number c.args.s.now 0) v.first v.second
+    (named_slot v.table (flag_named v q).0 c.named.ensures) v.sized.held v.other.held)

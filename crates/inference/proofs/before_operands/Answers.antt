@@ -1,5 +1,5 @@
 -- A function and a recursion bind the named type, and the questions are a recursion's.
-use Rattle.std.proofs.Common.{◌≡◌, ℕ, ◌+◌, ◌*◌, ◌≤◌, ◌<◌, length, sym, ap, ◌∙◌, subst, arith}
+use Rattle.std.proofs.Common.{◌≡◌, ℕ, ◌+◌, ◌*◌, ◌≤◌, ◌<◌, length, refl, sym, ap, ◌∙◌, subst, arith}
 use Rattle.calculus.specs.Security.{Security}
 use Rattle.calculus.specs.Terms.{Term}
 use Rattle.rules.specs.Limits.{answer_length}
@@ -68,7 +68,7 @@ pub may_recur-asked-requires : goal.may_recur-asked-requires
 may_recur-asked-requires c =
     let v = c.requires in
     let m = recursion_named v c.in-Recursion.ensures in
-    let p = named_sided v.table m.0 m.1 c.named-t.ensures in
+    let p = named_sided v.table m.0 m.1 refl c.named-t.ensures in
     record { type = p.type; held = p.slot.held; two = p.two }
 
 pub bind-requires-in-Recursion : goal.bind-requires-in-Recursion

@@ -1,7 +1,7 @@
 -- The node's shape from its fields, then the callee's answer for that shape.
 use Rattle.std.proofs.Common.{◌≡◌, ℕ, refl, sym, ap, ◌∙◌, arith}
 use Rattle.calculus.specs.Security.{Security}
-use Rattle.calculus.specs.Types.{function, Ty}
+use Rattle.calculus.specs.Types.{Ty}
 use Rattle.calculus.specs.Terms.{Term}
 use Rattle.rules.specs.Answer.{Bytes}
 use Rattle.rules.specs.Groups.{properties_of}
@@ -10,7 +10,7 @@ use Rattle.inference.specs.Operands.{operand_count}
 use Rattle.inference.specs.Memory.{Sized, Beside}
 use Rattle.inference.specs.Stages.{between, second_context, Some, Aside}
 use Rattle.inference.proofs.Regions.{stayed}
-use Rattle.inference.proofs.Shapes.{labelled, arity_of, case_left, of_fields, read_by}
+use Rattle.inference.proofs.Shapes.{labelled, reckons, arity_of, case_left, of_fields, read_by}
 use Rattle.inference.proofs.Rules.{enters_as, enters_for}
 use Rattle.inference.proofs.between.Goals as goal
 
@@ -45,7 +45,15 @@ pub returns-in-Application : goal.returns-in-Application
 unfolding between second_context operand_count
 returns-in-Application c v =
     let e = shape v c.in-Application.ensures c.reader.ensures in (
-      enters_as (c.may_read.ensures function v.type refl v.sized.held ∙ sym (asked v e (properties_of c.args.groups.now) c.args.place)) (context v e) (stayed v.binders v.holds),
+      enters_as (c.may_read.ensures v.type v.sized.held ∙ sym (asked v e (properties_of c.args.groups.now) c.args.place)) (context v e) (stayed v.binders v.holds),
+      λ z. front_aside (ap operand_count e) v.sized,
+    )
+
+pub returns-in-Sum : goal.returns-in-Sum
+unfolding between second_context operand_count
+returns-in-Sum c v =
+    let e = shape v c.kind_of.ensures c.reader-in-Sum.ensures ∙ (reckons _ _ v.tree c.in-Sum.is).1 in (
+      enters_as (c.may_read-in-Sum.ensures v.type v.sized.held ∙ sym (asked v e (properties_of c.args.groups.now) c.args.place)) (context v e) (stayed v.binders v.holds),
       λ z. front_aside (ap operand_count e) v.sized,
     )
 
@@ -54,7 +62,7 @@ unfolding between second_context operand_count
 returns-in_default c v =
     let f = c.kind_of.ensures in
     let a = arity_of v.tree v.is f in
-    let z = case_left _ (omega (arith, a, v.some)) c.in_default.not-Pair c.in_default.not-Application in
+    let z = case_left _ (omega (arith, a, v.some)) c.in_default.not-Pair c.in_default.not-Application c.in_default.not-Sum c.in_default.not-Less in
     let e = shape v (sym z ∙ f) c.reader-in_default.ensures in
     let h = c.test.ensures v.ctx v.type v.sized v.binders v.holds in
     let q = asked v e (properties_of c.args.groups.now) c.args.place in

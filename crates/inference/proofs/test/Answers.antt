@@ -1,11 +1,12 @@
 -- A type that passes question 20 has two sides, and they are moved to the next slot.
 use Rattle.std.proofs.Common.{◌≡◌, refl, sym, ap, ◌∙◌, ◌+◌, ◌-◌, ◌*◌, ◌≤◌, arith, length, take, drop}
 use Rattle.calculus.specs.Security.{Security}
-use Rattle.calculus.specs.Types.{sum, Ty}
+use Rattle.calculus.specs.Types.{Ty}
 use Rattle.rules.specs.Limits.{answer_length, type_width}
 use Rattle.rules.specs.Answer.{Bytes, accepted}
 use Rattle.rules.specs.Groups.{properties_of}
 use Rattle.types.specs.Held.{Held}
+use Rattle.types.specs.declared.Kind.TheVariants.{Sum}
 use Rattle.inference.specs.Stages.{may_read}
 use Rattle.inference.proofs.Front.{sides_bytes}
 use Rattle.types.proofs.Parts.{type_positive}
@@ -20,13 +21,13 @@ pub returns : goal.returns
 returns c =
     let S : Security = properties_of c.args.groups.now in
     let W : Bytes = c.args.w.now in
-    let may : (t : Ty) → Held W t → may_read S c.args.place sum t c.args.r.0 ≡ accepted tt = λ t h. sym (c.in-Ok.ensures sum t refl h) in
+    let may : (t : Ty) → Held W t → may_read S c.args.place Sum t c.args.r.0 ≡ accepted tt = λ t h. sym (c.in-Ok.ensures t h) in
     λ Γ t h l k.
     let w = W in
     let w' = c.shift.new.w in
     let b = c.args.b in
     let ok = may t h.held in
-    let nz = read_two S c.args.place sum t c.args.r.0 ok in
+    let nz = read_two S c.args.place Sum t c.args.r.0 refl ok in
     let room : answer_length * (b + 1) ≤ length w = omega (arith, c.requires.1) in
     let q = beside_written {t = t} {b = b} w w' nz h.small
     (ap (λ j. take (type_width * (j - 1)) (drop type_width w)) h.count ∙ sides_bytes w t h.held nz) room c.shift.ensures in

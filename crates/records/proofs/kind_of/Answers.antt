@@ -8,7 +8,7 @@ use Rattle.records.proofs.Stands.{there, stands_known}
 use Rattle.records.proofs.kind_of.Goals as goal
 
 -- a number that some kind has
-named : (n : ℕ) (o : Option Kind) → n ≤ kinds.recursion → KindIs n o → IsSome o
+named : (n : ℕ) (o : Option Kind) → n ≤ kinds.less → KindIs n o → IsSome o
 named n None l h = absurd (omega arith)
 named n (Some k) l h = refl
 

@@ -11,13 +11,11 @@ use Rattle.records.specs.Operands.{first_operand, second_operand}
 use Rattle.records.proofs.Weights.{weights, stands_weight}
 use Rattle.records.proofs.Stands.{kind_of, there, stands_kind, here}
 use Rattle.redex.specs.Found.{finds_value, is_destructor}
-use Rattle.redex.proofs.Forms.{Second, unit_value, function_value, pair_value, injection_value}
-use Rattle.redex.proofs.Forms.{variable_turn, recursion_turn, protect_turn, application_turn, destructor_turn, application_reads, one_reads}
-use Rattle.records.proofs.Numbered.{same_kind}
+use Rattle.redex.proofs.Forms.{Second, alone_value, function_value, pair_value, injection_value}
+use Rattle.redex.proofs.Forms.{variable_turn, recursion_turn, protect_turn, application_turn, reckoning_turn, destructor_turn, application_reads, one_reads}
 use Rattle.redex.proofs.Searches.{position_shallow, lift, fired}
-use Rattle.redex.proofs.Stages.{kind_read, Opened, opened, is_kind, injects, reads_one, first_at, first_of, FirstValue, first_value, second_of, second_at, value_found}
+use Rattle.redex.proofs.Stages.{kind_read, alone_read, Opened, opened, is_kind, injects, reads_one, reckons, first_at, first_of, FirstValue, first_value, second_of, second_at, applies, reckoning_at, value_found}
 use Rattle.records.specs.Numbers.{kind_number}
-use Rattle.records.specs.declared.Kind.TheVariants.{Pair}
 use Rattle.redex.proofs.+find.Goals as goal
 use Rattle.redex.proofs.+find.Goals.{In_default, In-Value, In_default-kind, In-Value-second, In_default-kind-2}
 
@@ -25,7 +23,7 @@ use Rattle.redex.proofs.+find.Goals.{In_default, In-Value, In_default-kind, In-V
 -- and is a value too.
 module _ (t : ℕ) {e : Term} where
   evaluating : (c : In_default t) → At c.args.script.now c.args.at e → Opened c.args.script.now c.args.at c.kind_of-kind.result e
-  evaluating c a = opened c.kind_of-kind.ensures c.in_default.not-Variable c.in_default.not-Unit c.in_default.not-Function c.in_default.not-Recursion a
+  evaluating c a = opened c.kind_of-kind.ensures c.in_default.not-Variable c.in_default.not-Unit c.in_default.not-Literal c.in_default.not-Function c.in_default.not-Recursion a
 
   first_is : (c : In-Value t) → Opened c.args.script.now c.args.at c.kind_of-kind.result e
       → FirstValue c.args.script.now c.args.at c.kind_of-kind.result e c.in-Value.next
@@ -40,8 +38,9 @@ module _ (t : ℕ) {e : Term} where
       → So (is_value (second_operand e)) × (c.in-Value-second.end ≡ c.in-Value.next + size (second_operand e))
   second_is c f x = value_found (c.find-second.ensures (second_operand e) (second_at f x)) c.in-Value-second.is
 
-  applies : (c : In_default-kind-2 t) → Opened c.args.script.now c.args.at c.kind_of-kind.result e → Second e → kind_of e ≡ kinds.application
-  applies c o x = x.applies (λ h. c.in_default-kind-2.not-Pair (same_kind _ Pair (o.kind_is ∙ h)))
+  applied : (c : In_default-kind-2 t) → FirstValue c.args.script.now c.args.at c.kind_of-kind.result e c.in-Value.next → Second e
+      → kind_of e ≡ kinds.application
+  applied c f x = let d = c.in_default-kind-2 in applies f x d.not-Pair d.not-Sum d.not-Less
 
 pub returns-in-Variable : goal.returns-in-Variable
 returns-in-Variable t c e a =
@@ -52,7 +51,7 @@ returns-in-Variable t c e a =
 
 pub returns-in-Unit : goal.returns-in-Unit
 returns-in-Unit t c e a =
-    let v = unit_value e (kind_read c.kind_of-kind.ensures a c.in-Unit.is) in
+    let v = alone_value e (alone_read c.kind_of-kind.ensures a c.in-Unit.is) in
     let n : c.args.at + 1 ≡ c.args.at + size e = omega (arith, v.1) in
     finds_value v.0 n
 
@@ -144,12 +143,29 @@ returns-in-Pair t c e a =
     let n : c.in-Value-second.end ≡ c.args.at + size e = omega (arith, v.1, f.ends, x.sizes) in
     finds_value (pair_value e (is_kind f.own c.in-Pair.is) f.value v.0) n
 
+pub reckoning-requires : goal.reckoning-requires
+reckoning-requires t c =
+    let q = c.requires in
+    let r = goal.at.reckoning-requires t c in
+    let f = first_is t r.In-Value (evaluating t r.In_default q.at) in
+    record { tree = q.tree; stands = reckoning_at f (twofold t r.In_default-kind f) c.in-Sum.is }
+
+pub returns-in-Sum : goal.returns-in-Sum
+returns-in-Sum t c e a =
+    let tab = type_at c.args.types.now in
+    let r = goal.at.returns-in-Sum t c in
+    let f = first_is t r.In-Value (evaluating t r.In_default a) in
+    let x = twofold t r.In_default-kind f in
+    let v = second_is t r.In-Value-second f x in
+    fired (properties_of c.args.groups.now) tab _ _ e (reckoning_turn e (reckons f.own c.in-Sum.is) f.value v.0)
+    (c.reckoning.ensures tab e (reckoning_at f x c.in-Sum.is))
+
 pub reading-requires-in_default-kind-2 : goal.reading-requires-in_default-kind-2
 reading-requires-in_default-kind-2 t c =
     let q = c.requires in
     let r = goal.at.reading-requires-in_default-kind-2 t c in
     let f = first_is t r.In-Value (evaluating t r.In_default q.at) in
-    let k = applies t r.In_default-kind-2 f.own (twofold t r.In_default-kind f) in
+    let k = applied t r.In_default-kind-2 f (twofold t r.In_default-kind f) in
     (here q.at, ap is_destructor (stands_kind _ _ q.tree q.at ∙ k) ∙ application_reads)
 
 pub returns-in_default-kind-2 : goal.returns-in_default-kind-2
@@ -159,5 +175,5 @@ returns-in_default-kind-2 t c e a =
     let f = first_is t r.In-Value (evaluating t r.In_default a) in
     let x = twofold t r.In_default-kind f in
     let v = second_is t r.In-Value-second f x in
-    fired (properties_of c.args.groups.now) tab _ _ e (application_turn e (applies t r.In_default-kind-2 f.own x) f.value v.0)
+    fired (properties_of c.args.groups.now) tab _ _ e (application_turn e (applied t r.In_default-kind-2 f x) f.value v.0)
     (c.reading-in_default-kind-2.ensures tab e a)

@@ -22,6 +22,7 @@ use Rattle.reduction.specs.declared.Stop.{Stop}
 use Rattle.contraction.proofs.Redexes.{left_side}
 use Rattle.contraction.proofs.Plans.{contractum_limit}
 use Rattle.contraction.proofs.Rooms.{contractum_few}
+use Rattle.reduction.proofs.Starts.{started}
 use Rattle.reduction.proofs.Splices.{redex_at, redex_small, redex_shallow, new_size, end_inside, exceeds_is}
 use Rattle.reduction.proofs.Ends.{ends_moved, ends_too_big}
 use Rattle.reduction.proofs.contract.Goals as goal
@@ -40,17 +41,17 @@ module _ {g t s : Bytes} {at around : ℕ} (q : Sited g t s at around) where
   abbrev fires : Fires s at
   fires = record {
     tree = q.site.redex;
-    stands = redex_at q.start q.site;
+    stands = redex_at (started q.start) q.site;
     left = left_side (properties_of g) (type_at t) q.site.redex q.site.turn q.site.goes;
   }
 
   abbrev ready : {p : Plan} → ((f : Fires s at) → Planned s f.tree p) → Ready s at p
   ready plan = record {
     tree = q.site.redex;
-    stands = redex_at q.start q.site;
+    stands = redex_at (started q.start) q.site;
     planned = plan fires;
-    small = redex_small q.start q.site;
-    shallow = omega (arith, redex_shallow q.start q.site);
+    small = redex_small (started q.start) q.site;
+    shallow = omega (arith, redex_shallow (started q.start) q.site);
   }
 
   -- what is counted: the contractum's records, the records behind the redex, and the new term's
@@ -58,13 +59,13 @@ module _ {g t s : Bytes} {at around : ℕ} (q : Sited g t s at around) where
   few {p} plan m = omega (arith, m.records, contractum_few (properties_of g) (type_at t) p (ready plan))
 
   inside : {end : ℕ} → end ≡ at + size q.site.redex → end ≤ records s
-  inside {end} e = end_inside q.start q.site end e
+  inside {end} e = end_inside (started q.start) q.site end e
 
   bytes : records s ≤ script_limit
-  bytes = omega (arith, q.start.small, start_records s q.start.encoded)
+  bytes = omega (arith, (started q.start).fit.small, start_records s (started q.start).encoded)
 
   total : {end n : ℕ} {m : Size} → end ≡ at + size q.site.redex → n ≡ records s → Measures part m → at + m.records + (n - end) ≡ size whole
-  total {end} e n m = omega (arith, new_size q.start q.site part end e, m.records, n)
+  total {end} e n m = omega (arith, new_size (started q.start) q.site part end e, m.records, n)
 
   -- the place of the new term, where it isn't too big
   placing : (w : Bytes) {p : Plan} {end : ℕ} → ((f : Fires s at) → Planned s f.tree p) → end ≡ at + size q.site.redex
@@ -87,27 +88,27 @@ pub measure-size-requires : goal.measure-size-requires
 measure-size-requires c = ready c.requires c.plan_of-plan.ensures
 
 pub end_of-end-requires : goal.end_of-end-requires
-end_of-end-requires c = let q = c.requires in here (redex_at q.start q.site)
+end_of-end-requires c = let q = c.requires in here (redex_at (started q.start) q.site)
 
 pub overflow_add-total : goal.overflow_add-total
 overflow_add-total c =
     let q = c.requires in
     let plan = c.plan_of-plan.ensures in
     let m = c.measure-size.ensures (ready q plan) (properties_of c.args.groups.now) (type_at c.args.types.now) in
-    let e = c.end_of-end.ensures _ (redex_at q.start q.site) in
+    let e = c.end_of-end.ensures _ (redex_at (started q.start) q.site) in
     omega (arith, few q plan m, inside q e, e, bytes q)
 
 pub overflow_sub-total : goal.overflow_sub-total
 overflow_sub-total c =
     let q = c.requires in
-    omega (arith, inside q (c.end_of-end.ensures _ (redex_at q.start q.site)), c.record_count.ensures)
+    omega (arith, inside q (c.end_of-end.ensures _ (redex_at (started q.start) q.site)), c.record_count.ensures)
 
 pub overflow_add-total-2 : goal.overflow_add-total-2
 overflow_add-total-2 c =
     let q = c.requires in
     let plan = c.plan_of-plan.ensures in
     let m = c.measure-size.ensures (ready q plan) (properties_of c.args.groups.now) (type_at c.args.types.now) in
-    let e = c.end_of-end.ensures _ (redex_at q.start q.site) in
+    let e = c.end_of-end.ensures _ (redex_at (started q.start) q.site) in
     omega (arith, few q plan m, inside q e, e, bytes q, c.record_count.ensures)
 
 pub overflow_add-around : goal.overflow_add-around
@@ -115,7 +116,7 @@ overflow_add-around c =
     let q = c.requires in
     let plan = c.plan_of-plan.ensures in
     let m = c.measure-size.ensures (ready q plan) (properties_of c.args.groups.now) (type_at c.args.types.now) in
-    omega (arith, few q plan m, m.records, m.deep, depth_size (part q), redex_shallow q.start q.site)
+    omega (arith, few q plan m, m.records, m.deep, depth_size (part q), redex_shallow (started q.start) q.site)
 
 pub returns-then-exceeds : goal.returns-then-exceeds
 returns-then-exceeds c =
@@ -123,8 +124,8 @@ returns-then-exceeds c =
     let tab = type_at c.args.types.now in
     let q = c.requires in
     let m = c.measure-size.ensures (ready q c.plan_of-plan.ensures) S tab in
-    let n = total q (c.end_of-end.ensures _ (redex_at q.start q.site)) c.record_count.ensures m in
-    let big = c.exceeds.ensures ∙ exceeds_is q.start q.site (length c.args.written.now) _ _ (part q) n m.deep in
+    let n = total q (c.end_of-end.ensures _ (redex_at (started q.start) q.site)) c.record_count.ensures m in
+    let big = c.exceeds.ensures ∙ exceeds_is (started q.start) q.site (length c.args.written.now) _ _ (part q) n m.deep in
     let h = ends_too_big S tab (term c.args.script.now) (length c.args.written.now) (whole q) (site_moves S tab q.site) (sym big ∙ c.if-exceeds.true) in
     (sym (ap told h), sym (ap (λ (x : End). front_after x c.args.written.now) h))
 
@@ -133,8 +134,8 @@ write_new-requires c =
     let q = c.requires in
     let plan = c.plan_of-plan.ensures in
     let m = c.measure-size.ensures (ready q plan) (properties_of c.args.groups.now) (type_at c.args.types.now) in
-    let e = c.end_of-end.ensures _ (redex_at q.start q.site) in
-    let big = c.exceeds.ensures ∙ exceeds_is q.start q.site (length c.args.written.now) _ _ (part q) (total q e c.record_count.ensures m) m.deep in
+    let e = c.end_of-end.ensures _ (redex_at (started q.start) q.site) in
+    let big = c.exceeds.ensures ∙ exceeds_is (started q.start) q.site (length c.args.written.now) _ _ (part q) (total q e c.record_count.ensures m) m.deep in
     placing q c.args.written.now plan e (sym big ∙ c.if-exceeds.false)
 
 pub returns : goal.returns
@@ -145,9 +146,9 @@ returns c =
     let q = c.requires in
     let plan = c.plan_of-plan.ensures in
     let m = c.measure-size.ensures (ready q plan) S tab in
-    let e = c.end_of-end.ensures _ (redex_at q.start q.site) in
+    let e = c.end_of-end.ensures _ (redex_at (started q.start) q.site) in
     let n = total q e c.record_count.ensures m in
-    let small = sym (c.exceeds.ensures ∙ exceeds_is q.start q.site (length c.args.written.now) _ _ (part q) n m.deep) ∙ c.if-exceeds.false in
+    let small = sym (c.exceeds.ensures ∙ exceeds_is (started q.start) q.site (length c.args.written.now) _ _ (part q) n m.deep) ∙ c.if-exceeds.false in
     let h = ends_moved S tab (term c.args.script.now) (length c.args.written.now) (whole q) (site_moves S tab q.site) small in (
       counts n ∙ sym (ap told h),
       c.write_new.ensures (placing q c.args.written.now plan e small)

@@ -3,7 +3,8 @@ use Rattle.std.proofs.lemmas.Result.{err_from_is_err_and}
 use Rattle.rules.specs.Answer.{Answer}
 use Rattle.rules.specs.Step.{End}
 use Rattle.rules.specs.Calls.{written_after}
-use Rattle.reduction.proofs.Ends.{made_report, refused_keeps, passed_step, startable}
+use Rattle.reduction.proofs.Starts.{startable}
+use Rattle.reduction.proofs.Ends.{made_report, refused_keeps, passed_step}
 use Rattle.reduction.proofs.step.Goals as goal
 
 pub returns-in_err-script_check : goal.returns-in_err-script_check
@@ -14,7 +15,7 @@ returns-in_err-script_check c =
 
 pub step_term-requires : goal.step_term-requires
 step_term-requires c =
-    startable [] c.args.groups.now c.args.types.now c.args.script.now (λ k. omega (arith, c.type_inv.script k)) (sym c.in_ok-script_check.ensures)
+    startable [] c.args.groups.now c.args.types.now c.args.script.now (λ k. omega (arith, c.type_inv.groups k)) (λ k. omega (arith, c.type_inv.script k)) (sym c.in_ok-script_check.ensures)
 
 pub returns-in-Ok : goal.returns-in-Ok
 returns-in-Ok c =

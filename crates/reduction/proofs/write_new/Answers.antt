@@ -18,6 +18,7 @@ use Rattle.substitution.proofs.Reading.{term_length}
 use Rattle.contraction.specs.declared.Plan.{Plan}
 use Rattle.contraction.specs.Plans.{Fit}
 use Rattle.reduction.specs.Steps.{Placing}
+use Rattle.reduction.proofs.Starts.{started, named_sides}
 use Rattle.reduction.proofs.Splices.{redex_at, redex_small, redex_shallow, length_is, end_inside, front_is, rest_is}
 use Rattle.reduction.proofs.write_new.Goals as goal
 use Rattle.std.specs.Borrow.{MutBor}
@@ -27,7 +28,7 @@ module _ {g t s w : Bytes} {at end : ℕ} {p : Plan} (q : Placing g t s at p end
   new = contractum (properties_of g) (type_at t) q.site.redex
 
   inside : script_width * end ≤ length s
-  inside = omega (arith, end_inside q.start q.site end q.end_is, length_is q.start q.site)
+  inside = omega (arith, end_inside (started q.start) q.site end q.end_is, length_is (started q.start) q.site)
 
   at_before : at ≤ end
   at_before = omega (arith, q.end_is)
@@ -43,7 +44,7 @@ module _ {g t s w : Bytes} {at end : ℕ} {p : Plan} (q : Placing g t s at p end
       (omega (arith, e.0, ap (λ (o : MutBor Bytes). length o.now) e.1, ap length l, q.fits, term_length q.whole))
 
   front_written : {out out' : Writer} → Written (take (script_width * at) s) out out' → Written (before q.site.context) out out'
-  front_written {out} {out'} m = transport (λ (b : Bytes). Written b out out') (front_is q.start q.site) m
+  front_written {out} {out'} m = transport (λ (b : Bytes). Written b out out') (front_is (started q.start) q.site) m
 
   -- room for the contractum and what follows it, once the front is written
   next_room : (out : Writer) {out' : Writer} {lent : MutBor Bytes} → (out.end ≡ 0) × (out.out ≡ lent) → lent.now ≡ w → Written (take (script_width * at) s) out out'
@@ -54,20 +55,21 @@ module _ {g t s w : Bytes} {at end : ℕ} {p : Plan} (q : Placing g t s at p end
   fit out r = record {
     ready = record {
       tree = q.site.redex;
-      stands = redex_at q.start q.site;
+      stands = redex_at (started q.start) q.site;
       planned = q.planned;
-      small = redex_small q.start q.site;
-      shallow = omega (arith, redex_shallow q.start q.site);
+      small = redex_small (started q.start) q.site;
+      shallow = omega (arith, redex_shallow (started q.start) q.site);
     };
     contracts = q.site.goes;
-    table = q.start.table;
+    table = (started q.start).table;
+    sides = named_sides (started q.start) (redex_at (started q.start) q.site);
     room = room_first (encode new) (after q.site.context) out r;
   }
 
   whole_written : {o o₁ o₂ o₃ : Writer} → Written (take (script_width * at) s) o o₁ → Written (encode new) o₁ o₂
       → Written (take (length s - script_width * end) (drop (script_width * end) s)) o₂ o₃ → Written (encode q.whole) o o₃
   whole_written {o₂ = o₂} {o₃ = o₃} m n r =
-      rw whole_bytes (then (front_written m) (then n (transport (λ (b : Bytes). Written b o₂ o₃) (rest_is q.start q.site end q.end_is) r)))
+      rw whole_bytes (then (front_written m) (then n (transport (λ (b : Bytes). Written b o₂ o₃) (rest_is (started q.start) q.site end q.end_is) r)))
 
 pub overflow_mul-at : goal.overflow_mul-at
 overflow_mul-at c = omega (arith, inside c.requires, at_before c.requires)
@@ -80,7 +82,7 @@ slice_bounds-put-end c =
 pub put-requires : goal.put-requires
 put-requires c =
     let q = c.requires in
-    rw (front_is q.start q.site) (room_first (before q.site.context) _ c.new-out.result (begun_room q c.new-out.result c.new-out.ensures refl))
+    rw (front_is (started q.start) q.site) (room_first (before q.site.context) _ c.new-out.result (begun_room q c.new-out.result c.new-out.ensures refl))
 
 pub write_contractum-requires : goal.write_contractum-requires
 write_contractum-requires c = fit c.requires c.put.new.self (next_room c.requires c.new-out.result c.new-out.ensures refl c.put.ensures)
@@ -98,7 +100,7 @@ pub put-requires-2 : goal.put-requires-2
 put-requires-2 c =
     let q = c.requires in
     let r = next_room q c.new-out.result c.new-out.ensures refl c.put.ensures in
-    rw (rest_is q.start q.site c.args.end q.end_is) (room_next _ (c.write_contractum.ensures (fit q c.put.new.self r)) r)
+    rw (rest_is (started q.start) q.site c.args.end q.end_is) (room_next _ (c.write_contractum.ensures (fit q c.put.new.self r)) r)
 
 pub returns : goal.returns
 returns c q =

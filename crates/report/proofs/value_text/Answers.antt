@@ -1,6 +1,6 @@
 use Rattle.std.proofs.Common.{Option, None, Some, not, true, false, true≢false, refl, ◌≡◌, ℕ, ◌*◌, ◌≤◌, length, take, sym, ap, arith}
 use Rattle.std.proofs.lemmas.List.{length-take-le}
-use Rattle.rules.specs.Answer.{Bytes, Answer, accepted}
+use Rattle.rules.specs.Answer.{Bytes, Octets, Answer, accepted}
 use Rattle.rules.specs.Limits.{sheet_width, report_sheet}
 use Rattle.rules.specs.Calls.{sheeting, sheet_records, sheet_after}
 use Rattle.rules.specs.Report.{sheet_lines, sheet_text}
@@ -11,6 +11,7 @@ use Rattle.reduction.specs.declared.Stop.{Stop}
 use Rattle.reduction.specs.declared.Stop.TheVariants.{Value, MayNot, WrongKind, TooBig}
 use Rattle.reduction.specs.Steps.{end_number}
 use Rattle.report.specs.Room.{value_room}
+use Rattle.report.proofs.SheetBytes.{value_octets}
 use Rattle.report.proofs.Texts.{page_fits, count_within, counted_lines, sheet_refusal, no_value, a_value, refusal_fits, sheet_room}
 use Rattle.report.proofs.value_text.Goals as goal
 
@@ -27,8 +28,9 @@ module _ (g t v : Bytes) {n : ℕ} (counted : accepted n ≡ sheet_records (shee
     lines : sheet_lines w (take (sheet_width * n) page) ≡ sheet_text w answer
     lines = counted_lines w answer n old page counted after
 
-    lines_length : length (sheet_lines w (take (sheet_width * n) page)) ≤ value_room
-    lines_length = omega (arith, ap length lines, sheet_room w answer (page_fits g t v 0 report_sheet))
+    lines_length : Octets g → Octets v → length (sheet_lines w (take (sheet_width * n) page)) ≤ value_room
+    lines_length o p =
+        omega (arith, ap length lines, sheet_room w answer (λ b h. (page_fits g t v 0 report_sheet b h, value_octets g t v 0 report_sheet o p b h)))
 
 -- the test of a stop is one of its number
 value_stop : (stop : Option Stop) → not (option_eq eq-value.it stop (Some Value)) ≡ false → end_number stop ≡ 0
@@ -65,7 +67,8 @@ slice_bounds-sheet_lines-end c =
 pub sheet_lines-requires : goal.sheet_lines-requires
 sheet_lines-requires c =
     let a = c.args in
-    let l = lines_length a.groups.now a.types.now a.value.now c.in-Ok.ensures.0 a.words.now _ c.in-Ok.ensures.1 in
+    let l = lines_length a.groups.now a.types.now a.value.now c.in-Ok.ensures.0 a.words.now _ c.in-Ok.ensures.1
+    (λ j. omega (arith, c.type_inv.groups j)) (λ j. omega (arith, c.type_inv.value j)) in
     omega (arith, l, c.requires)
 
 pub refusal_line-requires : goal.refusal_line-requires

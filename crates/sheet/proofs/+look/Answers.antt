@@ -3,7 +3,7 @@ use Rattle.std.proofs.Common.{◌≡◌, ℕ, ◌+◌, ◌≤◌, ◌<◌, Bool,
 use Rattle.calculus.specs.Terms.{Term}
 use Rattle.rules.specs.Answer.{Bytes}
 use Rattle.rules.specs.Groups.{leq}
-use Rattle.rules.specs.Script.{kind, r}
+use Rattle.rules.specs.Script.{kind, r, is_object}
 use Rattle.records.specs.Kinds as kinds
 use Rattle.records.specs.Place.{At}
 use Rattle.records.specs.Operands.{first_operand, second_operand}
@@ -17,7 +17,7 @@ own_most : (shown : Bool) (n : ℕ) {own_line : ℕ} → own_line ≡ n + cond s
 own_most shown n e = omega (arith, at_most_one shown)
 
 -- the node has parts
-module _ {s : Bytes} {i k : ℕ} (kind_read : k ≡ kind s i) (has_parts : kinds.function < k) (is_object : k ≤ kinds.second_injection) where
+module _ {s : Bytes} {i k : ℕ} (kind_read : k ≡ kind s i) (from_pair : kinds.function < k) (to_injections : k ≤ kinds.second_injection) where
   first_at : (u : Term) → At s i u → At s (i + 1) (first_operand u)
   first_at u w =
       let e = kind_is u kind_read w in
@@ -86,7 +86,7 @@ pub returns-in-Unit : goal.returns-in-Unit
 returns-in-Unit t c u w =
     let e = kind_is u c.kind_of.ensures w in
     let n = plain c.in-Unit.is in
-    let p = no_parts c.args.groups.now c.args.group.0 c.args.shown (view u) (omega (arith, e, n.0)) (omega (arith, e, n.1)) in
+    let p = no_parts c.args.groups.now c.args.group.0 c.args.shown (view u) (ap is_object (sym e) ∙ n.0) (λ l. omega (arith, e, n.1 (omega (arith, e)))) in
     looked_yes _ _ _ u _ _ _ p.0 (c.end_of.ensures u w) (omega (arith, p.1, c.counted-own.ensures))
 
 pub returns-in-FirstInjection : goal.returns-in-FirstInjection
@@ -111,4 +111,4 @@ returns-in_default t c u w =
     let e = kind_is u c.kind_of.ensures w in
     let d = c.in_default in
     looked_no _ _ _ u _ _
-    (no_object (view u) (λ l. omega (arith, e, no_object_kind _ d.not-Unit d.not-Function d.not-Pair d.not-FirstInjection d.not-SecondInjection (omega (arith, e)))))
+    (no_object (view u) (ap is_object (sym e) ∙ no_object_kind _ d.not-Unit d.not-Function d.not-Literal d.not-Pair d.not-FirstInjection d.not-SecondInjection))

@@ -10,7 +10,7 @@ indirect-ir-requires c = there _ _ _ c.requires.at
 
 pub returns-then-told : goal.returns-then-told
 unfolding line
-returns-then-told c = rw (c.if-told.true, c.shown_kind-kind.ensures, c.kind_of.ensures, c.reader-r.ensures, c.indirect-ir.ensures)
+returns-then-told c = rw (c.if-told.true, c.shown_kind-kind.ensures, c.kind_of.ensures, c.reader-r.ensures, c.indirect-ir.ensures, c.literal_number-number.ensures)
 
 pub returns : goal.returns
 unfolding line

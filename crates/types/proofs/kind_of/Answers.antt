@@ -1,6 +1,6 @@
 -- The first byte of a type is its kind, and every type has one.
 use Rattle.std.proofs.Common.{◌≤◌, ℕ, Option, Some, None, IsSome, refl, subst, ◌∙◌, arith}
-use Rattle.calculus.specs.Types.{Ty, one, node, sum, product, function}
+use Rattle.calculus.specs.Types.{one, number, Ty, leaf, node, sum, product, function}
 use Rattle.rules.specs.Types.{type_kind}
 use Rattle.types.specs.Held.{kind_of}
 use Rattle.types.specs.Kinds.{KindIs}
@@ -8,14 +8,15 @@ use Rattle.types.specs.declared.Kind.{Kind}
 use Rattle.types.proofs.Parts.{starts_long, kind_is}
 use Rattle.types.proofs.kind_of.Goals as goal
 
-known : (t : Ty) → kind_of t ≤ 3
-known (one k) = omega arith
+known : (t : Ty) → kind_of t ≤ 4
+known (leaf one k) = omega arith
+known (leaf number k) = omega arith
 known (node sum k s t) = omega arith
 known (node product k s t) = omega arith
 known (node function k s t) = omega arith
 
 -- a number that some kind has
-named : (n : ℕ) (o : Option Kind) → n ≤ 3 → KindIs n o → IsSome o
+named : (n : ℕ) (o : Option Kind) → n ≤ 4 → KindIs n o → IsSome o
 named n None l h = absurd (omega arith)
 named n (Some k) l h = refl
 
