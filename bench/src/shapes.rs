@@ -19,25 +19,29 @@ pub struct Shape {
     pub inputs: fn(usize) -> Inputs,
 }
 
-pub static SHAPES: [Shape; 12] = [
+pub static SHAPES: [Shape; 15] = [
     Shape { call: Call::Check, name: "typical", inputs: typical },
     Shape { call: Call::Check, name: "worst: chain", inputs: chain },
     Shape { call: Call::Check, name: "worst: first operands", inputs: first_operands },
     Shape { call: Call::Check, name: "worst: branches", inputs: branches },
     Shape { call: Call::Check, name: "worst: found types", inputs: found_types },
     Shape { call: Call::Check, name: "worst: tables", inputs: large_tables },
+    Shape { call: Call::Check, name: "numbers", inputs: numbers },
     Shape { call: Call::Run, name: "typical", inputs: typical },
+    Shape { call: Call::Run, name: "numbers", inputs: numbers },
     Shape { call: Call::Run, name: "worst: far redexes", inputs: far },
     Shape { call: Call::Step, name: "typical", inputs: typical },
     Shape { call: Call::Step, name: "worst: substitution", inputs: substitution },
     Shape { call: Call::Sheet, name: "typical", inputs: values },
     Shape { call: Call::Sheet, name: "worst: pairs", inputs: pairs },
+    Shape { call: Call::Sheet, name: "numbers", inputs: shown_numbers },
 ];
 
-/// Of the types table: a sum of units, a function and a sum of 63 records, all groups 0.
+/// Of the types table: a sum of units, a function and a sum of 63 records, and a number, all groups 0.
 const SUM: u16 = 0;
 const FUNCTION_63: u16 = 3;
 const SUM_63: u16 = 66;
+const NUMBER: u16 = 129;
 
 /// A side of the types of 63 records.
 const SIDE: usize = 31;
@@ -47,7 +51,9 @@ fn types() -> Vec<u8> {
     let function = Type { marks: LOW, form: Form::Function(side(), side()) };
     let sum = Type { marks: LOW, form: Form::Sum(side(), side()) };
     let small = Form::Sum(Rc::new(wide_type(1)), Rc::new(wide_type(1)));
-    [Type { marks: LOW, form: small }, function, sum].iter().flat_map(Type::write).collect()
+    let number = Type { marks: LOW, form: Form::Number };
+    let all = [Type { marks: LOW, form: small }, function, sum, number];
+    all.iter().flat_map(Type::write).collect()
 }
 
 fn inputs(term: Rc<Term>, size: usize) -> Inputs {
@@ -213,6 +219,51 @@ fn comb(size: usize, depth: usize) -> Rc<Term> {
 
 fn pairs(size: usize) -> Inputs {
     inputs(comb(size, 240.min(size / 4)), size)
+}
+
+fn literal(number: usize) -> Rc<Term> {
+    Rc::new(Term::Literal(LOW, number as u16))
+}
+
+/// A number: sums halved down to literals, every few of them chosen by a comparison, `(λx. case x < n of x + n | x)` of
+/// a number.
+fn number(size: usize) -> Rc<Term> {
+    match size {
+        1 => literal(size),
+        2 => protect(1, literal(size)),
+        14..=40 => {
+            let more = Term::Addition(0, variable(1), literal(size));
+            let test = Term::LessThan(0, SUM, variable(0), literal(size * size));
+            let chosen = case(NUMBER, Rc::new(test), Rc::new(more), variable(1));
+            let function = Rc::new(Term::Function(LOW, NUMBER, chosen));
+            Rc::new(Term::Application(0, function, number(size - 10)))
+        }
+        _ => {
+            let left = (size - 1) / 2;
+            Rc::new(Term::Addition(0, number(left), number(size - 1 - left)))
+        }
+    }
+}
+
+/// Check and run.
+fn numbers(size: usize) -> Inputs {
+    inputs(number(size), size)
+}
+
+/// A value: pairs halved down to literals.
+fn number_value(size: usize) -> Rc<Term> {
+    match size {
+        1 => literal(size),
+        2 => inject(Side::First),
+        _ => {
+            let left = (size - 1) / 2;
+            pair(number_value(left), number_value(size - 1 - left))
+        }
+    }
+}
+
+fn shown_numbers(size: usize) -> Inputs {
+    inputs(number_value(size), size)
 }
 
 /// Redexes only: pairs halved down to a protected unit.

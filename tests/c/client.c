@@ -7,8 +7,8 @@
 #include "hold.h"
 #include "wigneld.h"
 
-#if WIGNELD_FORMAT != 3
-#error "the records below are of form 3"
+#if WIGNELD_FORMAT != 4
+#error "the records below are of form 4"
 #endif
 
 /* Two groups: anyone, and the lender above. */

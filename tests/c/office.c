@@ -7,8 +7,8 @@
 #include "hold.h"
 #include "wigneld_office.h"
 
-#if WIGNELD_FORMAT != 3
-#error "the rewriting below is to form 3"
+#if WIGNELD_FORMAT != 4
+#error "the rewriting below is to form 4"
 #endif
 
 /* Two groups: anyone, and the lender above. */
@@ -102,7 +102,7 @@ static void refusals(void)
     memcpy(damaged, types, sizeof types);
     damaged[WIGNELD_TYPE_RECORD_BYTES * OPEN_TO_OPEN + WIGNELD_TYPE_AT_INDIRECT_CREATORS] = 1;
     refuses(wigneld_compare(groups, sizeof groups, damaged, sizeof damaged, 0, 0), 36, OPEN_TO_OPEN);
-    damaged[WIGNELD_TYPE_RECORD_BYTES * OPEN_TO_OPEN] = 4;
+    damaged[WIGNELD_TYPE_RECORD_BYTES * OPEN_TO_OPEN] = WIGNELD_TYPE_NUMBER + 1;
     refuses(wigneld_compare(groups, sizeof groups, damaged, sizeof damaged, 0, 0), 9, OPEN_TO_OPEN);
     for (i = 0; i < sizeof past / sizeof past[0]; i++) {
         refuses(wigneld_compare(groups, sizeof groups, types, sizeof types, past[i], 0), 25, 0);
@@ -306,12 +306,12 @@ static void rewriting_refused(void)
         keeps(rewrite_script(rule_types, sizeof rule_types, saved, length, sizeof new_script), whole ? 17 : 13,
               whole ? (uint32_t)(length / record) : 0);
     }
-    types_with(2 * type, 4, 9, 2);
+    types_with(2 * type, WIGNELD_TYPE_NUMBER + 1, 9, 2);
     types_with(type + 1, 2, 9, 1);
     types_with(type + 3, 1, 9, 1);
     types_with(type + 2, 1, 10, 1);
     types_with(type, 1, 11, 0);
-    script_with(record, 12, 14, 1);
+    script_with(record, WIGNELD_KIND_LESS + 1, 14, 1);
     script_with(4 * record + 1, 1, 14, 4);
     script_with(CALLER, 2, 15, 1);
     script_with(6 * record + 2, 1, 15, 6);
@@ -365,11 +365,11 @@ static void longest(void)
 static void beside_the_editor(void)
 {
     static const uint8_t unit[] = { 1, 0, 0, 0, 0, 0, 0, 0 };
-    uint8_t sheet[4] = { 9, 9, 9, 9 };
+    uint8_t sheet[WIGNELD_SHEET_RECORD_BYTES] = { 9, 9, 9, 9, 9, 9 };
     uint64_t answer = wigneld_sheet(groups, sizeof groups, types, sizeof types, unit, sizeof unit, 0, sheet, sizeof sheet);
 
     HOLD(wigneld_question(answer) == 0 && wigneld_count(answer) == 1);
-    HOLD(sheet[0] == WIGNELD_SHEET_UNIT && sheet[1] == 0 && sheet[2] == 0 && sheet[3] == 0);
+    HOLD(sheet[0] == WIGNELD_SHEET_UNIT && all(sheet + 1, sizeof sheet - 1, 0));
 }
 
 int main(void)

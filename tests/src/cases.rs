@@ -176,7 +176,7 @@ pub fn l() -> Inputs {
 }
 
 /// B's tables with a value that shows every word to group 0: ((first unit, second unit), (function,
-/// closed unit)).
+/// (number, closed number))).
 pub fn every_word() -> Inputs {
     let script = [
         record(3, 0, 0, 0),
@@ -188,10 +188,81 @@ pub fn every_word() -> Inputs {
         record(3, 0, 0, 0),
         record(2, 0, 0, 4),
         record(0, 0, 0, 0),
-        record(1, 1, 1, 0),
+        record(3, 0, 0, 0),
+        record(12, 0, 0, 300),
+        record(12, 1, 1, 7),
     ]
     .concat();
     with_script(script)
+}
+
+/// Document 02, item 13: the tables of a page with numbers, over case J's groups. Records 0 to 2 are a sum of units
+/// of which the first is for 1 and made by 2, 3 to 5 a function from number to number, 6 to 8 a sum of a unit and a
+/// number.
+pub fn number_types() -> Vec<u8> {
+    let number = type_record(4, 0, 0);
+    [
+        made(type_record(1, 3, 3), 3, 3),
+        made(type_record(0, 1, 0), 2, 0),
+        made(UNIT_TYPE, 3, 3),
+        type_record(3, 0, 0),
+        number,
+        number,
+        type_record(1, 0, 0),
+        UNIT_TYPE,
+        number,
+    ]
+    .concat()
+}
+
+/// A pair of a total, counted as 3 of a number for 1 and one for 2, and a comparison, made as 1 of a total past
+/// 65,535 and 65,535 itself.
+pub fn numbers() -> Inputs {
+    let script = [
+        record(3, 0, 0, 0),
+        record(13, 3, 0, 0),
+        made(record(12, 1, 1, 40), 3, 1),
+        made(record(12, 2, 0, 2), 2, 2),
+        record(14, 1, 0, 0),
+        record(13, 3, 0, 0),
+        made(record(12, 1, 0, 65_535), 3, 3),
+        made(record(12, 0, 0, 1), 3, 3),
+        made(record(12, 0, 0, 65_535), 1, 1),
+    ]
+    .concat();
+    Inputs { types: number_types(), script, ..j() }
+}
+
+/// The same with another record in this place.
+pub fn numbers_with(place: usize, record: [u8; SCRIPT_BYTES]) -> Inputs {
+    let mut inputs = numbers();
+    set(&mut inputs.script, place, record);
+    inputs
+}
+
+/// 1 + (2 + (3 + 4)), read as group 0, and the totals 0 and 65,535: what a report prints of numbers.
+pub fn totals() -> Inputs {
+    let literal = |number| record(12, 0, 0, number);
+    let sum = record(13, 0, 0, 0);
+    let script = [
+        record(3, 0, 0, 0),
+        sum,
+        literal(1),
+        sum,
+        literal(2),
+        sum,
+        literal(3),
+        literal(4),
+        record(3, 0, 0, 0),
+        sum,
+        literal(0),
+        literal(0),
+        sum,
+        literal(65_534),
+        literal(2),
+    ]
+    .concat();
+    Inputs { types: number_types(), script, ..j() }
 }
 
 /// Document 02, item 10: a page with creators over case J's groups. A note (λx. <x, second of unit>) that

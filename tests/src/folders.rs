@@ -48,6 +48,15 @@ fn folders() -> Vec<(&'static str, Inputs)> {
         ("creators-of-an-object", cases::creators_of_an_object()),
         ("creators-of-a-recursion", cases::creators_of_a_recursion()),
         ("creators-of-an-argument", cases::creators_of_an_argument()),
+        ("numbers", cases::numbers()),
+        ("numbers-totals", cases::totals()),
+        ("numbers-of-a-unit", cases::numbers_with(3, cases::record(1, 0, 0, 0))),
+        ("numbers-may-not", cases::numbers_with(1, cases::record(13, 1, 0, 0))),
+        ("numbers-of-a-number", cases::numbers_with(4, cases::record(14, 1, 0, 6))),
+        (
+            "numbers-of-the-creators",
+            cases::numbers_with(2, cases::made(cases::record(12, 1, 1, 40), 1, 2)),
+        ),
         ("every-word", cases::every_word()),
         ("no-groups", Inputs { groups: vec![], ..b.clone() }),
         ("no-types", Inputs { types: vec![], ..b.clone() }),
@@ -74,7 +83,7 @@ fn printed(words: Option<&[u8]>, inputs: &Inputs) -> Vec<u8> {
 /// A studio's words, and tables that are refused: a name and the file `words` of each. The other files are those of the value that
 /// shows every word.
 fn tables_of_words() -> Vec<(&'static str, Vec<u8>)> {
-    let own = ["leeg", "links", "rechts", "paar", "functie", "gesloten"];
+    let own = ["leeg", "links", "rechts", "paar", "functie", "gesloten", "getal"];
     let with = |index: usize, word: &'static str| {
         let mut words = own;
         words[index] = word;
@@ -85,17 +94,21 @@ fn tables_of_words() -> Vec<(&'static str, Vec<u8>)> {
         table[at] = byte;
         table
     };
-    let long = ["aaaaaaaaaaaa", "aaaaaaaaaaab", "aaaaaaaaaaac", "a", "b", "zzzzzzzzzzzz"];
+    let long =
+        ["aaaaaaaaaaaa", "aaaaaaaaaaab", "aaaaaaaaaaac", "a", "b", "zzzzzzzzzzzz", "azzzzzzzzzzz"];
+    let exchanged = ["closed", "second", "number", "function", "pair", "unit", "first"];
     // The second word is the first again, and the last has a capital letter: 33 of all words comes before 34 of any.
-    let twice_and_capital = table_of(&["leeg", "leeg", "rechts", "paar", "functie", "Gesloten"]);
+    let twice_and_capital =
+        table_of(&["leeg", "leeg", "rechts", "paar", "functie", "gesloten", "Getal"]);
     vec![
         ("words", table_of(&own)),
         ("words-of-12-letters", table_of(&long)),
-        ("words-exchanged", table_of(&["closed", "second", "first", "function", "pair", "unit"])),
+        ("words-exchanged", table_of(&exchanged)),
         ("words-empty", vec![]),
         ("words-short", table_of(&own)[..WORDS_BYTES - 1].to_vec()),
         ("words-longer", [table_of(&own), vec![0]].concat()),
-        ("words-of-seven", [table_of(&own), table_of(&["getal"])].concat()),
+        ("words-of-six", table_of(&own[..6])),
+        ("words-of-eight", [table_of(&own), table_of(&["lijst"])].concat()),
         ("words-capital", with(2, "Rechts")),
         ("words-hyphen", with(5, "ge-sloten")),
         ("words-past-z", with_byte(WORD_BYTES, b'z' + 1)),
@@ -103,6 +116,8 @@ fn tables_of_words() -> Vec<(&'static str, Vec<u8>)> {
         ("words-none", with(3, "")),
         ("words-after-zero", with_byte(4 * WORD_BYTES + 11, b'a')),
         ("words-twice", with(4, "links")),
+        ("words-twice-in-the-last", with(6, "gesloten")),
+        ("words-hyphen-in-the-last", with(6, "ge-tal")),
         ("words-twice-and-capital", twice_and_capital),
     ]
 }

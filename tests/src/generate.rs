@@ -328,11 +328,50 @@ fn random_form(rng: &mut Rng, left: Type, right: Type) -> Form {
 pub fn random_type(rng: &mut Rng, groups: &Groups, size: usize) -> Type {
     let marks = random_marks(rng, groups);
     if size == 1 {
-        return Type { marks, form: Form::Unit };
+        return Type { marks, form: if rng.one_in(3) { Form::Number } else { Form::Unit } };
     }
     let left = 1 + 2 * rng.below((size - 1) / 2);
     let (left, right) = (random_type(rng, groups, left), random_type(rng, groups, size - 1 - left));
     Type { marks, form: random_form(rng, left, right) }
+}
+
+/// A type that numbers are counted with: of a number, of what a comparison gives, or of a function of numbers.
+fn counting_type(rng: &mut Rng, groups: &Groups) -> Type {
+    let mut of = |form| Type { marks: random_marks(rng, groups), form };
+    let (number, other) = (of(Form::Number), of(Form::Number));
+    let units = (Rc::new(of(Form::Unit)), Rc::new(of(Form::Unit)));
+    let truth = of(Form::Sum(units.0, units.1));
+    let marks = random_marks(rng, groups);
+    let form = match rng.below(4) {
+        0 => Form::Number,
+        1 => truth.form,
+        2 => Form::Function(Rc::new(number), Rc::new(other)),
+        _ => Form::Function(Rc::new(number), Rc::new(truth)),
+    };
+    Type { marks, form }
+}
+
+/// A number, often one at which sums and comparisons turn.
+pub fn random_number(rng: &mut Rng) -> u16 {
+    match rng.below(5) {
+        0 => rng.below(3) as u16,
+        1 => u16::MAX - rng.below(3) as u16,
+        2 => 0x8000 - 1 + rng.below(3) as u16,
+        3 => rng.below(200) as u16,
+        _ => rng.word() as u16,
+    }
+}
+
+/// A number near this one, or any.
+pub fn number_near(rng: &mut Rng, number: u16) -> u16 {
+    match rng.below(5) {
+        0 => number,
+        1 => number.saturating_add(1),
+        2 => number.saturating_sub(1),
+        // The total is 65,535, or one more or less.
+        3 => (u16::MAX - number).wrapping_add(rng.below(3) as u16).wrapping_sub(1),
+        _ => random_number(rng),
+    }
 }
 
 /// A type of the same shape, a few of its groups changed, so that comparisons come out both ways.
@@ -341,6 +380,7 @@ pub fn random_variant(rng: &mut Rng, groups: &Groups, from: &Type) -> Type {
     let mut side = |of: &Rc<Type>| Rc::new(random_variant(rng, groups, of));
     let form = match &from.form {
         Form::Unit => Form::Unit,
+        Form::Number => Form::Number,
         Form::Sum(a, b) => Form::Sum(side(a), side(b)),
         Form::Pair(a, b) => Form::Pair(side(a), side(b)),
         Form::Function(a, b) => Form::Function(side(a), side(b)),
@@ -354,7 +394,7 @@ pub fn random_types(rng: &mut Rng, groups: &Groups, least: usize) -> Vec<u8> {
     let mut whole: Vec<Type> = Vec::new();
     let mut bytes = Vec::new();
     while bytes.len() < least * TYPE_BYTES {
-        let next = match rng.below(5) {
+        let next = match rng.below(6) {
             _ if whole.is_empty() => {
                 let size = 1 + 2 * rng.below(3);
                 random_type(rng, groups, size)
@@ -368,6 +408,7 @@ pub fn random_types(rng: &mut Rng, groups: &Groups, least: usize) -> Vec<u8> {
                 let from = rng.pick(&whole).clone();
                 random_variant(rng, groups, &from)
             }
+            3 => counting_type(rng, groups),
             _ => {
                 let (left, right) = (rng.pick(&whole).clone(), rng.pick(&whole).clone());
                 let marks = random_marks(rng, groups);
@@ -474,6 +515,24 @@ impl Maker<'_> {
         self.above(least)
     }
 
+    /// Two numbers that are read on the way to `wanted`, and who may read both.
+    fn numbers(&mut self, wanted: &Type, [left, right]: [usize; 2]) -> (Group, [Rc<Term>; 2]) {
+        let [first, second] = [(); 2].map(|_| self.opened(wanted));
+        let least = self.groups.join(first.r, second.r);
+        let r = self.reader(Marks { r: least, ..first }, wanted.marks);
+        let number = |marks| Type { marks, form: Form::Number };
+        let left = self.make(&number(first), left);
+        // Numbers that were drawn apart are seldom near each other.
+        let right = match *left {
+            Term::Literal(_, own) if self.rng.one_in(2) => {
+                let marks = self.lower(second);
+                Rc::new(Term::Literal(marks, number_near(self.rng, own)))
+            }
+            _ => self.make(&number(second), right),
+        };
+        (r, [left, right])
+    }
+
     /// An index of the table that fulfils a condition.
     fn index_where(&mut self, fits: impl Fn(&Groups, &Type) -> bool) -> Option<u16> {
         let fitting: Vec<u16> = (0..self.all.len())
@@ -524,6 +583,7 @@ impl Maker<'_> {
         let marks = self.lower(wanted.marks);
         match &wanted.form {
             Form::Unit => Term::Unit(marks),
+            Form::Number => Term::Literal(marks, random_number(self.rng)),
             Form::Sum(a, b) => {
                 let sum = self.index_where(|groups, s| match &s.form {
                     Form::Sum(c, d) => at_or_below(groups, c, a) && at_or_below(groups, d, b),
@@ -554,7 +614,7 @@ impl Maker<'_> {
         let fuel = fuel - 1;
         let part = self.rng.below(fuel + 1);
         let rest = fuel - part;
-        match self.rng.below(14) {
+        match self.rng.below(17) {
             // A variable, when little else would fit.
             0 if fuel < 8 => {
                 self.variable_where(|groups, s| at_or_below(groups, s, wanted)).map(|(v, _)| v)
@@ -672,8 +732,23 @@ impl Maker<'_> {
                 Some(Term::Recursion(self.caller(&own), index, body))
             }
 
+            // Where a number is wanted, a sum of two; where a sum of units is, a comparison.
+            14..=16 if wanted.form == Form::Number => {
+                let (r, [left, right]) = self.numbers(wanted, [part, rest]);
+                Some(Term::Addition(r, left, right))
+            }
+            14..=16 if is_sum_of_units(wanted) => {
+                let (a, b) = wanted.sides().expect("a sum has sides");
+                let sum = self.index_where(|groups, s| match &s.form {
+                    Form::Sum(c, d) => at_or_below(groups, c, a) && at_or_below(groups, d, b),
+                    _ => false,
+                })?;
+                let (r, [left, right]) = self.numbers(wanted, [part, rest]);
+                Some(Term::LessThan(r, sum, left, right))
+            }
+
             // The introduction form, unless it would end the script early.
-            _ if wanted.kind() != 0 => Some(self.value(wanted, fuel)),
+            _ if wanted.sides().is_some() => Some(self.value(wanted, fuel)),
             _ => None,
         }
     }
@@ -721,6 +796,11 @@ impl Maker<'_> {
     }
 }
 
+/// Can a comparison have this type?
+pub fn is_sum_of_units(s: &Type) -> bool {
+    matches!(&s.form, Form::Sum(a, b) if a.form == Form::Unit && b.form == Form::Unit)
+}
+
 /// Does what an object of type `s` adds leave room for `wanted`, if the right group takes it apart?
 fn opens_to(groups: &Groups, s: &Type, wanted: &Type) -> bool {
     groups.below(s.marks.ir, wanted.marks.ir) && groups.below(wanted.marks.c, s.marks.ic)
@@ -756,6 +836,12 @@ pub fn typed_script(rng: &mut Rng, tables: &Tables, fuel: usize) -> Rc<Term> {
     maker.make(&wanted, fuel)
 }
 
+/// A script at or below this type, which has no sides or is one of the table's with other groups.
+pub fn typed_at(rng: &mut Rng, tables: &Tables, wanted: &Type, fuel: usize) -> Rc<Term> {
+    assert!(fuel <= 200, "deeper than this a script may pass depth 256");
+    maker(rng, tables).make(wanted, fuel)
+}
+
 /// A recursion applied to an argument, the recursion's body a function that may call it.
 pub fn typed_recursion(rng: &mut Rng, tables: &Tables, fuel: usize) -> Option<Rc<Term>> {
     let mut maker = maker(rng, tables);
@@ -772,7 +858,8 @@ pub fn typed_recursion(rng: &mut Rng, tables: &Tables, fuel: usize) -> Option<Rc
 }
 
 /// A case that finds its type, taken apart by the highest group where that is of use: a sum by a case
-/// that finds its type again, a pair by a projection, a function by giving it a unit.
+/// that finds its type again, a pair by a projection, a function by giving it a unit or a number, a number by
+/// adding one.
 pub fn typed_choice(rng: &mut Rng, tables: &Tables, fuel: usize) -> Option<Rc<Term>> {
     let mut maker = maker(rng, tables);
     let index = maker.rng.below(maker.all.len());
@@ -784,20 +871,69 @@ pub fn typed_choice(rng: &mut Rng, tables: &Tables, fuel: usize) -> Option<Rc<Te
         Form::Sum(a, b) if same_shape(a, b) => Term::Case(top, OWN_TYPE, choice, x(), x()),
         Form::Sum(..) => Term::Case(top, OWN_TYPE, choice, unit(), unit()),
         Form::Pair(..) => Term::Projection(Side::Second, top, choice),
-        Form::Function(a, _) if a.kind() == 0 => {
-            let given = Term::Unit(lowest_marks(&tables.groups));
+        Form::Function(a, _) if a.sides().is_none() => {
+            let lowest = lowest_marks(&tables.groups);
+            let given =
+                if a.kind() == 0 { Term::Unit(lowest) } else { Term::Literal(lowest, u16::MAX) };
             Term::Application(top, choice, Rc::new(given))
+        }
+        Form::Number => {
+            let one = Term::Literal(lowest_marks(&tables.groups), 1);
+            Term::Addition(top, choice, Rc::new(one))
         }
         Form::Unit | Form::Function(..) => return Some(choice),
     };
     Some(Rc::new(opened))
 }
 
+/// A recursion that counts: (μf : s. λx. case x < limit of f (x + pace) | x) start, every group in it just what
+/// is asked. Its result is read by whom its parameter is, so the table must have such a function.
+pub fn typed_count(rng: &mut Rng, tables: &Tables, rounds: u16) -> Option<Rc<Term>> {
+    let mut maker = maker(rng, tables);
+    let sum = maker.index_where(|_, s| is_sum_of_units(s))?;
+    // What is counted on is at or below the parameter, and what is given in the end below the result.
+    let counts = |groups: &Groups, s: &Type| match &s.form {
+        Form::Function(a, b) if a.form == Form::Number && b.form == Form::Number => {
+            let counted = Marks { r: a.marks.ir, ir: a.marks.ir, c: a.marks.ic, ic: a.marks.ic };
+            let within = at_or_below(groups, a, b)
+                && groups.below(a.marks.ir, b.marks.ir)
+                && groups.below(b.marks.c, a.marks.ic);
+            let again = Type { marks: counted, form: Form::Number };
+            recurs(groups, s) && within && at_or_below(groups, &again, a)
+        }
+        _ => false,
+    };
+    let index = maker.index_where(counts)?;
+    let own = maker.all[index as usize].clone();
+    let (parameter, result) = own.sides().expect("a function has sides");
+    let top = highest(maker.groups);
+    let lowest = lowest_marks(maker.groups);
+    let pace = maker.rng.between(1, 3000) as u16;
+    let limit = random_number(maker.rng);
+    // The last round mostly passes the limit, and sometimes 65,535.
+    let past = maker.rng.below(pace.into()) as u16;
+    let start = limit.saturating_sub(rounds.saturating_mul(pace).saturating_sub(past));
+    let literal = |number| Rc::new(Term::Literal(lowest, number));
+    let variable = |number| Rc::new(Term::Variable(number));
+    // Under the binder of a branch x is 1 and f is 2.
+    let more = Term::Addition(top, variable(1), literal(pace));
+    let again = Term::Application(top, variable(2), Rc::new(more));
+    let test = Term::LessThan(top, sum, variable(0), literal(limit));
+    let given = maker.index_where(|_, s| s == &**result).expect("the result stands in the table");
+    let number = if maker.rng.one_in(2) { OWN_TYPE } else { given };
+    let case = Term::Case(top, number, Rc::new(test), Rc::new(again), variable(1));
+    let body = Term::Function(own.marks, index + 1, Rc::new(case));
+    let recursion = Term::Recursion(maker.caller(&own), index, Rc::new(body));
+    let given = Rc::new(Term::Literal(maker.lower(parameter.marks), start));
+    Some(Rc::new(Term::Application(top, Rc::new(recursion), given)))
+}
+
 /// A well-typed script of any of these forms.
 pub fn some_typed(rng: &mut Rng, tables: &Tables, fuel: usize) -> Rc<Term> {
-    let special = match rng.below(6) {
+    let special = match rng.below(7) {
         0 | 1 => typed_recursion(rng, tables, fuel),
         2 => typed_choice(rng, tables, fuel),
+        3 if fuel > 10 => typed_count(rng, tables, (fuel / 10) as u16),
         _ => None,
     };
     special.unwrap_or_else(|| typed_script(rng, tables, fuel))
@@ -867,6 +1003,9 @@ fn untyped(rng: &mut Rng, tables: &Tables, binders: usize, fuel: usize) -> Rc<Te
     let leaf = |rng: &mut Rng| {
         if binders > 0 && !rng.one_in(3) {
             Term::Variable(rng.below(binders) as u16)
+        } else if rng.one_in(3) {
+            let marks = random_marks(rng, &tables.groups);
+            Term::Literal(marks, random_number(rng))
         } else {
             Term::Unit(random_marks(rng, &tables.groups))
         }
@@ -885,8 +1024,11 @@ fn untyped(rng: &mut Rng, tables: &Tables, binders: usize, fuel: usize) -> Rc<Te
     let any_type = rng.below(tables.types.count()) as u16;
     let own_type = rng.one_in(2);
     let (sums, functions) = (indexes_of_kind(tables, 1), indexes_of_kind(tables, 3));
+    let of_units: Vec<u16> =
+        sums.iter().copied().filter(|&sum| is_sum_of_units(&tables.types.at(sum.into()))).collect();
+    let number = random_number(rng);
     let side = if rng.one_in(2) { Side::First } else { Side::Second };
-    let form = rng.below(14);
+    let form = rng.below(18);
     let mut sub = |more: usize, fuel: usize| untyped(rng, tables, binders + more, fuel);
     let term = match form {
         1 | 2 => Term::Function(marks, any_type, sub(1, fuel)),
@@ -917,6 +1059,17 @@ fn untyped(rng: &mut Rng, tables: &Tables, binders: usize, fuel: usize) -> Rc<Te
             let body = sub(1, fuel);
             Term::Recursion(any_caller(rng, tables, function), function, body)
         }
+        14 => Term::Addition(node, sub(0, part), sub(0, rest)),
+        // One operand at least is a number.
+        15 => Term::Addition(node, sub(0, fuel), Rc::new(Term::Literal(marks, number))),
+        16 if !of_units.is_empty() => {
+            let sum = of_units[rest % of_units.len()];
+            Term::LessThan(node, sum, sub(0, part), sub(0, rest))
+        }
+        17 if !of_units.is_empty() => {
+            let sum = of_units[rest % of_units.len()];
+            Term::LessThan(node, sum, Rc::new(Term::Literal(marks, number)), sub(0, fuel))
+        }
         _ => leaf(rng),
     };
     Rc::new(term)
@@ -944,7 +1097,7 @@ pub fn deep_script(rng: &mut Rng, tables: &Tables, depth: usize) -> Rc<Term> {
 /// A term with this one as an operand, mostly where it is stepped.
 fn level_around(rng: &mut Rng, tables: &Tables, term: Rc<Term>) -> Term {
     let result = if rng.one_in(3) { 0 } else { OWN_TYPE };
-    match rng.below(9) {
+    match rng.below(10) {
         0 => Term::Pair(LOW, term, unit()),
         1 => Term::Pair(LOW, unit(), term),
         2 => Term::Projection(Side::First, 0, term),
@@ -955,6 +1108,8 @@ fn level_around(rng: &mut Rng, tables: &Tables, term: Rc<Term>) -> Term {
         4..=6 => Term::Case(0, result, term, unit(), unit()),
         7 if rng.one_in(20) => Term::Case(0, result, unit(), term, unit()),
         7 if rng.one_in(20) => Term::Case(0, result, unit(), unit(), term),
+        8 if rng.one_in(2) => Term::Addition(0, term, unit()),
+        8 => Term::Addition(0, unit(), term),
         _ => Term::Protect(LOW_RAISE, term),
     }
 }
@@ -963,7 +1118,9 @@ fn level_around(rng: &mut Rng, tables: &Tables, term: Rc<Term>) -> Term {
 pub fn untyped_value(rng: &mut Rng, tables: &Tables, fuel: usize) -> Rc<Term> {
     let marks = random_marks(rng, &tables.groups);
     if fuel == 0 {
-        return Rc::new(Term::Unit(marks));
+        let number = random_number(rng);
+        let literal = rng.one_in(2);
+        return Rc::new(if literal { Term::Literal(marks, number) } else { Term::Unit(marks) });
     }
     let part = rng.below(fuel);
     let sums = indexes_of_kind(tables, 1);
@@ -985,12 +1142,12 @@ pub fn untyped_value(rng: &mut Rng, tables: &Tables, fuel: usize) -> Rc<Term> {
     Rc::new(term)
 }
 
-/// Where a record starts: any one, or one of the recursions' or of the cases' that find their type,
-/// which are rare.
+/// Where a record starts: any one, or one of the recursions', of the cases' that find their type or of those
+/// that read numbers, which are rare.
 fn some_record(rng: &mut Rng, script: &[u8]) -> usize {
     let rare = |at: &usize| {
         let record = Record::read(&script[*at..at + SCRIPT_BYTES]);
-        record.kind == 11 || record.finds_own_type()
+        matches!(record.kind, 11 | 13 | 14) || record.finds_own_type()
     };
     let starts = (0..script.len()).step_by(SCRIPT_BYTES);
     let rare: Vec<usize> = starts.filter(rare).collect();
@@ -1046,7 +1203,7 @@ pub fn near_miss(rng: &mut Rng, tables: &Tables, script: &[u8]) -> Vec<u8> {
             let count = *OPERANDS.get(record.kind as usize).unwrap_or(&3);
             let kinds = 0..OPERANDS.len() as u8;
             let same: Vec<u8> = kinds.filter(|&kind| operand_count(kind) == count).collect();
-            record.kind = if rng.one_in(4) { rng.below(13) as u8 } else { *rng.pick(&same) };
+            record.kind = if rng.one_in(4) { rng.below(16) as u8 } else { *rng.pick(&same) };
             if !rng.one_in(4) {
                 clear_unnamed(&mut record);
             }
@@ -1060,10 +1217,14 @@ pub fn near_miss(rng: &mut Rng, tables: &Tables, script: &[u8]) -> Vec<u8> {
 }
 
 /// The types table with the groups of one record changed, mostly with ir ⊑ r and ic ⊑ c still; else a
-/// single group, which may be outside the table.
+/// single group, which may be outside the table, or a unit made a number or a number a unit.
 pub fn near_miss_types(rng: &mut Rng, world: &World) -> Vec<u8> {
     let mut bytes = world.types.clone();
     let at = rng.below(bytes.len() / TYPE_BYTES) * TYPE_BYTES;
+    if matches!(bytes[at], 0 | 4) && rng.one_in(3) {
+        bytes[at] = 4 - bytes[at];
+        return bytes;
+    }
     if rng.one_in(5) {
         bytes[at + rng.pick(&[1, 2, 4, 5])] = rng.below(world.tables.groups.count() + 1) as Group;
         return bytes;
@@ -1210,7 +1371,8 @@ pub fn words_table(rng: &mut Rng) -> Vec<u8> {
     match rng.below(8) {
         0 => table[at] = *rng.pick(&[0, b'a' - 1, b'a', b'z', b'z' + 1, b'A', 255]),
         1 => {
-            let (from, to) = (rng.below(6) * WORD_BYTES, rng.below(6) * WORD_BYTES);
+            let word = |rng: &mut Rng| rng.below(WORDS_BYTES / WORD_BYTES) * WORD_BYTES;
+            let (from, to) = (word(rng), word(rng));
             table.copy_within(from..from + WORD_BYTES, to);
         }
         2 => table.truncate(at),

@@ -25,17 +25,17 @@ pub const MOST_DEPTH: usize = 256;
 /// Document 02, item 3: the number of a case that finds its own type. No types table has so many.
 pub const OWN_TYPE: u16 = 65_535;
 
-/// Sheet: "4-byte records".
-pub const SHEET_BYTES: usize = 4;
+/// Document 02, item 13: "Sheet records grow to 6 bytes".
+pub const SHEET_BYTES: usize = 6;
 
 /// Question 1, answer buffer: one type of the largest size, 378 bytes.
 pub const ANSWER_BYTES: usize = MOST_TYPE_RECORDS * TYPE_BYTES;
 /// Question 1, work buffer: one such type for each depth, 96,768 bytes.
 pub const WORK_BYTES: usize = MOST_DEPTH * ANSWER_BYTES;
 
-/// Document 02, item 7: "six records of 12 bytes", 72 in all.
+/// Document 02, item 7: "records of 12 bytes"; item 13: "a studio's table has seven words", 84 in all.
 pub const WORD_BYTES: usize = 12;
-pub const WORDS_BYTES: usize = 6 * WORD_BYTES;
+pub const WORDS_BYTES: usize = 7 * WORD_BYTES;
 
 /// Report program: two run buffers of 65,536 bytes.
 pub const REPORT_RUN_BYTES: usize = MOST_SCRIPT_RECORDS * SCRIPT_BYTES;

@@ -6,6 +6,7 @@ use crate::limits::{
     WORK_BYTES,
 };
 use crate::refusal::Answer;
+use crate::sheet::NUMBER;
 use crate::steps::End;
 use crate::words::{read_words, OURS};
 
@@ -43,7 +44,12 @@ fn lines(
         let mut seen = vec![0; REPORT_SHEET_BYTES];
         let count = sheet(groups, types, value, 0, &mut seen)?;
         for record in seen.chunks(SHEET_BYTES).take(count as usize) {
-            *text += &format!("{} {} {}\n", words[record[0] as usize], record[1], record[2]);
+            *text += &format!("{} {} {}", words[record[0] as usize], record[1], record[2]);
+            // The number is "printed after ir", "unprinted for all but a shown literal".
+            if record[0] == NUMBER {
+                *text += &format!(" {}", u16::from_le_bytes([record[4], record[5]]));
+            }
+            *text += "\n";
         }
     }
     Ok(())

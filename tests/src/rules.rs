@@ -78,6 +78,16 @@ impl Security<'_> {
         Raise { ir: object.ir, ic }
     }
 
+    /// Document 02, item 13: "the result starts with r and ir 0 and the node's own group as c and ic, then
+    /// is raised by the left operand's ir and ic ⊓ that group, then by the right's". The rules of document
+    /// 01 have no numbers; without creators nothing but the readers is left of it.
+    pub fn counted(self, left: Marks, right: Marks, node: Group) -> Marks {
+        let made = if self.reads_creators() { node } else { 0 };
+        let fresh = Marks { r: 0, ir: 0, c: made, ic: made };
+        let once = self.raised(fresh, self.read_by(left, node));
+        self.raised(once, self.read_by(right, node))
+    }
+
     /// Question 23, of the groups of a recursion's type and of its result: "A recursion of type
     /// (s1 → s2, (r, ir)) needs ir ⊑ the indirect readers of s2"; "also needs c of its result ⊑ ic ⊓ the
     /// group written in it".

@@ -33,6 +33,12 @@ pub enum Term {
     Protect(Raise, Rc<Term>),
     /// Who its calls are made as, function type, body.
     Recursion(Group, u16, Rc<Term>),
+    /// Its number.
+    Literal(Marks, u16),
+    /// "sum of two": a sum type is another thing.
+    Addition(Group, Rc<Term>, Rc<Term>),
+    /// Sum type; "first less than second".
+    LessThan(Group, u16, Rc<Term>, Rc<Term>),
 }
 
 /// One record, as read.
@@ -77,27 +83,28 @@ impl Record {
     }
 }
 
-/// The table's column "operands", by kind.
-pub const OPERANDS: [usize; 12] = [0, 0, 1, 2, 1, 1, 2, 1, 1, 3, 1, 1];
+/// The table's column "operands", by kind; the last three by document 02, item 13.
+pub const OPERANDS: [usize; 15] = [0, 0, 1, 2, 1, 1, 2, 1, 1, 3, 1, 1, 0, 2, 2];
 
 /// The operands of a kind that passes question 14.
 pub fn operand_count(kind: u8) -> usize {
     OPERANDS[kind as usize]
 }
 
-/// The table's column "fields": r; of a recursion, by document 02, item 6.
+/// The table's column "fields": r; of a recursion, by document 02, item 6. By item 13 a literal has "its
+/// groups", 13 and 14 "carry the node's group".
 pub fn names_r(kind: u8) -> bool {
-    matches!(kind, 1..=9 | 11)
+    matches!(kind, 1..=9 | 11..=14)
 }
 
 /// The table's column "fields": ir.
 pub fn names_ir(kind: u8) -> bool {
-    matches!(kind, 1..=5 | 10)
+    is_object(kind) || kind == 10
 }
 
-/// Document 02, item 10: "Kinds 1 to 5 use both".
+/// Document 02, item 10: "Kinds 1 to 5 use both", and a literal.
 pub fn names_c(kind: u8) -> bool {
-    matches!(kind, 1..=5)
+    is_object(kind)
 }
 
 /// "protect uses ic", besides.
@@ -107,12 +114,17 @@ pub fn names_ic(kind: u8) -> bool {
 
 /// The table's column "fields": a parameter, sum, result or function type.
 pub fn names_type(kind: u8) -> bool {
-    matches!(kind, 2 | 4 | 5 | 9 | 11)
+    matches!(kind, 2 | 4 | 5 | 9 | 11 | 14)
 }
 
-/// The 16-bit number holds a type's index or a variable's count.
+/// The 16-bit number holds a type's index, a variable's count or a literal's own.
 pub fn names_number(kind: u8) -> bool {
-    kind == 0 || names_type(kind)
+    matches!(kind, 0 | 12) || names_type(kind)
+}
+
+/// The kinds that have all four groups, ordered: "15 and 36 take a literal like kind 1".
+pub fn is_object(kind: u8) -> bool {
+    matches!(kind, 1..=5 | 12)
 }
 
 impl Term {
@@ -120,9 +132,12 @@ impl Term {
     /// their operand, a case one in each branch (operands 2 and 3)."
     pub fn operands(&self) -> Vec<(&Rc<Term>, usize)> {
         match self {
-            Term::Variable(_) | Term::Unit(_) => vec![],
+            Term::Variable(_) | Term::Unit(_) | Term::Literal(..) => vec![],
             Term::Function(_, _, body) | Term::Recursion(_, _, body) => vec![(body, 1)],
-            Term::Pair(_, a, b) | Term::Application(_, a, b) => vec![(a, 0), (b, 0)],
+            Term::Pair(_, a, b)
+            | Term::Application(_, a, b)
+            | Term::Addition(_, a, b)
+            | Term::LessThan(_, _, a, b) => vec![(a, 0), (b, 0)],
             Term::Injection(_, _, _, a) | Term::Projection(_, _, a) | Term::Protect(_, a) => {
                 vec![(a, 0)]
             }
@@ -150,6 +165,9 @@ impl Term {
             Term::Case(r, number, ..) => Record { kind: 9, r, number, ..none },
             Term::Protect(Raise { ir, ic }, _) => Record { kind: 10, ir, ic, ..none },
             Term::Recursion(r, number, _) => Record { kind: 11, r, number, ..none },
+            Term::Literal(marks, number) => object(12, marks, number),
+            Term::Addition(r, _, _) => Record { kind: 13, r, ..none },
+            Term::LessThan(r, number, _, _) => Record { kind: 14, r, number, ..none },
         }
     }
 
@@ -173,7 +191,10 @@ impl Term {
             9 => Term::Case(r, number, next(), next(), next()),
             10 => Term::Protect(Raise { ir, ic }, next()),
             11 => Term::Recursion(r, number, next()),
-            _ => panic!("question 14: kind at most 11"),
+            12 => Term::Literal(marks, number),
+            13 => Term::Addition(r, next(), next()),
+            14 => Term::LessThan(r, number, next(), next()),
+            _ => panic!("question 14: kind at most 14"),
         }
     }
 
@@ -219,10 +240,10 @@ fn whole_records(bytes: &[u8], buffers: &[usize]) -> Answer<Vec<Record>> {
     Ok(bytes.chunks(SCRIPT_BYTES).map(Record::read).collect())
 }
 
-/// Question 14. Kind at most 11, unnamed fields 0?
+/// Question 14. Kind at most 11, unnamed fields 0? Kinds 12 to 14 pass by item 13.
 fn fields(records: &[Record]) -> Answer<()> {
     for (index, record) in records.iter().enumerate() {
-        let clean = record.kind <= 11
+        let clean = record.kind <= 14
             && record.zero == 0
             && (names_r(record.kind) || record.r == 0)
             && (names_ir(record.kind) || record.ir == 0)
@@ -234,13 +255,8 @@ fn fields(records: &[Record]) -> Answer<()> {
     Ok(())
 }
 
-/// The kinds that have all four groups, ordered.
-fn is_object(kind: u8) -> bool {
-    (1..=5).contains(&kind)
-}
-
 /// Question 15. Named groups in table, and for kinds 1 to 5 ir ⊑ r? Then 36, "for kinds 1 to 5, after 15
-/// when ic ⊑ c fails at that record".
+/// when ic ⊑ c fails at that record". Both of a literal too.
 fn named_groups(tables: &Tables, records: &[Record]) -> Answer<()> {
     let groups = &tables.groups;
     for (index, record) in records.iter().enumerate() {
@@ -257,7 +273,8 @@ fn named_groups(tables: &Tables, records: &[Record]) -> Answer<()> {
     Ok(())
 }
 
-/// Question 16. Does a named type exist, a sum for 4 and 5, a function for 11? 65,535 of a case passes.
+/// Question 16. Does a named type exist, a sum for 4 and 5, a function for 11, "a sum of two units" for
+/// 14? 65,535 of a case passes.
 fn named_types(tables: &Tables, records: &[Record]) -> Answer<()> {
     for (index, record) in records.iter().enumerate() {
         if !names_type(record.kind) || record.finds_own_type() {
@@ -268,6 +285,7 @@ fn named_types(tables: &Tables, records: &[Record]) -> Answer<()> {
         let fitting = match record.kind {
             4 | 5 => matches!(form, Form::Sum(..)),
             11 => matches!(form, Form::Function(..)),
+            14 => matches!(form, Form::Sum(a, b) if a.form == Form::Unit && b.form == Form::Unit),
             _ => true,
         };
         ask(fitting, 16, index)?;

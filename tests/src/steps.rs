@@ -17,10 +17,10 @@ pub enum End {
     TooBig = 4,
 }
 
-/// "Values: units, functions, and pairs and injections of values."
+/// "Values: units, functions, and pairs and injections of values." Document 02, item 13: "literal, a value".
 pub fn is_value(term: &Term) -> bool {
     match term {
-        Term::Unit(_) | Term::Function(..) => true,
+        Term::Unit(_) | Term::Function(..) | Term::Literal(..) => true,
         Term::Pair(_, a, b) => is_value(a) && is_value(b),
         Term::Injection(_, _, _, a) => is_value(a),
         _ => false,
@@ -53,6 +53,7 @@ fn raise_value(tables: &Tables, value: &Term, by: Raise) -> Term {
         Term::Injection(side, marks, sum, a) => {
             Term::Injection(*side, raised(*marks), *sum, a.clone())
         }
+        Term::Literal(marks, number) => Term::Literal(raised(*marks), *number),
         _ => panic!("only a value is raised"),
     }
 }
@@ -91,7 +92,7 @@ fn reduce(tables: &Tables, term: &Rc<Term>) -> Move {
     match &**term {
         Term::Variable(_) => panic!("question 19: no free variable is reached"),
 
-        Term::Unit(_) | Term::Function(..) => Move::Stay(End::Value),
+        Term::Unit(_) | Term::Function(..) | Term::Literal(..) => Move::Stay(End::Value),
 
         Term::Pair(marks, a, b) => {
             if !is_value(a) {
@@ -166,7 +167,58 @@ fn reduce(tables: &Tables, term: &Rc<Term>) -> Move {
             let own = unrolled(tables, *written, *function, term);
             Move::To(substitute(body, &Rc::new(own), 0))
         }
+
+        // "a total over 65,535 being 65,535"
+        Term::Addition(r, left, right) => count(
+            tables,
+            *r,
+            [left, right],
+            |left, right| Term::Addition(*r, left, right),
+            |marks, first, second| Term::Literal(marks, first.saturating_add(second)),
+        ),
+
+        // "Less than gives the first injection, otherwise the second, of a unit with that side's groups."
+        Term::LessThan(r, sum, left, right) => count(
+            tables,
+            *r,
+            [left, right],
+            |left, right| Term::LessThan(*r, *sum, left, right),
+            |marks, first, second| {
+                let own = tables.types.at((*sum).into());
+                let (a, b) = own.sides().expect("question 16: a sum for 14");
+                let (side, unit) =
+                    if first < second { (Side::First, a) } else { (Side::Second, b) };
+                Term::Injection(side, marks, *sum, Rc::new(Term::Unit(unit.marks)))
+            },
+        ),
     }
+}
+
+/// Document 02, item 13: what reads two numbers, which "evaluate left first, and read both operands in one
+/// step". There is no protect: what is made has its groups at once.
+fn count(
+    tables: &Tables,
+    node: Group,
+    [left, right]: [&Rc<Term>; 2],
+    around: impl FnOnce(Rc<Term>, Rc<Term>) -> Term,
+    result: impl FnOnce(Marks, u16, u16) -> Term,
+) -> Move {
+    if !is_value(left) {
+        return inside(left, tables, |next| around(next, right.clone()));
+    }
+    if !is_value(right) {
+        return inside(right, tables, |next| around(left.clone(), next));
+    }
+    // Both kinds, then both readers.
+    let (Term::Literal(one, first), Term::Literal(other, second)) = (&**left, &**right) else {
+        return Move::Stay(End::WrongKind);
+    };
+    let may = |object: &Marks| tables.groups.below(object.r, node);
+    if !(may(one) && may(other)) {
+        return Move::Stay(End::MayNot);
+    }
+    let marks = tables.security().counted(*one, *other, node);
+    Move::To(Rc::new(result(marks, *first, *second)))
 }
 
 /// (λx : s1. ((μf : s. e) x)_g)_κ for s = (s1 → s2, κ), κ all its groups, where g is "the unrolled

@@ -33,13 +33,19 @@ pub struct Type {
 }
 
 /// "Kinds: 0 unit, 1 sum, 2 pair, 3 function; all but unit are followed by their left and then
-/// their right type."
+/// their right type." Document 02, item 13: "type kind 4, without sides".
 #[derive(Debug, Clone, PartialEq, Eq)]
 pub enum Form {
     Unit,
     Sum(Rc<Type>, Rc<Type>),
     Pair(Rc<Type>, Rc<Type>),
     Function(Rc<Type>, Rc<Type>),
+    Number,
+}
+
+/// Is a type of this kind followed by its left and its right type?
+pub fn has_sides(kind: u8) -> bool {
+    matches!(kind, 1..=3)
 }
 
 impl Type {
@@ -50,13 +56,14 @@ impl Type {
             Form::Sum(..) => 1,
             Form::Pair(..) => 2,
             Form::Function(..) => 3,
+            Form::Number => 4,
         }
     }
 
-    /// Left and right type, of all but unit.
+    /// Left and right type, of all but units and numbers.
     pub fn sides(&self) -> Option<(&Rc<Type>, &Rc<Type>)> {
         match &self.form {
-            Form::Unit => None,
+            Form::Unit | Form::Number => None,
             Form::Sum(a, b) | Form::Pair(a, b) | Form::Function(a, b) => Some((a, b)),
         }
     }
@@ -83,7 +90,7 @@ impl Type {
 pub fn at_or_below<'a>(security: impl Into<Security<'a>>, s: &Type, t: &Type) -> bool {
     let security = security.into();
     let sides = match (&s.form, &t.form) {
-        (Form::Unit, Form::Unit) => true,
+        (Form::Unit, Form::Unit) | (Form::Number, Form::Number) => true,
         (Form::Sum(a, b), Form::Sum(c, d)) | (Form::Pair(a, b), Form::Pair(c, d)) => {
             at_or_below(security, a, c) && at_or_below(security, b, d)
         }
@@ -152,6 +159,7 @@ pub fn common<'a>(
     let side = |bound, a: &Type, b: &Type| common(bound, security, a, b).map(Rc::new);
     let form = match (&s.form, &t.form) {
         (Form::Unit, Form::Unit) => Form::Unit,
+        (Form::Number, Form::Number) => Form::Number,
         (Form::Sum(a, b), Form::Sum(c, d)) => Form::Sum(side(bound, a, c)?, side(bound, b, d)?),
         (Form::Pair(a, b), Form::Pair(c, d)) => Form::Pair(side(bound, a, c)?, side(bound, b, d)?),
         (Form::Function(a, b), Form::Function(c, d)) => {
@@ -194,8 +202,9 @@ impl Types {
 fn parse(records: &[[u8; TYPE_BYTES]], index: usize) -> (Type, usize) {
     let [kind, r, ir, _, c, ic] = records[index];
     let marks = Marks { r, ir, c, ic };
-    if kind == 0 {
-        return (Type { marks, form: Form::Unit }, index + 1);
+    if !has_sides(kind) {
+        let form = if kind == 0 { Form::Unit } else { Form::Number };
+        return (Type { marks, form }, index + 1);
     }
     let (left, middle) = parse(records, index + 1);
     let (right, end) = parse(records, middle);
@@ -204,7 +213,7 @@ fn parse(records: &[[u8; TYPE_BYTES]], index: usize) -> (Type, usize) {
         1 => Form::Sum(left, right),
         2 => Form::Pair(left, right),
         3 => Form::Function(left, right),
-        _ => panic!("question 9: kind at most 3"),
+        _ => panic!("these kinds alone have sides"),
     };
     (Type { marks, form }, end)
 }
@@ -227,7 +236,7 @@ fn end_of_type(records: &[[u8; TYPE_BYTES]], start: usize) -> Option<usize> {
     let mut at = start;
     while wanted > 0 {
         let kind = records.get(at)?[0];
-        wanted = wanted - 1 + if kind == 0 { 0 } else { 2 };
+        wanted = wanted - 1 + if has_sides(kind) { 2 } else { 0 };
         at += 1;
     }
     Some(at)
@@ -244,10 +253,10 @@ pub fn read_types(groups: &Groups, bytes: &[u8]) -> Answer<Types> {
 pub fn read_type_records(groups: &Groups, bytes: &[u8]) -> Answer<Types> {
     let records = records_of(bytes);
 
-    // 9. Kind at most 3, byte 3 (counted from 0) equal to 0, groups in table?
+    // 9. Kind at most 3, byte 3 (counted from 0) equal to 0, groups in table? And kind 4 by item 13.
     for (index, &[kind, r, ir, zero, c, ic]) in records.iter().enumerate() {
         let in_table = [r, ir, c, ic].iter().all(|&group| groups.has(group.into()));
-        ask(kind <= 3 && zero == 0 && in_table, 9, index)?;
+        ask(kind <= 4 && zero == 0 && in_table, 9, index)?;
     }
     // 10. ir ⊑ r?
     for (index, &[_, r, ir, ..]) in records.iter().enumerate() {

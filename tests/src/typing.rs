@@ -2,7 +2,7 @@
 //!
 //! "Typing goes operands first, left to right; 20, 21 and 22 come as soon as the operand concerned
 //! has its type, 23 before the body, 24 last. The place is the node." A recursion has its type
-//! written, so its 21 comes at once.
+//! written, so its 21 comes at once. What reads two numbers is asked 20 and 21 of each.
 
 use std::rc::Rc;
 
@@ -119,7 +119,41 @@ fn find(tables: &Tables, context: &mut Vec<Type>, term: &Term, place: usize) -> 
             wanted_type(security, &found, &own, place)?;
             Ok(own)
         }
+
+        // Document 02, item 13.
+        Term::Literal(marks, _) => Ok(Type { marks: *marks, form: Form::Number }),
+
+        Term::Addition(r, left, right) => {
+            let marks = find_counted(tables, context, *r, [left, right], place)?;
+            Ok(Type { marks, form: Form::Number })
+        }
+
+        // The sum's own groups aren't read, as at an injection.
+        Term::LessThan(r, sum, left, right) => {
+            let marks = find_counted(tables, context, *r, [left, right], place)?;
+            Ok(Type { marks, form: tables.types.at((*sum).into()).form })
+        }
     }
+}
+
+/// The groups of what a node of this group makes of two numbers: "20 and 21 are put to each operand", as
+/// soon as it has its type.
+fn find_counted(
+    tables: &Tables,
+    context: &mut Vec<Type>,
+    r: Group,
+    [left, right]: [&Term; 2],
+    place: usize,
+) -> Answer<Marks> {
+    let mut number = |operand: &Term, at: usize| {
+        let found = find(tables, context, operand, at)?;
+        ask(found.form == Form::Number, 20, place)?;
+        readable(&tables.groups, found.marks, r, place)?;
+        Ok(found.marks)
+    };
+    let first = number(left, place + 1)?;
+    let second = number(right, place + 1 + left.size())?;
+    Ok(tables.security().counted(first, second, r))
 }
 
 /// The type of a term under one more binder.

@@ -3,8 +3,8 @@
 use crate::limits::{WORDS_BYTES, WORD_BYTES};
 use crate::refusal::{ask, Answer};
 
-/// "whose words are unit, first, second, pair, function, closed".
-pub const OURS: [&str; 6] = ["unit", "first", "second", "pair", "function", "closed"];
+/// "whose words are unit, first, second, pair, function, closed", and `number`, by their kinds.
+pub const OURS: [&str; 7] = ["unit", "first", "second", "pair", "function", "closed", "number"];
 
 /// "each 1 to 12 letters a to z, then zero bytes"
 fn letters(record: &[u8]) -> Option<&str> {
@@ -18,7 +18,7 @@ fn letters(record: &[u8]) -> Option<&str> {
 
 /// The words of a table: 32, then 33 of all words, then 34.
 pub fn read_words(table: &[u8]) -> Answer<Vec<String>> {
-    // "Place 0 goes with 32 when the length isn't 72,"
+    // "Place 0 goes with 32 when the length isn't 72,": now "a length other than 84"
     ask(table.len() == WORDS_BYTES, 32, 0)?;
     // "and the record's index with 33 for a badly formed word"
     let mut words = Vec::new();

@@ -64,10 +64,10 @@ fn case_b_sheets() {
     let inputs = Inputs { script: value, ..cases::b() };
     let (answer, sheet) = sheet_in(&inputs, 0, 7);
     assert_eq!(answer, Ok(1));
-    assert_eq!(sheet, [&[5, 0, 0, 0], &filled(7)[4..]].concat());
-    let (answer, sheet) = sheet_in(&inputs, 1, 8);
+    assert_eq!(sheet, [&[5, 0, 0, 0, 0, 0], &filled(7)[6..]].concat());
+    let (answer, sheet) = sheet_in(&inputs, 1, 12);
     assert_eq!(answer, Ok(2));
-    assert_eq!(sheet, [1, 1, 1, 0, 0, 0, 0, 0]);
+    assert_eq!(sheet, [1, 1, 1, 0, 0, 0, 0, 0, 0, 0, 0, 0]);
 }
 
 #[test]
@@ -249,6 +249,37 @@ fn a_page_with_creators() {
 }
 
 #[test]
+fn a_page_with_numbers() {
+    let inputs = cases::numbers();
+    let number = type_record(4, 1, 1);
+    let sides = [made(type_record(0, 1, 0), 2, 0), made(UNIT_TYPE, 3, 3)];
+    let sum = made(type_record(1, 0, 0), 1, 1);
+    check_finds(&inputs, &[type_record(2, 0, 0), number, sum, sides[0], sides[1]].concat());
+    let value = [
+        record(3, 0, 0, 0),
+        record(12, 1, 1, 42),
+        made(record(5, 0, 0, 0), 1, 1),
+        made(record(1, 0, 0, 0), 3, 3),
+    ]
+    .concat();
+    run_reports(&inputs, 1000, 0, 3, 4, Some(&value));
+    let shown = "pair 0 0\nclosed 0 0\nsecond 0 0\nunit 0 0\n";
+    assert_eq!(report_of(&inputs), format!("accepted 5\nend 0 steps 3 records 4\n{shown}"));
+    let shown = "pair 0 0\nnumber 0 0 10\npair 0 0\nnumber 0 0 0\nnumber 0 0 65535\n";
+    let totals = format!("accepted 5\nend 0 steps 5 records 5\n{shown}");
+    assert_eq!(report_of(&cases::totals()), totals);
+    for (place, changed, refused) in [
+        (3, record(1, 0, 0, 0), "refused 20 at 1\n"),
+        (1, record(13, 1, 0, 0), "refused 21 at 1\n"),
+        (4, record(14, 1, 0, 6), "refused 16 at 4\n"),
+        (2, made(record(12, 1, 1, 40), 1, 2), "refused 36 at 2\n"),
+        (1, record(13, 3, 0, 1), "refused 14 at 1\n"),
+    ] {
+        assert_eq!(report_of(&cases::numbers_with(place, changed)), refused);
+    }
+}
+
+#[test]
 fn a_missing_file_is_empty() {
     let whole = cases::b();
     assert_eq!(report_of(&Inputs { groups: vec![], ..whole.clone() }), "refused 2 at 0\n");
@@ -260,7 +291,7 @@ fn a_missing_file_is_empty() {
 fn every_word_is_printed() {
     assert_eq!(
         report_of(&cases::every_word()),
-        "accepted 13\nend 0 steps 0 records 10\npair 0 0\npair 0 0\nfirst 0 0\nunit 0 0\n\
-         second 0 0\nunit 0 0\npair 0 0\nfunction 0 0\nclosed 0 0\n"
+        "accepted 15\nend 0 steps 0 records 12\npair 0 0\npair 0 0\nfirst 0 0\nunit 0 0\n\
+         second 0 0\nunit 0 0\npair 0 0\nfunction 0 0\npair 0 0\nnumber 0 0 300\nclosed 0 0\n"
     );
 }

@@ -38,7 +38,7 @@ impl Slice {
             let mut record = Record::read(bytes);
             match (self, record.kind) {
                 (Slice::Readers, _) => (record.c, record.ic) = (0, 0),
-                (Slice::Creators, 1..=5) => (record.r, record.ir) = (0, 0),
+                (Slice::Creators, 1..=5 | 12) => (record.r, record.ir) = (0, 0),
                 (Slice::Creators, _) => record.ir = 0,
             }
             record.write()
@@ -47,7 +47,7 @@ impl Slice {
     }
 }
 
-/// All types of up to 3 records.
+/// All types of up to 3 records, but for those that mix units and numbers, and sums of numbers.
 fn universe(groups: &Groups, slice: Slice) -> Vec<Type> {
     let count = groups.count() as Group;
     let marks: Vec<Marks> = (0..count)
@@ -55,23 +55,36 @@ fn universe(groups: &Groups, slice: Slice) -> Vec<Type> {
         .filter(|&(high, low)| groups.below(low, high))
         .map(|(high, low)| slice.marks(high, low))
         .collect();
-    let units: Vec<Type> = marks.iter().map(|&marks| Type { marks, form: Form::Unit }).collect();
-    let mut all = units.clone();
-    for &marks in &marks {
-        for left in &units {
-            for right in &units {
-                let (left, right) = (Rc::new(left.clone()), Rc::new(right.clone()));
-                for form in [
-                    Form::Sum(left.clone(), right.clone()),
-                    Form::Pair(left.clone(), right.clone()),
-                    Form::Function(left, right),
-                ] {
-                    all.push(Type { marks, form });
+    let mut all = Vec::new();
+    for leaf in [Form::Unit, Form::Number] {
+        let leaves: Vec<Type> =
+            marks.iter().map(|&marks| Type { marks, form: leaf.clone() }).collect();
+        all.extend(leaves.clone());
+        for &marks in &marks {
+            for left in &leaves {
+                for right in &leaves {
+                    let (left, right) = (Rc::new(left.clone()), Rc::new(right.clone()));
+                    let sides = || (left.clone(), right.clone());
+                    let mut forms = vec![Form::Function(sides().0, sides().1)];
+                    if leaf == Form::Unit {
+                        forms.push(Form::Sum(sides().0, sides().1));
+                        forms.push(Form::Pair(sides().0, sides().1));
+                    }
+                    all.extend(forms.into_iter().map(|form| Type { marks, form }));
                 }
             }
         }
     }
     all
+}
+
+/// Has the universe types of this shape?
+fn is_small(found: &Type) -> bool {
+    let leaf = |s: &Type| s.sides().is_none();
+    leaf(found)
+        || found.sides().is_some_and(|(a, b)| {
+            leaf(a) && a.form == b.form && (found.kind() == 3 || a.form == Form::Unit)
+        })
 }
 
 struct Rules<'a> {
@@ -91,6 +104,26 @@ impl Rules<'_> {
         let mut context = context.to_vec();
         context.push(binder.clone());
         self.types(&context, term)
+    }
+
+    /// The groups of what a node of group g makes of two numbers, for all types that they have.
+    fn counted(&self, context: &[Type], g: Group, left: &Term, right: &Term) -> Vec<Marks> {
+        let groups = &self.tables.groups;
+        let numbers = |term: &Term| -> Vec<Marks> {
+            let all = self.types(context, term).into_iter();
+            let read = all.filter(|s| s.form == Form::Number && groups.below(s.marks.r, g));
+            read.map(|s| s.marks).collect()
+        };
+        let rights = numbers(right);
+        let mut found = Vec::new();
+        for one in numbers(left) {
+            for other in &rights {
+                let ir = groups.join(one.ir, other.ir);
+                let ic = groups.meet(g, groups.meet(one.ic, other.ic));
+                found.push(Marks { r: ir, ir, c: ic, ic });
+            }
+        }
+        found
     }
 
     /// Every type of the term within the universe.
@@ -181,6 +214,17 @@ impl Rules<'_> {
                     found.push(own);
                 }
             }
+            Term::Literal(marks, _) => found.push(Type { marks: *marks, form: Form::Number }),
+            Term::Addition(r, left, right) => {
+                for marks in self.counted(context, *r, left, right) {
+                    found.push(Type { marks, form: Form::Number });
+                }
+            }
+            Term::LessThan(r, sum, left, right) => {
+                for marks in self.counted(context, *r, left, right) {
+                    found.push(Type { marks, form: at(*sum).form });
+                }
+            }
         }
         found.dedup();
         self.above(&found)
@@ -232,13 +276,25 @@ fn small_shape(tables: &Tables, context: &[Type], term: &Term) -> Option<Type> {
         }
         Term::Protect(_, operand) => shape(operand),
         Term::Recursion(_, function, body) => under(&at(*function), body).map(|_| at(*function)),
+        Term::Literal(..) => made(Form::Number),
+        Term::Addition(_, left, right) => {
+            shape(left).and(shape(right))?;
+            made(Form::Number)
+        }
+        Term::LessThan(_, sum, left, right) => shape(left).and(shape(right)).map(|_| at(*sum)),
     };
-    found.filter(|found| found.size() <= 3)
+    found.filter(is_small)
 }
 
 /// Is there a case in it that finds its own type?
 fn finds_own_type(term: &Term) -> bool {
     term.record().finds_own_type() || term.operands().iter().any(|(part, _)| finds_own_type(part))
+}
+
+/// Are numbers read in it?
+fn counts(term: &Term) -> bool {
+    matches!(term, Term::Addition(..) | Term::LessThan(..))
+        || term.operands().iter().any(|(part, _)| counts(part))
 }
 
 fn compare(groups: Vec<u8>, count: u64, most: usize) {
@@ -248,7 +304,7 @@ fn compare(groups: Vec<u8>, count: u64, most: usize) {
 }
 
 fn compare_within(slice: Slice, groups: &[u8], count: u64, most: usize) {
-    let (mut typed, mut untyped, mut own_type) = (0, 0, 0);
+    let (mut typed, mut untyped, mut own_type, mut counted) = (0, 0, 0, 0);
     let enough = examples(count, |rng| {
         let world = small_world(rng, groups.to_vec(), slice);
         let fuel = rng.below(most);
@@ -277,6 +333,7 @@ fn compare_within(slice: Slice, groups: &[u8], count: u64, most: usize) {
                 if !given.is_empty() || small_shape(&world.tables, &[], &term).is_some() {
                     typed += 1;
                     own_type += finds_own_type(&term) as u32;
+                    counted += counts(&term) as u32;
                     assert_eq!(given, rules.above(&[found]), "the lowest of all its types");
                 }
             }
@@ -284,6 +341,7 @@ fn compare_within(slice: Slice, groups: &[u8], count: u64, most: usize) {
     });
     assert!(!enough || typed > count / 50 && untyped > count / 100, "drawn: {typed}, {untyped}");
     assert!(!enough || own_type > 0, "cases that find their type were drawn");
+    assert!(!enough || counted > 0, "sums and comparisons of numbers were drawn");
 }
 
 #[test]

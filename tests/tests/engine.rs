@@ -275,7 +275,7 @@ fn small_raw_bytes() {
                 })
                 .collect()
         };
-        let (types, script) = (raw(3, TYPE_BYTES, &[3], 4), raw(4, SCRIPT_BYTES, &[3, 5], 12));
+        let (types, script) = (raw(3, TYPE_BYTES, &[3], 5), raw(4, SCRIPT_BYTES, &[3, 5], 15));
         let types = if rng.one_in(2) { cases::case_types() } else { types };
         let mut script = script[..SCRIPT_BYTES * rng.between(1, 4)].to_vec();
         for record in script.chunks_mut(SCRIPT_BYTES) {
@@ -353,19 +353,23 @@ fn every_row_of_three_small_groups() {
 
 #[test]
 fn every_pair_of_small_types() {
-    // All types of up to 3 records over two groups, against each other: all readers, then all creators.
+    // All types of up to 3 records over two groups, against each other: all readers, then all creators. Sides are units, or
+    // numbers.
     let pairs = [(0, 0), (1, 0), (1, 1)];
     let readers = pairs.map(|(r, ir)| Marks { r, ir, ..LOW });
     let creators = pairs.map(|(c, ic)| Marks { c, ic, ..LOW });
     for marks in [readers, creators] {
         let with = |kind, Marks { r, ir, c, ic }| vec![kind, r, ir, 0, c, ic];
-        let units: Vec<Vec<u8>> = marks.iter().map(|&marks| with(0, marks)).collect();
-        let mut types = units.clone();
-        for kind in 1..=3 {
-            for &marks in &marks {
-                for left in &units {
-                    for right in &units {
-                        types.push([with(kind, marks), left.clone(), right.clone()].concat());
+        let mut types: Vec<Vec<u8>> = Vec::new();
+        for leaf in [0, 4] {
+            let leaves: Vec<Vec<u8>> = marks.iter().map(|&marks| with(leaf, marks)).collect();
+            types.extend(leaves.clone());
+            for kind in 1..=3 {
+                for &marks in &marks {
+                    for left in &leaves {
+                        for right in &leaves {
+                            types.push([with(kind, marks), left.clone(), right.clone()].concat());
+                        }
                     }
                 }
             }
@@ -387,8 +391,9 @@ fn every_pair_of_small_types() {
             }
         }
         // Of the pairs of the 3 pairs of groups 6 are in order, 3 of them the same; three kinds with two
-        // sides, and units.
-        let (all, ordered, same) = (types.len().pow(2), 3 * 6 * 6 * 6 + 6, 3 * 3 * 3 * 3 + 3);
+        // sides, and units; as many with numbers.
+        let all = types.len().pow(2);
+        let (ordered, same) = (2 * (3 * 6 * 6 * 6 + 6), 2 * (3 * 3 * 3 * 3 + 3));
         assert_eq!(answers, [all - ordered, ordered - same, same]);
     }
 }

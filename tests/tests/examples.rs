@@ -33,6 +33,14 @@ fn byte(record: usize, at: usize) -> usize {
     record * SCRIPT_BYTES + at
 }
 
+/// What is printed in a folder whose script has this byte in place of that.
+fn with_byte(name: &str, at: usize, from: u8, to: u8) -> String {
+    let mut script = read(name, "script");
+    assert_eq!(script[at], from);
+    script[at] = to;
+    printed(name, &script)
+}
+
 #[test]
 fn bench_record() {
     prints_expected("bench-record");
@@ -81,6 +89,24 @@ fn drying_panel() {
 }
 
 #[test]
+fn drying_days() {
+    let name = "drying-days";
+    prints_expected(name);
+    let with = |at: usize, from: u8, to: u8| with_byte(name, at, from, to);
+    // Record 9 compares the days, as the bench. The registrar could too; the lender's office and anyone are refused.
+    let (kind, reader) = (byte(9, 0), byte(9, 1));
+    assert_eq!(read(name, "script")[kind], 14);
+    assert_eq!(with(reader, 1, 3), expected(name));
+    for who in [0, 2] {
+        assert_eq!(with(reader, 1, who), "refused 21 at 9\n");
+    }
+    // Record 29, the last, is the days. The rule waits for the next day's answer, so with more than 59 the term gets too deep.
+    let days = byte(29, 4);
+    assert_eq!(with(days, 21, 59).lines().nth(1), Some("end 0 steps 779 records 5"));
+    assert_eq!(with(days, 21, 60), "accepted 7\nend 4 steps 483 records 508\n");
+}
+
+#[test]
 fn own_words() {
     prints_expected("own-words");
 }
@@ -89,13 +115,7 @@ fn own_words() {
 fn whose_hands() {
     let name = "whose-hands";
     prints_expected(name);
-    let script = read(name, "script");
-    let with = |at: usize, from: u8, to: u8| {
-        let mut script = script.clone();
-        assert_eq!(script[at], from);
-        script[at] = to;
-        printed(name, &script)
-    };
+    let with = |at: usize, from: u8, to: u8| with_byte(name, at, from, to);
     // Record 11 takes the bench's statement out of the entry, as the registrar. The bench could too; the lender's statement is refused, and
     // the bench's out of the hands of the lender or of anyone.
     let (kind, reader) = (byte(11, 0), byte(11, 1));

@@ -128,7 +128,7 @@ fn engine_if_named(all: &[(String, String, String)], path: &str) -> Option<usize
 }
 
 /// Header, second implementation, engine.
-const LIMITS: [(&str, usize, &str); 19] = [
+const LIMITS: [(&str, usize, &str); 20] = [
     ("ROW_BYTES", ROW_BYTES, "lattice::ROW_WIDTH"),
     ("TYPE_RECORD_BYTES", TYPE_BYTES, "types::TYPE_WIDTH"),
     ("SCRIPT_RECORD_BYTES", SCRIPT_BYTES, "records::SCRIPT_WIDTH"),
@@ -148,6 +148,7 @@ const LIMITS: [(&str, usize, &str); 19] = [
     ("TYPES_LONGEST_BYTES", MOST_TABLE_RECORDS * TYPE_BYTES, ""),
     ("LAST_QUESTION", LAST_QUESTION, "answer::Question::Creators"),
     ("OWN_TYPE", OWN_TYPE as usize, "records::OWN_TYPE"),
+    ("MOST_NUMBER", u16::MAX as usize, ""),
 ];
 
 /// Kinds in order from 0: header, engine.
@@ -158,6 +159,7 @@ const TYPES: (&str, &[(&str, &str)]) = (
         ("SUM", "types::Kind::Sum"),
         ("PAIR", "types::Kind::Pair"),
         ("FUNCTION", "types::Kind::Function"),
+        ("NUMBER", "types::Kind::Number"),
     ],
 );
 const KINDS: (&str, &[(&str, &str)]) = (
@@ -175,6 +177,9 @@ const KINDS: (&str, &[(&str, &str)]) = (
         ("CASE", "records::Kind::Case"),
         ("PROTECT", "records::Kind::Protect"),
         ("RECURSION", "records::Kind::Recursion"),
+        ("LITERAL", "records::Kind::Literal"),
+        ("SUM", "records::Kind::Sum"),
+        ("LESS", "records::Kind::Less"),
     ],
 );
 const SHEETS: (&str, &[(&str, &str)]) = (
@@ -186,11 +191,12 @@ const SHEETS: (&str, &[(&str, &str)]) = (
         ("PAIR", "sheet::Shown::Pair"),
         ("FUNCTION", "sheet::Shown::Function"),
         ("CLOSED", "sheet::Shown::Closed"),
+        ("NUMBER", "sheet::Shown::Number"),
     ],
 );
 
 /// Where a record has its fields, by the document's text: header, value, engine.
-const FIELDS: [(&str, usize, &str); 9] = [
+const FIELDS: [(&str, usize, &str); 10] = [
     ("AT_KIND", 0, ""),
     ("AT_READERS", 1, "types::R"),
     ("AT_INDIRECT", 2, "types::IR"),
@@ -200,6 +206,7 @@ const FIELDS: [(&str, usize, &str); 9] = [
     ("TYPE_AT_INDIRECT_CREATORS", 5, "types::IC"),
     ("SCRIPT_AT_CREATORS", 6, ""),
     ("SCRIPT_AT_INDIRECT_CREATORS", 7, ""),
+    ("SHEET_AT_NUMBER", 4, ""),
 ];
 
 /// What the document's text alone gives: header, value.
@@ -246,8 +253,8 @@ const OFFICE_OTHERS: [&str; 8] = [
 ];
 
 /// The widths of a row and of type, script and sheet records in each record format, from 1 on. In the second a recursion has a group
-/// in byte 1, in the third types and scripts have creators.
-const FORMATS: [[usize; 4]; 3] = [[4, 4, 6, 4], [4, 4, 6, 4], [4, 6, 8, 4]];
+/// in byte 1, in the third types and scripts have creators, in the fourth sheets tell numbers.
+const FORMATS: [[usize; 4]; 4] = [[4, 4, 6, 4], [4, 4, 6, 4], [4, 6, 8, 4], [4, 6, 8, 6]];
 
 /// A header has these constants, with these values, `others` and no more.
 fn holds_all(archive: &str, constants: &[(String, usize, &str)], others: &[&str]) {

@@ -60,9 +60,15 @@ fn meets_in_drawn_lattices() {
 // ---------------------------------------------------------------------------------------------
 // The lowest type at or above both, and the highest at or below both
 
-/// Every shape of up to `most` records, all groups 0.
+/// Every shape of up to `most` records without numbers, all groups 0.
 fn shapes(most: usize) -> Vec<Type> {
-    let mut found = vec![Type { marks: LOW, form: Form::Unit }];
+    shapes_of(&[Form::Unit], most)
+}
+
+/// Every shape of up to `most` records over these leaves.
+fn shapes_of(leaves: &[Form], most: usize) -> Vec<Type> {
+    let mut found: Vec<Type> =
+        leaves.iter().map(|form| Type { marks: LOW, form: form.clone() }).collect();
     for size in (3..=most).step_by(2) {
         let smaller = found.clone();
         for left in &smaller {
@@ -108,7 +114,7 @@ fn of_shape(marks: &[Marks], shape: &Type) -> Vec<Type> {
     let sides = shape.sides().map(|(a, b)| (of_shape(marks, a), of_shape(marks, b)));
     for &marks in marks {
         let Some((lefts, rights)) = &sides else {
-            found.push(Type { marks, form: Form::Unit });
+            found.push(Type { marks, form: shape.form.clone() });
             continue;
         };
         for (left, right) in lefts.iter().flat_map(|a| rights.iter().map(move |b| (a, b))) {
@@ -198,6 +204,19 @@ fn common_types_of_all_small_types() {
             let all = universe.all.clone();
             universe.holds_of(&all);
         }
+    }
+}
+
+#[test]
+fn common_types_of_units_and_numbers() {
+    // Types of up to three records with both, over two groups: a unit and a number have none.
+    let groups = read_groups(&words(&[3, 2])).expect("a lattice");
+    let shapes = shapes_of(&[Form::Unit, Form::Number], 3);
+    assert_eq!(shapes.len(), 2 + 3 * 4);
+    for marks in [every_readers(&groups), every_creators(&groups)] {
+        let mut universe = Universe::of(&groups, &marks, &shapes);
+        let all = universe.all.clone();
+        universe.holds_of(&all);
     }
 }
 

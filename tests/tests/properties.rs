@@ -11,7 +11,7 @@ use wigneld_tests::generate::*;
 use wigneld_tests::groups::{read_groups, Group, Groups};
 use wigneld_tests::limits::*;
 use wigneld_tests::refusal::Refusal;
-use wigneld_tests::script::{names_type, read_script, Record, Side, Term};
+use wigneld_tests::script::{names_type, read_script, Record, Side, Term, OPERANDS};
 use wigneld_tests::sheet::CLOSED;
 use wigneld_tests::steps::{is_value, End};
 use wigneld_tests::strip::ONE_GROUP;
@@ -51,6 +51,11 @@ fn calls_as_another(inputs: &Inputs) -> bool {
 /// Has the script a case that finds its own type?
 fn finds_own_type(script: &[u8]) -> bool {
     script.chunks_exact(SCRIPT_BYTES).any(|record| Record::read(record).finds_own_type())
+}
+
+/// Does the script read numbers?
+fn counts(script: &[u8]) -> bool {
+    script.chunks_exact(SCRIPT_BYTES).any(|record| matches!(record[0], 13 | 14))
 }
 
 /// Does the type stand in the table?
@@ -346,7 +351,7 @@ fn spoil_type(rng: &mut Rng, groups: &Groups, record: &mut [u8]) -> Option<u32> 
 /// The same of a script record.
 fn spoil_record(rng: &mut Rng, groups: &Groups, record: &mut [u8]) -> Option<u32> {
     let kind = record[0];
-    let object = (1..=5).contains(&kind);
+    let object = matches!(kind, 1..=5 | 12);
     match rng.below(5) {
         // A protect has no c, and neither has what isn't an object.
         0 if !object => {
@@ -459,7 +464,7 @@ fn a_subterm_is_one_whole_part() {
 
 #[test]
 fn scripts_made_to_be_typed_are_accepted() {
-    let mut seen = [0; 12];
+    let mut seen = [0; OPERANDS.len()];
     let (mut own_type, mut new_type) = (0, 0);
     let enough = examples(1500, |rng| {
         let world = World::random(rng);
@@ -477,7 +482,7 @@ fn scripts_made_to_be_typed_are_accepted() {
     assert!(!enough || new_type > 0, "and a found type that stands nowhere: {new_type}");
     assert!(
         !enough || seen.iter().all(|&count| count > 0),
-        "all twelve kinds were drawn: {seen:?}"
+        "all fifteen kinds were drawn: {seen:?}"
     );
 }
 
@@ -485,6 +490,7 @@ fn scripts_made_to_be_typed_are_accepted() {
 fn demand_3_holds_of_whole_runs() {
     let mut ends = [0; 5];
     let (mut longest, mut by_another, mut own_type, mut creators) = (0, 0, 0, 0);
+    let mut counted = 0;
     let enough = examples(900, |rng| {
         let world = World::random(rng);
         let inputs = inputs_of(&world, &typed(rng, &world));
@@ -503,6 +509,7 @@ fn demand_3_holds_of_whole_runs() {
         longest = longest.max(report.steps);
         by_another += (report.steps > 0 && calls_as_another(&inputs)) as u32;
         own_type += (report.steps > 0 && finds_own_type(&inputs.script)) as u32;
+        counted += (report.steps > 0 && counts(&inputs.script)) as u32;
         let made = (found.marks.c, found.marks.ic) != (0, 0);
         creators += (report.steps > 0 && made) as u32;
 
@@ -541,6 +548,7 @@ fn demand_3_holds_of_whole_runs() {
     assert!(!enough || longest > 50, "some run is long: {longest}");
     assert!(!enough || by_another > 0, "calls were made as a group above r of their type");
     assert!(!enough || own_type > 0, "cases that find their type were run");
+    assert!(!enough || counted > 50, "scripts that count were run: {counted}");
     assert!(!enough || creators > 20, "creators were left after steps: {creators}");
 }
 
@@ -584,6 +592,7 @@ fn readers_recur(inputs: &Inputs, at: Refusal) -> bool {
 fn near_misses_that_pass_obey_demand_3_too() {
     let (mut passed, mut by_another) = (0, 0);
     let (mut refused, mut refused_recursion, mut by_creators) = ([0; LAST_QUESTION + 1], 0, 0);
+    let mut refused_numbers = [0; LAST_QUESTION + 1];
     let enough = examples(4000, |rng| {
         let world = World::random(rng);
         let script = typed(rng, &world).write();
@@ -603,6 +612,10 @@ fn near_misses_that_pass_obey_demand_3_too() {
                 let at_recursion =
                     inputs.script.get(refusal.place as usize * SCRIPT_BYTES) == Some(&11);
                 refused_recursion += (refusal.question == 21 && at_recursion) as u32;
+                let at = inputs.script.get(refusal.place as usize * SCRIPT_BYTES);
+                if at.is_some_and(|kind| matches!(kind, 12..=14)) {
+                    refused_numbers[refusal.question as usize] += 1;
+                }
                 by_creators += (refusal.question == 23 && readers_recur(&inputs, refusal)) as u32;
                 // What stands before typing is asked by a run too.
                 if !refusal.is_of_typing() {
@@ -627,6 +640,10 @@ fn near_misses_that_pass_obey_demand_3_too() {
     for question in [9, 10, 14, 15, 16, 17, 19, 20, 21, 22, 23, 31, 36] {
         assert!(!enough || refused[question] > 0, "question {question} was drawn: {refused:?}");
     }
+    for question in [14, 15, 16, 20, 21, 36] {
+        let drawn = refused_numbers[question] > 0;
+        assert!(!enough || drawn, "question {question} at numbers: {refused_numbers:?}");
+    }
 }
 
 #[test]
@@ -644,6 +661,12 @@ fn the_reported_type_does_not_depend_on_how_the_script_is_wrapped() {
         let protect = Term::Protect(by, term.clone());
         let own = reported(&inputs_of(&world, &protect)).expect("typed");
         assert_eq!(own, raise(groups, &found, by));
+        // A value is raised by a step to just that.
+        if is_value(&term) {
+            let inputs = inputs_of(&world, &protect);
+            let script = step_reports(&inputs, REPORT_RUN_BYTES, 1, term.size() as u32);
+            assert_eq!(reported(&Inputs { script, ..inputs }), Ok(own));
+        }
 
         if found.size() + 2 <= MOST_TYPE_RECORDS {
             for side in [Side::First, Side::Second] {
@@ -858,7 +881,7 @@ fn is_closed_to(groups: &Groups, g: Group, mut low: &[u8], mut full: &[u8]) -> b
             }
             full = &full[SHEET_BYTES..];
         } else {
-            if low[..SHEET_BYTES] != [CLOSED, 0, 0, 0] {
+            if low[..SHEET_BYTES] != [CLOSED, 0, 0, 0, 0, 0] {
                 return false;
             }
             full = object(full).1;
@@ -892,6 +915,7 @@ fn sheets_show_more_to_higher_groups() {
 fn own_marks(value: &Term) -> Marks {
     match value {
         Term::Unit(marks)
+        | Term::Literal(marks, _)
         | Term::Function(marks, _, _)
         | Term::Pair(marks, _, _)
         | Term::Injection(_, marks, _, _) => *marks,
@@ -915,7 +939,7 @@ fn redrawn_inside(rng: &mut Rng, world: &World, value: &Term, g: Group) -> Rc<Te
         return Rc::new(Term::Unit(own_marks(value)));
     }
     Rc::new(match value {
-        Term::Unit(marks) => Term::Unit(*marks),
+        Term::Unit(_) | Term::Literal(..) => value.clone(),
         Term::Function(marks, parameter, _) => {
             Term::Function(*marks, *parameter, untyped_value(rng, &world.tables, 3))
         }

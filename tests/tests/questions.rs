@@ -26,7 +26,8 @@ fn below(g: u8, h: u8) -> bool {
 
 /// Records: 0 sum of units, 3 function of units, 6 pair of units, 9 unit (3,3), 10 function (3,3)
 /// of units, 13 sum of unit and unit (3,3), 16 sum of a unit made by 1 and unit, 19 function from unit
-/// to a unit made by 1, all other groups 0.
+/// to a unit made by 1, 22 number, 23 sum of unit and number, 26 sum of number and unit, 29 function of
+/// numbers, all other groups 0.
 #[rustfmt::skip] // one type on each line
 fn some_types() -> Vec<u8> {
     [
@@ -38,11 +39,17 @@ fn some_types() -> Vec<u8> {
         type_record(1, 0, 0), UNIT_TYPE, type_record(0, 3, 3),
         type_record(1, 0, 0), made(UNIT_TYPE, 1, 0), UNIT_TYPE,
         type_record(3, 0, 0), UNIT_TYPE, made(UNIT_TYPE, 1, 0),
+        NUMBER_TYPE,
+        type_record(1, 0, 0), UNIT_TYPE, NUMBER_TYPE,
+        type_record(1, 0, 0), NUMBER_TYPE, UNIT_TYPE,
+        type_record(3, 0, 0), NUMBER_TYPE, NUMBER_TYPE,
     ]
     .concat()
 }
 
-const TYPE_COUNT: u16 = 22;
+const TYPE_COUNT: u16 = 32;
+/// The type record of a number, all groups 0.
+const NUMBER_TYPE: [u8; TYPE_BYTES] = [4, 0, 0, 0, 0, 0];
 
 fn with(script: Vec<u8>) -> Inputs {
     Inputs { groups: diamond_groups(), types: some_types(), script }
@@ -269,7 +276,7 @@ fn question_9_kind_zero_and_groups() {
     for place in 0..TYPE_COUNT as usize {
         let outside = [4, 32, 255];
         for (byte, values) in [
-            (0, [4, 5, 255]),
+            (0, [5, 6, 255]),
             (1, outside),
             (2, outside),
             (3, [1, 128, 255]),
@@ -285,10 +292,16 @@ fn question_9_kind_zero_and_groups() {
     }
     // Before question 10, which record 0 fails, and 11, which the last record would.
     types_refused(
-        &[type_record(0, 0, 1), type_record(0, 0, 0), type_record(4, 0, 0)].concat(),
+        &[type_record(0, 0, 1), type_record(0, 0, 0), type_record(5, 0, 0)].concat(),
         9,
         2,
     );
+    // A number passes where a unit does.
+    for place in (0..TYPE_COUNT as usize).filter(|place| good[place * TYPE_BYTES] == 0) {
+        let mut types = good.clone();
+        types[place * TYPE_BYTES] = 4;
+        types_accepted(&types);
+    }
 }
 
 #[test]
@@ -352,6 +365,11 @@ fn question_11_the_last_type_ends() {
     types_refused(&type_record(1, 0, 0), 11, 0);
     types_refused(&[type_record(2, 0, 0), UNIT_TYPE].concat(), 11, 0);
     types_refused(&[UNIT_TYPE, type_record(3, 0, 0), UNIT_TYPE].concat(), 11, 1);
+    // A number has no sides.
+    types_accepted(&NUMBER_TYPE);
+    types_accepted(&NUMBER_TYPE.repeat(4096));
+    types_refused(&[type_record(2, 0, 0), NUMBER_TYPE].concat(), 11, 0);
+    types_refused(&[NUMBER_TYPE, type_record(3, 0, 0), NUMBER_TYPE].concat(), 11, 1);
     // The outermost unfinished one, not those inside it.
     types_refused(
         &[UNIT_TYPE, type_record(2, 0, 0), UNIT_TYPE, type_record(1, 0, 0), UNIT_TYPE].concat(),
@@ -440,12 +458,12 @@ fn question_13_in_a_run_asks_both_buffers() {
 #[test]
 fn question_14_kinds_and_unnamed_fields() {
     let unnamed_r = [0, 10];
-    let unnamed_ir = [0, 6, 7, 8, 9, 11];
-    let unnamed_number = [1, 3, 6, 7, 8, 10];
-    // Kinds 1 to 5 name both creators, and a protect its indirect ones.
-    let unnamed_c = [0, 6, 7, 8, 9, 10, 11];
-    let unnamed_ic = [0, 6, 7, 8, 9, 11];
-    for kind in 0..=11u8 {
+    let unnamed_ir = [0, 6, 7, 8, 9, 11, 13, 14];
+    let unnamed_number = [1, 3, 6, 7, 8, 10, 13];
+    // Kinds 1 to 5 and a literal name both creators, and a protect its indirect ones.
+    let unnamed_c = [0, 6, 7, 8, 9, 10, 11, 13, 14];
+    let unnamed_ic = [0, 6, 7, 8, 9, 11, 13, 14];
+    for kind in 0..=14u8 {
         for byte in 1..SCRIPT_BYTES {
             for value in [1, 2, 255] {
                 let mut damaged = bare(kind);
@@ -469,24 +487,25 @@ fn question_14_kinds_and_unnamed_fields() {
             }
         }
     }
-    for kind in 12..=255u8 {
+    for kind in 15..=255u8 {
         refused_by_all(&of(&[UNIT, bare(kind)]), 14, 1);
     }
     // The first record counts; and before 15, which record 0 fails.
-    refused_by_all(&of(&[record(1, 9, 0, 0), [12; SCRIPT_BYTES], [13; SCRIPT_BYTES]]), 14, 1);
+    refused_by_all(&of(&[record(1, 9, 0, 0), [15; SCRIPT_BYTES], [16; SCRIPT_BYTES]]), 14, 1);
 }
 
 #[test]
 fn question_15_named_groups() {
-    for kind in 1..=11u8 {
+    for kind in 1..=14u8 {
+        let object = matches!(kind, 1..=5 | 12);
         for (r, ir) in
             [(4, 0), (0, 4), (4, 4), (255, 0), (0, 255), (32, 32), (0, 1), (1, 2), (3, 3)]
         {
-            let (names_r, names_ir) = (kind != 10, kind <= 5 || kind == 10);
+            let (names_r, names_ir) = (kind != 10, object || kind == 10);
             let (r, ir) = (if names_r { r } else { 0 }, if names_ir { ir } else { 0 });
             let inputs = of(&[record(3, 3, 0, 0), UNIT, record(kind, r, ir, 0)]);
             let bad_group = r >= 4 || ir >= 4;
-            let bad_order = kind <= 5 && matches!((r, ir), (0, 1) | (1, 2));
+            let bad_order = object && matches!((r, ir), (0, 1) | (1, 2));
             if bad_group || bad_order {
                 refused_by_all(&inputs, 15, 2);
             } else {
@@ -495,8 +514,8 @@ fn question_15_named_groups() {
             }
         }
     }
-    // So are creators, of kinds 1 to 5 both, and the indirect ones of a protect.
-    for kind in (1..=5).chain([10]) {
+    // So are creators, of kinds 1 to 5 and a literal both, and the indirect ones of a protect.
+    for kind in (1..=5).chain([10, 12]) {
         for (c, ic) in [(4, 0), (3, 4), (4, 4), (255, 0), (3, 32)] {
             let c = if kind == 10 { 0 } else { c };
             let inputs = of(&[PAIR, UNIT, made(record(kind, 0, 0, 0), c, ic)]);
@@ -523,14 +542,14 @@ fn question_15_named_groups() {
 
 #[test]
 fn question_36_of_scripts() {
-    for kind in 1..=5 {
+    for kind in (1..=5).chain([12]) {
         for (c, ic) in pairs() {
             // Behind a pair and a unit for others, so that the place is 2; readers play no part.
             let own = made(record(kind, 3, 1, 0), c, ic);
             let inputs = of(&[PAIR, record(1, 2, 0, 0), own]);
             if !below(ic, c) {
                 refused_by_all(&inputs, 36, 2);
-            } else if kind == 1 {
+            } else if operand_count(kind) == 0 {
                 accepted(&inputs);
             } else {
                 refused_by_all(&inputs, 17, 3);
@@ -561,14 +580,24 @@ fn question_36_of_scripts() {
 
 #[test]
 fn question_16_named_types() {
-    for (kind, good) in
-        [(2, 0), (2, 9), (2, 15), (4, 0), (4, 13), (5, 0), (9, 9), (11, 3), (11, 10)]
-    {
+    for (kind, good) in [
+        (2, 0),
+        (2, 9),
+        (2, 15),
+        (4, 0),
+        (4, 13),
+        (5, 0),
+        (9, 9),
+        (11, 3),
+        (11, 10),
+        (14, 0),
+        (14, 16),
+    ] {
         let inputs = of(&[PAIR, UNIT, record(kind, 0, 0, good)]);
         let (result, _, _) = check_in(&inputs, WORK_BYTES, ANSWER_BYTES);
         assert_eq!(result, no(17, 3), "the type is fine and the term is cut short");
     }
-    for kind in [2, 4, 5, 9, 11] {
+    for kind in [2, 4, 5, 9, 11, 14] {
         for number in [TYPE_COUNT, TYPE_COUNT + 1, 256, 4096, OWN_TYPE - 1, OWN_TYPE] {
             // A case's largest number names no type and passes: only the term is cut short.
             let (question, place) = if (kind, number) == (9, OWN_TYPE) { (17, 3) } else { (16, 2) };
@@ -578,10 +607,13 @@ fn question_16_named_types() {
     }
     // Every index there is, by the kind of type it names.
     for number in 0..TYPE_COUNT {
-        for kind in [4, 5, 11] {
+        for kind in [4, 5, 11, 14] {
             let wanted = if kind == 11 { 3 } else { 1 };
             let inputs = of(&[record(kind, 0, 0, number)]);
-            if some_types()[number as usize * TYPE_BYTES] == wanted {
+            // A comparison's sum has units for its sides, whatever their groups.
+            let kinds: Vec<u8> = some_types().into_iter().step_by(TYPE_BYTES).collect();
+            let units = kind != 14 || kinds[number as usize + 1..].starts_with(&[0, 0]);
+            if kinds[number as usize] == wanted && units {
                 refused_by_all(&inputs, 17, 1);
             } else {
                 refused_by_all(&inputs, 16, 0);
@@ -678,7 +710,7 @@ fn question_19_binders() {
     closed(&[function, case, variable(0), variable(1), function, variable(2)]);
     refused_by_all(&of(&[function, case, variable(0), variable(1), function, variable(3)]), 19, 5);
     // Nothing else binds.
-    for kind in [3, 4, 5, 6, 7, 8, 10] {
+    for kind in [3, 4, 5, 6, 7, 8, 10, 13, 14] {
         let mut records = vec![record(kind, 0, 0, 0)];
         records.resize(1 + operand_count(kind), variable(0));
         refused_by_all(&of(&records), 19, 1);
@@ -772,6 +804,79 @@ fn question_21_readers() {
     ill_typed(&[APPLY, record(2, 1, 0, 1), variable(0), PROJECT, UNIT], 21, 0);
     ill_typed(&[case(0), record(4, 1, 0, 0), UNIT, PROJECT, UNIT, UNIT], 21, 0);
     ill_typed(&[APPLY, record(3, 1, 0, 0), UNIT, UNIT, UNIT], 20, 0);
+}
+
+/// The two kinds that read numbers, with the kind of type that they have.
+const COUNTS: [(u8, u8); 2] = [(13, 4), (14, 1)];
+
+#[test]
+fn questions_20_and_21_of_each_operand() {
+    let objects: [(u8, Vec<Record>); 5] = [
+        (0, vec![UNIT]),
+        (1, vec![first(0), UNIT]),
+        (2, vec![PAIR, UNIT, UNIT]),
+        (3, vec![function(1), variable(0)]),
+        (4, vec![literal(3)]),
+    ];
+    for (node, found) in COUNTS {
+        // Every kind of operand in either place.
+        for (left, one) in &objects {
+            for (right, other) in &objects {
+                let records = [&[PAIR, UNIT, bare(node)][..], &one[..], &other[..]].concat();
+                if (left, right) == (&4, &4) {
+                    let sides = if found == 1 { vec![UNIT_TYPE; 2] } else { vec![] };
+                    let own = vec![type_record(2, 0, 0), UNIT_TYPE, type_record(found, 0, 0)];
+                    finds(&records, &[own, sides].concat());
+                } else {
+                    ill_typed(&records, 20, 2);
+                }
+            }
+        }
+        // r of either against the node's group, over the diamond; ir plays no part.
+        for group in 0..4 {
+            for (r, s) in pairs() {
+                for (ir, is) in [(0, 0), (r, s)] {
+                    let records =
+                        [record(node, group, 0, 0), record(12, r, ir, 5), record(12, s, is, 5)];
+                    let inputs = of(&records);
+                    if below(r, group) && below(s, group) {
+                        accepted(&inputs);
+                    } else {
+                        check_refuses(&inputs, 21, 0);
+                    }
+                }
+            }
+        }
+        let node = bare(node);
+        let high = record(12, 1, 0, 7);
+        // 20 of the left, 21 of the left, the right's own questions, 20 of the right, 21 of the right.
+        ill_typed(&[node, PROJECT, UNIT, PROJECT, UNIT], 20, 1);
+        ill_typed(&[node, record(1, 1, 0, 0), PROJECT, UNIT], 20, 0);
+        ill_typed(&[node, high, PROJECT, UNIT], 21, 0);
+        ill_typed(&[node, high, UNIT], 21, 0);
+        ill_typed(&[node, literal(1), PROJECT, high], 20, 2);
+        ill_typed(&[node, literal(1), record(1, 1, 0, 0)], 20, 0);
+        ill_typed(&[node, literal(1), high], 21, 0);
+        // The place is the node, wherever it stands.
+        ill_typed(&[ADD, ADD, literal(1), literal(1), node, literal(1), high], 21, 4);
+        // What they make is taken apart as what it is.
+        ill_typed(&[PROJECT, node, literal(1), literal(1)], 20, 0);
+    }
+    // A sum is a number, and a comparison none.
+    finds(&[ADD, literal(1), ADD, literal(1), literal(1)], &[NUMBER_TYPE]);
+    ill_typed(&[ADD, literal(1), less(0), literal(1), literal(1)], 20, 0);
+    // A number is below no unit, no unit below a number, and they have no common type.
+    ill_typed(&[second(0), literal(1)], 22, 0);
+    ill_typed(&[second(23), UNIT], 22, 0);
+    finds(&[second(23), literal(1)], &[type_record(1, 0, 0), UNIT_TYPE, NUMBER_TYPE]);
+    ill_typed(&[OWN_CASE, first(0), UNIT, UNIT, literal(1)], 31, 0);
+    ill_typed(&[OWN_CASE, first(0), UNIT, literal(1), UNIT], 31, 0);
+    finds(&[OWN_CASE, first(0), UNIT, literal(1), record(12, 3, 0, 1)], &[type_record(4, 3, 0)]);
+    for (i, j) in [(1, 22), (22, 1), (0, 23), (23, 0), (23, 26), (3, 29)] {
+        let answer = compare(&diamond_groups(), &some_types(), i, j);
+        assert_eq!(answer, Ok(Comparison::Neither));
+    }
+    assert_eq!(compare(&diamond_groups(), &some_types(), 22, 25), Ok(Comparison::Same));
 }
 
 #[test]
@@ -1114,22 +1219,27 @@ fn question_25_groups() {
     for group in 0..4 {
         let (answer, sheet) = sheet_in(&inputs, group, 6);
         assert_eq!(answer, Ok(1));
-        let shown: &[u8] = if group == 3 { &[0, 3, 3, 0] } else { &[5, 0, 0, 0] };
-        assert_eq!(sheet, [shown, &filled(6)[4..]].concat());
+        let shown = if group == 3 { [0, 3, 3, 0, 0, 0] } else { [5, 0, 0, 0, 0, 0] };
+        assert_eq!(sheet, shown);
     }
 }
 
 #[test]
 fn question_26_values() {
-    let values: [Vec<Record>; 6] = [
+    let values: [Vec<Record>; 8] = [
         vec![UNIT],
+        vec![literal(7)],
+        vec![PAIR, literal(0), second(23), literal(65_535)],
         vec![function(0), APPLY, variable(0), PROJECT, UNIT],
         vec![PAIR, UNIT, PAIR, UNIT, UNIT],
         vec![first(0), function(0), variable(0)],
         vec![second(0), PAIR, UNIT, UNIT],
         vec![PAIR, first(0), UNIT, second(0), UNIT],
     ];
-    let others: [Vec<Record>; 9] = [
+    let others: [Vec<Record>; 12] = [
+        vec![ADD, literal(1), literal(2)],
+        vec![less(0), literal(1), literal(2)],
+        vec![PAIR, literal(1), ADD, literal(1), UNIT],
         vec![APPLY, function(1), variable(0), UNIT],
         vec![PROJECT, PAIR, UNIT, UNIT],
         vec![record(8, 0, 0, 0), PAIR, UNIT, UNIT],
@@ -1162,16 +1272,16 @@ fn question_26_values() {
 fn question_27_the_answer_fits() {
     // A pair of a first unit and a function: 4 records, the body not shown.
     let inputs = of(&[PAIR, first(0), UNIT, function(0), PAIR, variable(0), variable(0)]);
-    for length in 0..16 {
+    for length in 0..24 {
         let (answer, sheet) = sheet_in(&inputs, 0, length);
         assert_eq!(answer, no(27, 0));
         assert_eq!(sheet, filled(length));
     }
-    for length in 16..24 {
+    for length in 24..32 {
         let (answer, sheet) = sheet_in(&inputs, 0, length);
         assert_eq!(answer, Ok(4));
-        let shown = [[3, 0, 0, 0], [1, 0, 0, 0], [0, 0, 0, 0], [4, 0, 0, 0]].concat();
-        assert_eq!(sheet, [&shown, &filled(length)[16..]].concat());
+        let shown = [3, 1, 0, 4].map(|kind| [kind, 0, 0, 0, 0, 0]).concat();
+        assert_eq!(sheet, [&shown, &filled(length)[24..]].concat());
     }
     assert_eq!(sheet_in(&of(&[UNIT]), 0, 0).0, no(27, 0));
 }
@@ -1181,8 +1291,10 @@ fn sheets_close_objects_with_their_parts() {
     // A pair (1,0) of a second (2,2) of unit (0,0), and a function (3,1), seen by each group.
     let inputs =
         of(&[record(3, 1, 0, 0), record(5, 2, 2, 0), UNIT, record(2, 3, 1, 0), variable(0)]);
-    let closed = [5, 0, 0, 0];
-    let (pair, second, unit, function) = ([3, 1, 0, 0], [2, 2, 2, 0], [0; 4], [4, 3, 1, 0]);
+    let shown = |kind, r, ir| [kind, r, ir, 0, 0, 0];
+    let closed = shown(5, 0, 0);
+    let (pair, second) = (shown(3, 1, 0), shown(2, 2, 2));
+    let (unit, function) = (shown(0, 0, 0), shown(4, 3, 1));
     for (group, expected) in [
         (0, vec![closed]),
         (1, vec![pair, closed, closed]),
@@ -1190,7 +1302,7 @@ fn sheets_close_objects_with_their_parts() {
         (3, vec![pair, second, unit, function]),
     ] {
         // 27 asks for the shorter sheet.
-        let length = 4 * expected.len();
+        let length = SHEET_BYTES * expected.len();
         let (answer, sheet) = sheet_in(&inputs, group, length);
         assert_eq!(answer, Ok(expected.len() as u32));
         assert_eq!(sheet, expected.concat());
@@ -1304,11 +1416,12 @@ fn questions_8_and_13_of_the_rewriting_ask_for_the_old_widths() {
 
 #[test]
 fn the_rewriting_asks_what_is_asked_today() {
-    // Item 6's byte and item 3's number pass in the old form too; other kinds are refused as ever.
+    // Item 6's byte, item 3's number and item 13's kinds pass in the old form too; other kinds are refused as ever.
     let own_case = record(9, 0, 0, OWN_TYPE);
     for records in [
         vec![record(11, 2, 0, 3), function(4), variable(0)],
         vec![own_case, first(0), UNIT, UNIT, UNIT],
+        vec![less(0), ADD, literal(1), literal(65_535), literal(2)],
     ] {
         let inputs = of(&records);
         let (answer, rewritten) = rewrite_script_in(&old_form(&inputs), inputs.script.len());
@@ -1320,7 +1433,8 @@ fn the_rewriting_asks_what_is_asked_today() {
     refused(&[record(11, 4, 0, 3), function(4), variable(0)], 15, 0);
     refused(&[function(OWN_TYPE), UNIT], 16, 0);
     refused(&[record(10, 1, 0, 0), UNIT], 14, 0);
-    refused(&[bare(12)], 14, 0);
+    refused(&[bare(15)], 14, 0);
+    refused(&[less(23), literal(1), literal(2)], 16, 0);
     // Depth counts two for a case that finds its type.
     let deep = [vec![PROTECT; 254], vec![own_case, first(0), UNIT, UNIT, UNIT]].concat();
     refused(&deep, 18, 255);
@@ -1343,8 +1457,8 @@ fn slot(rng: &mut Rng) -> Slot {
         at,
         records: records.to_vec(),
     };
-    match rng.below(42) {
-        0 => make(14, 0, &[bare(12)]),
+    match rng.below(56) {
+        0 => make(14, 0, &[bare(15)]),
         1 => make(14, 1, &[function(0), record(0, 0, 1, 0)]),
         2 => make(15, 0, &[record(1, 4, 0, 0)]),
         3 => make(15, 1, &[function(0), record(1, 0, 1, 0)]),
@@ -1375,6 +1489,22 @@ fn slot(rng: &mut Rng) -> Slot {
         25 => make(15, 0, &[made(PROTECT, 0, 4), UNIT]),
         26 => make(22, 0, &[first(16), UNIT]),
         27 => make(23, 0, &[record(11, 3, 0, 19), function(20), made(UNIT, 1, 0)]),
+        28 => make(14, 0, &[record(13, 0, 0, 1), literal(1), literal(2)]),
+        29 => make(15, 1, &[ADD, record(12, 0, 1, 7), UNIT]),
+        30 => make(36, 2, &[ADD, UNIT, made(literal(7), 1, 2)]),
+        31 => make(16, 0, &[less(23), UNIT, UNIT]),
+        32 => make(16, 0, &[less(OWN_TYPE), literal(1), literal(2)]),
+        33 => make(20, 0, &[ADD, UNIT, PROJECT, UNIT]),
+        34 => make(20, 0, &[less(0), literal(1), UNIT]),
+        35 => make(21, 0, &[less(0), record(12, 1, 0, 7), UNIT]),
+        36 => make(21, 0, &[ADD, literal(1), record(12, 1, 0, 7)]),
+        37 => make(20, 2, &[ADD, literal(1), PROJECT, UNIT]),
+        38 => make(31, 0, &[OWN_CASE, first(0), UNIT, UNIT, literal(7)]),
+        39 => Slot {
+            fails: None,
+            at: 0,
+            records: vec![less(0), ADD, literal(1), literal(2), literal(3)],
+        },
         21 => {
             Slot { fails: None, at: 0, records: vec![OWN_CASE, first(0), UNIT, UNIT, high_unit()] }
         }

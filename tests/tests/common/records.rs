@@ -20,6 +20,8 @@ pub const APPLY: Record = bare(6);
 pub const PROJECT: Record = bare(7);
 pub const PROJECT_SECOND: Record = bare(8);
 pub const PROTECT: Record = bare(10);
+/// The sum of two numbers.
+pub const ADD: Record = bare(13);
 /// A case that finds its own type.
 pub const OWN_CASE: Record = [9, 0, 0, 0, 255, 255, 0, 0];
 
@@ -45,6 +47,15 @@ pub fn case(result: u16) -> Record {
 
 pub fn recursion(function: u16) -> Record {
     record(11, 0, 0, function)
+}
+
+pub fn literal(number: u16) -> Record {
+    record(12, 0, 0, number)
+}
+
+/// First less than second, over this sum of units.
+pub fn less(sum: u16) -> Record {
+    record(14, 0, 0, sum)
 }
 
 /// The depth of each record of a term, by what stands around it: the operands of a case that finds its type
