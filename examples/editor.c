@@ -87,8 +87,8 @@ static const uint8_t *show_type(const uint8_t *record)
     unsigned kind = own[WIGNELD_AT_KIND];
 
     record += WIGNELD_TYPE_RECORD_BYTES;
-    if (kind == WIGNELD_TYPE_UNIT) {
-        fputs("unit", stdout);
+    if (kind == WIGNELD_TYPE_UNIT || kind == WIGNELD_TYPE_NUMBER) {
+        fputs(kind == WIGNELD_TYPE_UNIT ? "unit" : "number", stdout);
     } else {
         putchar('(');
         record = show_type(record);
@@ -141,7 +141,7 @@ static uint32_t run(const struct document *d, uint64_t budget, uint8_t *last)
 
 static void show_sheet(const struct document *d, const uint8_t *value, uint32_t records, uint64_t group)
 {
-    static const char *const words[] = { "unit", "first", "second", "pair", "function", "closed" };
+    static const char *const words[] = { "unit", "first", "second", "pair", "function", "closed", "number" };
     uint8_t *sheet = room_for(WIGNELD_SHEET_BYTES);
     uint64_t answer = wigneld_sheet(d->groups.bytes, d->groups.length, d->types.bytes, d->types.length, value,
                                     (size_t)records * WIGNELD_SCRIPT_RECORD_BYTES, group, sheet, WIGNELD_SHEET_BYTES);
@@ -153,6 +153,8 @@ static void show_sheet(const struct document *d, const uint8_t *value, uint32_t 
         const uint8_t *line = sheet + (size_t)i * WIGNELD_SHEET_RECORD_BYTES;
 
         printf("  %s", words[line[WIGNELD_AT_KIND]]);
+        if (line[WIGNELD_AT_KIND] == WIGNELD_SHEET_NUMBER)
+            printf(" %u", line[WIGNELD_SHEET_AT_NUMBER] | (unsigned)line[WIGNELD_SHEET_AT_NUMBER + 1] << 8);
         if (line[WIGNELD_AT_KIND] != WIGNELD_SHEET_CLOSED)
             printf(" (%u,%u)", line[WIGNELD_AT_READERS], line[WIGNELD_AT_INDIRECT]);
         putchar('\n');

@@ -5,7 +5,7 @@
  *     cc -std=c99 -Iinclude -o make examples/make.c target/staticlib/libwigneld_office.a && ./make examples
  *
  * A script is written in its own order, each record followed by its operands; the indent below follows the operands. All but the
- * last example were saved in an older form (WIGNELD_FORMAT): they are written as they were and rewritten by the engine's own calls.
+ * last two examples were saved in an older form (WIGNELD_FORMAT): they are written as they were and rewritten by the engine's own calls.
  * A second folder, if one is named, gets an example as it was saved in form 1.
  */
 #include <stdint.h>
@@ -14,8 +14,8 @@
 
 #include "wigneld_office.h"
 
-#if WIGNELD_FORMAT != 3
-#error "the last example is written in form 3"
+#if WIGNELD_FORMAT != 4
+#error "the last two examples are written in form 4"
 #endif
 
 /* Who reads: anyone; the bench, where objects are treated; the lender's office; the registrar, who may read what either may. */
@@ -336,17 +336,17 @@ static void page_script(void)
             record(1, BENCH, BENCH, 0); /* a mark of the bench's own */
 }
 
-/* Six records of 12 bytes: the letters of a word, then zero bytes. The order is that of the sheet's kinds. */
+/* Seven records of 12 bytes: the letters of a word, then zero bytes. The order is that of the sheet's kinds. */
 static void own_words(void)
 {
-    static const char words[6][13] = { "einheit", "erstes", "zweites", "paar", "funktion", "verschlossen" };
+    static const char words[7][13] = { "einheit", "erstes", "zweites", "paar", "funktion", "verschlossen", "zahl" };
 
-    for (int i = 0; i < 6; i++)
+    for (int i = 0; i < 7; i++)
         for (int j = 0; j < 12; j++)
             byte((unsigned char)words[i][j]);
 }
 
-/* ---- two statements about an object, and who made them: in form 3 */
+/* ---- two statements about an object, and who made them: in form 4 */
 
 enum { BENCH_SAYS = 0, LENDER_SAYS = 3, STATEMENTS = 6, FITNESS = 13 };
 
@@ -414,6 +414,86 @@ static void hands_script(void)
         made(3, REGISTRAR, 0); /* the entry: the bench says sound, the lender loose */
             made_choice(0, BENCH, BENCH_SAYS);
             made_choice(1, LENDER, LENDER_SAYS);
+}
+
+/* ---- a drying panel again, its days counted by numbers: in form 4 */
+
+enum { UP_OR_DOWN = 3, COUNTING = 6, DAY = 7, LOG_ENTRY = 11 };
+
+/* Group 0 as creators: nobody stands behind it. */
+static void present_type(unsigned kind, unsigned who)
+{
+    type(kind, who);
+    byte(0);
+    byte(0);
+}
+
+static void present_choice_type(unsigned who)
+{
+    present_type(1, who);
+    present_type(0, who);
+    present_type(0, who);
+}
+
+static void days_types(void)
+{
+    present_choice_type(ANYONE); /* DRYING: yes, or no more */
+    present_choice_type(BENCH);  /* UP_OR_DOWN: face up, or face down */
+    present_type(3, BENCH);      /* COUNTING: from a day, which side is up */
+        present_type(4, BENCH);
+        present_choice_type(BENCH);
+    present_type(2, ANYONE);     /* LOG_ENTRY: drying or not, and the days */
+        present_choice_type(ANYONE);
+        present_type(4, BENCH);
+}
+
+static void present(unsigned kind, unsigned who, unsigned number)
+{
+    record(kind, who, who, number);
+    byte(0);
+    byte(0);
+}
+
+static void present_choice(unsigned second, unsigned who, unsigned type_index)
+{
+    present(4 + second, who, type_index);
+    present(1, who, 0);
+}
+
+/* Face up on the last day, and on a day before it the other side than on the next. */
+static void counting_rule(void)
+{
+    passed(11, REGISTRAR, COUNTING);
+        present(2, BENCH, DAY);
+            passed(9, BENCH, UP_OR_DOWN); /* is it before the last? */
+                passed(14, BENCH, UP_OR_DOWN);
+                    passed(0, 0, 0);
+                    passed(8, ANYONE, 0);
+                        passed(0, 0, 2);
+                passed(9, BENCH, UP_OR_DOWN); /* yes: which side is up on the next? */
+                    passed(6, BENCH, 0);
+                        passed(0, 0, 2);
+                        passed(13, BENCH, 0);
+                            passed(0, 0, 1);
+                            present(12, BENCH, 1);
+                    present_choice(1, BENCH, UP_OR_DOWN);
+                    present_choice(0, BENCH, UP_OR_DOWN);
+                present_choice(0, BENCH, UP_OR_DOWN); /* no: face up */
+}
+
+static void days_script(void)
+{
+    passed(6, ANYONE, 0);
+        present(2, ANYONE, LOG_ENTRY);
+            present(3, ANYONE, 0);
+                passed(7, ANYONE, 0); /* drying or not */
+                    passed(0, 0, 0);
+                passed(6, BENCH, 0); /* the bench asks which side is up on day 0 */
+                    counting_rule();
+                    present(12, BENCH, 0);
+        present(3, ANYONE, 0); /* the entry: drying, for 21 days */
+            present_choice(0, ANYONE, DRYING);
+            present(12, BENCH, 21);
 }
 
 /* ---- */
@@ -484,6 +564,7 @@ int main(int count, char **words)
     put(&bytes, own_words);
     save(words[1], "own-words", "words", &bytes);
     as_written(words[1], "whose-hands", hands_types, hands_script);
+    as_written(words[1], "drying-days", days_types, days_script);
     if (count == 3)
         as_written(words[2], ".", panel_types, first_panel_script);
     return 0;

@@ -19,8 +19,8 @@
 
 #include "wigneld_office.h"
 
-#if WIGNELD_FORMAT != 3
-#error "this rewrites to form 3"
+#if WIGNELD_FORMAT != 4
+#error "this rewrites to form 4"
 #endif
 
 /* A file's bytes: one more than the longest of any form, so that an over-long file is refused by the calls themselves. */

@@ -22,13 +22,14 @@ extern "C" {
 #endif
 
 /* Raised whenever a constant, a prototype or an answer changes. */
-#define WIGNELD_VERSION 8
+#define WIGNELD_VERSION 9
 
 /* The form of rows and records. Raised whenever a width below changes, or what a byte of a record means: files of another form
-   are to be rewritten before they are lent. No file says its form, so keep it beside them. In form 2 type records had 4 bytes and
+   are to be rewritten before they are lent. No file says its form, so keep it beside them. Form 3 had no numbers, and its sheet
+   records had 4 bytes: its groups, types and scripts are in form 4 as they are. In form 2 type records had 4 bytes and
    script records 6: those below without creators. In form 1, of the same widths, byte 1 of a recursion was 0. wigneld_office.h has
    the calls that rewrite such files, and their order. */
-#define WIGNELD_FORMAT 3
+#define WIGNELD_FORMAT 4
 
 /*
  * The groups table: rows, one for each group, numbered from 0. A row is a word of 4 bytes, lowest byte first: byte 0 has bits 0 to 7,
@@ -43,7 +44,7 @@ extern "C" {
  *     byte            0      1   2    3   4                            5    6   7
  *     type record     kind   r   ir   0   c                            ic
  *     script record   kind   r   ir   0   number, lowest byte first         c   ic
- *     sheet record    kind   r   ir   0
+ *     sheet record    kind   r   ir   0   number, lowest byte first
  *
  * The readers r are who may read an object, the indirect readers ir who may be influenced by it; both are groups, ir at or below r.
  *
@@ -58,7 +59,7 @@ extern "C" {
 #define WIGNELD_AT_ZERO 3
 
 /*
- * The types table: whole types one after another. Each but a unit is followed by its left and then its right type. Every record
+ * The types table: whole types one after another. A sum, a pair and a function are followed by their left and then their right type. Every record
  * starts a type and is named by its index, counted from 0.
  */
 #define WIGNELD_TYPE_RECORD_BYTES 6
@@ -69,6 +70,7 @@ extern "C" {
 #define WIGNELD_TYPE_SUM 1
 #define WIGNELD_TYPE_PAIR 2
 #define WIGNELD_TYPE_FUNCTION 3 /* left: its parameter; right: its result */
+#define WIGNELD_TYPE_NUMBER 4   /* a whole number, 0 to WIGNELD_MOST_NUMBER */
 
 /*
  * A script: one term, each record followed by its operands in order. Fields that the kind doesn't name are 0.
@@ -85,10 +87,17 @@ extern "C" {
  *                         a binder
  *     protect             the protected                       ir, ic
  *     recursion           body, under a binder                r, number: function type
+ *     literal             none                                r, ir, c, ic, number: its value
+ *     sum of two          first, second                       r
+ *     less than           first, second                       r, number: a sum of two units
  *
  * r of an application, a projection or a case is the group that reads: what comes out is raised by ir of the object read, and its
  * creators are lowered by ic of that object and by this group. A protect raises by its ir and lowers by its ic. r of a recursion is
  * the group that it calls itself as, whoever calls it; it is at or above r of the function type.
+ *
+ * A sum of two numbers and a comparison read both, as r: what comes out is an object that anyone may read and that this group made,
+ * raised and lowered by the first and then by the second. A total over WIGNELD_MOST_NUMBER is WIGNELD_MOST_NUMBER. Less than gives
+ * the first injection where the first number is less, otherwise the second, of a unit with the groups of that side of the named type.
  *
  * A case with WIGNELD_OWN_TYPE finds its result type: the lowest at or above the types of both branches, which has to exist
  * (question 31) and need not stand in the types table. Its operands, all three, are two levels below it and not one.
@@ -110,12 +119,19 @@ extern "C" {
 #define WIGNELD_KIND_CASE 9
 #define WIGNELD_KIND_PROTECT 10
 #define WIGNELD_KIND_RECURSION 11
+#define WIGNELD_KIND_LITERAL 12
+#define WIGNELD_KIND_SUM 13
+#define WIGNELD_KIND_LESS 14
+
+#define WIGNELD_MOST_NUMBER 65535
 
 #define WIGNELD_OWN_TYPE 65535 /* the number of a case that finds its result type; no types table has so many records */
 
 /* A sheet: a record for each object of a value that is shown, in the script's order. A closed one has groups 0 and stands for its
-   object and every part of it. Creators aren't shown: a client reads them in the value. */
-#define WIGNELD_SHEET_RECORD_BYTES 4
+   object and every part of it. The number is a shown literal's value, and 0 of all else. Creators aren't shown: a client reads them
+   in the value. */
+#define WIGNELD_SHEET_RECORD_BYTES 6
+#define WIGNELD_SHEET_AT_NUMBER 4
 
 #define WIGNELD_SHEET_UNIT 0
 #define WIGNELD_SHEET_FIRST 1
@@ -123,6 +139,7 @@ extern "C" {
 #define WIGNELD_SHEET_PAIR 3
 #define WIGNELD_SHEET_FUNCTION 4 /* its body isn't shown */
 #define WIGNELD_SHEET_CLOSED 5
+#define WIGNELD_SHEET_NUMBER 6
 
 /* Limits: groups, records of a types table, of one type and of a script, depth of a script. Its outermost record has depth 1, and an
    operand that of its node and one more; of a case that finds its type, two more. */
@@ -155,7 +172,7 @@ extern "C" {
  * pthread_attr_setstacksize(&attributes, PTHREAD_STACK_MIN + WIGNELD_CHECK_STACK_BYTES) is enough for a thread that calls
  * wigneld_check from a shallow function.
  */
-#define WIGNELD_CHECK_STACK_BYTES 86016
+#define WIGNELD_CHECK_STACK_BYTES 90112
 #define WIGNELD_RUN_STACK_BYTES 69632
 #define WIGNELD_SHEET_STACK_BYTES 40960
 
@@ -327,7 +344,7 @@ static inline const char *wigneld_asked(unsigned question)
         none,                                                              /* 29 */
         none,                                                              /* 30 */
         "the branches of a case that finds its type have a common one",    /* 31 */
-        "the table of words has 72 bytes",                                 /* 32 */
+        "the table of words has 84 bytes",                                 /* 32 */
         "a word is 1 to 12 letters a to z and then zero bytes",            /* 33 */
         "a word is none of the earlier ones",                              /* 34 */
         none,                                                              /* 35 */

@@ -51,7 +51,7 @@ static inline unsigned wigneld_comparison(uint64_t answer)
 /*
  * Files from before this form. Their types have records of 4 bytes (kind, r, ir, 0) and their scripts records of 6 (kind, r, ir, 0,
  * number); the groups table is as ever. The three calls below read these old records, and nothing else does. A folder comes to form
- * 3 in this order, whatever is in it:
+ * 4 in this order, whatever is in it:
  *
  *     1. wigneld_write_callers    each script that was saved in form 1, over the old types
  *     2. wigneld_rewrite_script   each script, over the old types
@@ -60,8 +60,9 @@ static inline unsigned wigneld_comparison(uint64_t answer)
  * A script saved in form 2 skips the first. What passed questions 2 to 19 then passes here, and is checked and run as it was: with
  * the same type, its creators group 0, or refused by the same question at the same place; with the same end, steps and records, in
  * buffers of as many records. So a studio's files can be rewritten in one night without anybody looking at a page. What was refused
- * then is refused here by the same question at the same place and is not rewritten, but for what may stand in a script since: a
- * recursion's own group, and a case that finds its type. examples/rewrite.c does a folder.
+ * then is refused here by the same question at the same place and is not rewritten, but for what may stand in a file since: a
+ * recursion's own group, a case that finds its type, and numbers. examples/rewrite.c does a folder. What was saved in form 3 is in
+ * form 4 as it is.
  */
 #define WIGNELD_OLD_TYPE_RECORD_BYTES 4
 #define WIGNELD_OLD_SCRIPT_RECORD_BYTES 6
@@ -78,8 +79,8 @@ static inline unsigned wigneld_comparison(uint64_t answer)
 uint64_t wigneld_write_callers(const uint8_t *types, size_t types_length, uint8_t *script, size_t script_length);
 
 /*
- * Brings a script of form 2 to form 3: questions 2 to 19 of the tables and the script, all of form 2, and then 27, whether
- * `rewritten` has room for as many records of form 3 (WIGNELD_SCRIPT_LONGEST_BYTES are always enough). 13 is asked without the
+ * Brings a script of form 2 to form 4: questions 2 to 19 of the tables and the script, all of form 2, and then 27, whether
+ * `rewritten` has room for as many records of form 4 (WIGNELD_SCRIPT_LONGEST_BYTES are always enough). 13 is asked without the
  * buffers of a run, and 36 is never answered no. Accepted: the record count, which wigneld_count reads. The front of `rewritten`
  * then holds the script's records, each with group 0 as c and ic; later bytes are kept. A refusal writes nothing.
  */
@@ -87,8 +88,8 @@ uint64_t wigneld_rewrite_script(const uint8_t *groups, size_t groups_length, con
                                 const uint8_t *script, size_t script_length, uint8_t *rewritten, size_t rewritten_length);
 
 /*
- * Brings a types table of form 1 or 2 to form 3: questions 2 to 12 and then 27, whether `rewritten` has room for as many records of
- * form 3 (WIGNELD_TYPES_LONGEST_BYTES are always enough). The rest is as for a script. Types keep their indexes.
+ * Brings a types table of form 1 or 2 to form 4: questions 2 to 12 and then 27, whether `rewritten` has room for as many records of
+ * form 4 (WIGNELD_TYPES_LONGEST_BYTES are always enough). The rest is as for a script. Types keep their indexes.
  */
 uint64_t wigneld_rewrite_types(const uint8_t *groups, size_t groups_length, const uint8_t *types, size_t types_length,
                                uint8_t *rewritten, size_t rewritten_length);
