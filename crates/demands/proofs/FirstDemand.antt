@@ -18,10 +18,11 @@ use Rattle.rules.specs.Step.{End}
 use Rattle.rules.specs.Run.{Ran}
 use Rattle.rules.specs.Sheet.{sheet}
 use Rattle.rules.specs.Calls.{zeros, q1, q25, q26, q27, groups_check, types_check, comparing, script_check, checking, answer_after, work_after, stepping, written_after, running, first_after, scratch_after, sheeting, sheet_after}
+use Rattle.rules.specs.Profile.{ok39, q39, profile_checking}
 use Rattle.rules.specs.Rewriting.{widen_types, widen_script, old_types_check, rewriting_types, rewriting_script, rewritten_after}
 use Rattle.demands.specs.Questions.{question, of_groups, from_9, of_types, from_14, of_script, of_old_types, of_old_script, Checks}
 use Rattle.demands.specs.Demands.{Demand1}
-use Rattle.demands.proofs.Deciding.{Own, Decided, decides, ask_own, each_own, exactly_own, decided_one, decided_then, decided_yes, checks_more, Numbers, refusal_number}
+use Rattle.demands.proofs.Deciding.{Own, Decided, decides, ask_own, each_own, exactly_own, decided_one, decided_then, decided_yes, taken_together, checks_more, Numbers, refusal_number}
 use Rattle.demands.proofs.Places.{typing_placed, placed_refusal}
 use Rattle.demands.proofs.OldQuestions.{after_8, after_13, old_types_asked, old_script_asked}
 
@@ -108,6 +109,17 @@ unfolding checking
 check_asks g t s work answer =
     checks_more (q1 work answer) (script_check [] g t s) (typing (properties_of g) (type_at t) [] 0 (term s)) (decided_one (own_1 work answer)) (script_decided [] g t s)
 
+profile_asks : (g t s : Bytes) (work answer : ℕ)
+    → Checks (question 1 (q1 work answer) ∷ [] ++ of_groups g ++ of_types g t ++ of_script [] g t s ++ (question 39 (q39 s) ∷ []))
+    (typing (properties_of g) (type_at t) [] 0 (term s))
+    (profile_checking work answer g t s)
+unfolding profile_checking
+profile_asks g t s work answer =
+    let typed = typing (properties_of g) (type_at t) [] 0 (term s) in
+    rw (taken_together (script_check [] g t s) (q39 s) typed)
+    (checks_more (q1 work answer) (◌>>◌ (script_check [] g t s) (q39 s)) typed (decided_one (own_1 work answer))
+    (decided_then (script_check [] g t s) (q39 s) (script_decided [] g t s) (decided_one (each_own 39 (records s) (ok39 s)))))
+
 step_decided : (g t s : Bytes) (room : ℕ) → Decided (of_groups g ++ of_types g t ++ of_script [] g t s) (stepping g t s room)
 unfolding stepping
 step_decided g t s room = decided_then (script_check [] g t s) _ (script_decided [] g t s) (decided_yes _)
@@ -163,12 +175,18 @@ first_demand g t s = record {
   check = check_asks g t s;
   typing_asks = λ q place e.
       placed_refusal (typing (properties_of g) (type_at t) [] 0 (term s)) (typing_placed (properties_of g) (type_at t) (size (term s)) [] 0 (term s) (omega arith)) e;
+  profile = profile_asks g t s;
   step = λ room. decides (step_decided g t s room);
   run = λ budget first scratch. decides (run_decided g t s budget first scratch);
   page = λ group room. decides (page_decided g t s group room);
   types_rewriting = λ room. decides (types_rewriting_decided g t room);
   script_rewriting = λ room. decides (script_rewriting_decided g t s room);
   check_keeps = λ work answer q place e old. (
+    ap (λ (x : Answer Ty). answer_after x old) e,
+    λ l. ap (λ (x : Answer Ty). work_after x old) e ∙ ap (λ (b : Bool). cond b (zeros (length old)) old) l,
+    λ l. ap (λ (x : Answer Ty). work_after x old) e ∙ ap (λ (b : Bool). cond b (zeros (length old)) old) l,
+  );
+  profile_keeps = λ work answer q place e old. (
     ap (λ (x : Answer Ty). answer_after x old) e,
     λ l. ap (λ (x : Answer Ty). work_after x old) e ∙ ap (λ (b : Bool). cond b (zeros (length old)) old) l,
     λ l. ap (λ (x : Answer Ty). work_after x old) e ∙ ap (λ (b : Bool). cond b (zeros (length old)) old) l,

@@ -18,6 +18,7 @@ use Rattle.rules.specs.Sheet.{sheet}
 use Rattle.rules.specs.Calls.{zeros, q1, q25, q26, q27, groups_check, types_check, comparing, script_check, checking, type_bytes, answer_after, work_after, stepping, written_after, running, run_report, first_after, scratch_after, sheeting, sheet_after}
 use Rattle.rules.specs.Rewriting.{widen_types, widen_script, rewriting_types, rewriting_script, rewritten_after}
 use Rattle.rules.specs.Reach.{verdict, Accepted}
+use Rattle.rules.specs.Profile.{q39, profile_checking}
 use Rattle.demands.specs.Runs.{MovesTo, Repeats, Reaches}
 use Rattle.demands.specs.Questions.{question, of_groups, of_types, of_script, of_old_types, of_old_script, Decides, Checks}
 
@@ -33,6 +34,11 @@ pub record Demand1 (g t s : Bytes) : Type 0 where
   pub check : (work answer : ℕ)
       → Checks (question 1 (q1 work answer) ∷ [] ++ of_groups g ++ of_types g t ++ of_script [] g t s) (typing (properties_of g) (type_at t) [] 0 (term s))
       (checking work answer g t s)
+  -- item 12: "39 put after 19"
+  pub profile : (work answer : ℕ)
+      → Checks (question 1 (q1 work answer) ∷ [] ++ of_groups g ++ of_types g t ++ of_script [] g t s ++ (question 39 (q39 s) ∷ []))
+      (typing (properties_of g) (type_at t) [] 0 (term s))
+      (profile_checking work answer g t s)
   -- typing asks its questions in the order of its definition, and each of a record of the script
   pub typing_asks : (q place : ℕ) → typing (properties_of g) (type_at t) [] 0 (term s) ≡ refused q place → (of_typing q ≡ true) × (place < size (term s))
   pub step : (room : ℕ) → Decides (of_groups g ++ of_types g t ++ of_script [] g t s) (stepping g t s room)
@@ -54,6 +60,10 @@ pub record Demand1 (g t s : Bytes) : Type 0 where
       → (answer_after (checking work answer g t s) old ≡ old)
       × (of_typing q ≡ false → work_after (checking work answer g t s) old ≡ old)
       × (of_typing q ≡ true → work_after (checking work answer g t s) old ≡ zeros (length old))
+  pub profile_keeps : (work answer q place : ℕ) → profile_checking work answer g t s ≡ refused q place → (old : Bytes)
+      → (answer_after (profile_checking work answer g t s) old ≡ old)
+      × (of_typing q ≡ false → work_after (profile_checking work answer g t s) old ≡ old)
+      × (of_typing q ≡ true → work_after (profile_checking work answer g t s) old ≡ zeros (length old))
   pub step_keeps : (room q place : ℕ) → stepping g t s room ≡ refused q place → (old : Bytes) → written_after (stepping g t s room) old ≡ old
   pub run_keeps : (budget first scratch q place : ℕ) → running g t s budget first scratch ≡ refused q place → (old : Bytes)
       → (first_after (running g t s budget first scratch) old ≡ old) × (scratch_after (running g t s budget first scratch) old ≡ old)

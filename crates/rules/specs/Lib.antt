@@ -13,6 +13,7 @@ pub mod Sheet
 pub mod Calls
 pub mod Rewriting
 pub mod Reach
+pub mod Profile
 pub mod Words
 pub mod Report
 pub mod Cases

@@ -45,9 +45,9 @@ word_limit = 7
 abbrev pub words_length : ℕ
 words_length = word_limit * word_width
 
--- the last question: 36, of creators
+-- the last question: 39, of the profile
 abbrev pub last_question : ℕ
-last_question = 36
+last_question = 39
 
 -- Question 1's lengths, 378 and 96,768 bytes: a type for the answer, and a type for each level of a script for the work.
 abbrev pub answer_length : ℕ
