@@ -1,7 +1,7 @@
 -- The numbers that the documents give the questions.
 use Rattle.std.specs.Prelude.{ℕ}
 use Rattle.answer.specs.declared.Question.{Question}
-use Rattle.answer.specs.declared.Question.TheVariants.{BufferLengths, GroupsLength, BitsInTable, LowestBit, Transitive, Joins, LowestGroup, TypesLength, TypeFields, TypeReaders, WholeTypes, TypeLengths, ScriptLength, Fields, Groups, NamedTypes, OneTerm, Depth, Scope, Former, Reader, Wanted, Recursion, FoundLength, Given, Value, Room, CommonType, WordsLength, Letters, DistinctWords, Creators}
+use Rattle.answer.specs.declared.Question.TheVariants.{BufferLengths, GroupsLength, BitsInTable, LowestBit, Transitive, Joins, LowestGroup, TypesLength, TypeFields, TypeReaders, WholeTypes, TypeLengths, ScriptLength, Fields, Groups, NamedTypes, OneTerm, Depth, Scope, Former, Reader, Wanted, Recursion, FoundLength, Given, Value, Room, CommonType, WordsLength, Letters, DistinctWords, Creators, Profile}
 
 abbrev pub number : Question → ℕ
 number BufferLengths = 1
@@ -36,3 +36,4 @@ number WordsLength = 32
 number Letters = 33
 number DistinctWords = 34
 number Creators = 36
+number Profile = 39

@@ -42,6 +42,7 @@ pub enum Question {
     Letters = 33,
     DistinctWords = 34,
     Creators = 36,
+    Profile = 39,
 }
 
 impl Question {
