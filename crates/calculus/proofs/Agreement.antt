@@ -7,6 +7,7 @@ use Rattle.calculus.specs.Types.{Ty}
 use Rattle.calculus.specs.Terms.{Term, var, unit, lam, pair, inj, app, proj, case, protect, mu, literal, reckon, is_value}
 use Rattle.calculus.specs.Numbers.{literal_of}
 use Rattle.calculus.specs.Reduction.{
+  Contracts,
   c_protect,
   Context,
   hole,
@@ -75,10 +76,14 @@ reduces_plug E r = record {
   after = ap (plug E) r.after ∙ sym (plug_compose E r.context r.contractum);
 }
 
+pub contracts_reduces : {S : Security} {tab : ℕ → Ty} {e e' : Term} → Contracts S tab e e' → Reduces S tab e e'
+unfolding plug
+contracts_reduces c = record { context = hole; redex = _; contractum = _; contracts = c; before = refl; after = refl }
+
 module _ (S : Security) (tab : ℕ → Ty) where
   redex_says : {e : Term} {x : Outcome} → Redex S tab e x → Says S tab e x
   unfolding plug
-  redex_says (contracting c) = record { context = hole; redex = _; contractum = _; contracts = c; before = refl; after = refl }
+  redex_says (contracting c) = contracts_reduces c
   redex_says (denying d) = record { context = hole; position = _; holds = d; whole = refl }
   redex_says (sticking w) = record { context = hole; position = _; holds = w; whole = refl }
 

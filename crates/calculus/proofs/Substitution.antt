@@ -3,9 +3,11 @@ use mathlib.Core.Path.{◌≡◌, refl, ap, ◌∙◌}
 use mathlib.Core.Bool.{true, false}
 use mathlib.Core.List.{List, [], ◌∷◌, ◌++◌}
 use mathlib.Core.Option.{some, some-injective, none-ne-some}
-use Prim.Native.Nat.{ℕ, suc, zero}
+use Prim.Native.Nat.{ℕ, suc, zero, ◌≤◌, ◌<◌}
+use native.Mathlib.Omega.{arith}
 use lib.ListN.{length}
 use lib.Dec.{eqb, eqb-zero-suc, eqb-suc-suc}
+use Rattle.std.proofs.lemmas.Bool.{ne_eqb}
 use Rattle.calculus.specs.Security.{Security}
 use Rattle.calculus.specs.Types.{Ty}
 use Rattle.calculus.specs.Terms.{Term, var, subst}
@@ -48,3 +50,32 @@ module _ {S : Security} {tab : ℕ → Ty} {v : Term} {s : Ty} (hv : HasType S t
 
   pub substitution : (Δ : List Ty) {e : Term} {t : Ty} → HasType S tab (Δ ++ (s ∷ [])) e t → HasType S tab Δ (subst (length Δ) v e) t
   substitution Δ p = substitution_in Δ p refl
+
+-- A term has no variable past those that it is typed with.
+
+lookup_length : (Γ : List Ty) (n : ℕ) {t : Ty} → lookup Γ n ≡ some t → n < length Γ
+unfolding lookup
+lookup_length [] n {t} h = absurd (none-ne-some t h)
+lookup_length (s ∷ Γ) zero h = omega arith
+lookup_length (s ∷ Γ) (suc n) h = let r = lookup_length Γ n h in omega arith
+
+pub nearer : (n k : ℕ) → n < k → eqb n k ≡ false
+nearer n k h = ne_eqb n k λ e. omega arith
+
+pub subst_nothing : {S : Security} {tab : ℕ → Ty} {Γ : List Ty} {e : Term} {t : Ty} (k : ℕ) (v : Term) → HasType S tab Γ e t → length Γ ≤ k
+    → subst k v e ≡ e
+unfolding subst
+subst_nothing k v (t_sub p b h) l = subst_nothing k v p l
+subst_nothing k v (t_var {Γ = Γ} {n = n} h) l = let r = lookup_length Γ n h in rw (nearer n k (omega arith))
+subst_nothing k v (t_unit h) l = refl
+subst_nothing k v (t_lam h p f) l = rw (subst_nothing (suc k) v p (omega arith))
+subst_nothing k v (t_pair h p q f) l = rw (subst_nothing k v p l, subst_nothing k v q l)
+subst_nothing k v (t_inj h e p) l = rw (subst_nothing k v p l)
+subst_nothing k v (t_app p q m) l = rw (subst_nothing k v p l, subst_nothing k v q l)
+subst_nothing k v (t_proj p m) l = rw (subst_nothing k v p l)
+subst_nothing k v (t_case p m r q q') l =
+    rw (subst_nothing k v p l, subst_nothing (suc k) v q (omega arith), subst_nothing (suc k) v q' (omega arith))
+subst_nothing k v (t_protect h p) l = rw (subst_nothing k v p l)
+subst_nothing k v (t_mu e m h p) l = rw (subst_nothing (suc k) v p (omega arith))
+subst_nothing k v (t_literal h) l = refl
+subst_nothing k v (t_reckon p m q n x) l = rw (subst_nothing k v p l, subst_nothing k v q l)

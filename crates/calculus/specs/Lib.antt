@@ -6,6 +6,7 @@ pub mod Common
 pub mod Terms
 pub mod Numbers
 pub mod Reduction
+pub mod Runs
 pub mod Stuck
 pub mod Typing
 pub mod Relabelling

@@ -1,0 +1,5 @@
+pub mod Closing
+pub mod Reaching
+pub mod Reducibility
+pub mod Ending
+pub mod Termination
