@@ -76,6 +76,7 @@ reduces_plug E r = record {
   after = ap (plug E) r.after ∙ sym (plug_compose E r.context r.contractum);
 }
 
+-- A contraction is a reduction in the empty context.
 pub contracts_reduces : {S : Security} {tab : ℕ → Ty} {e e' : Term} → Contracts S tab e e' → Reduces S tab e e'
 unfolding plug
 contracts_reduces c = record { context = hole; redex = _; contractum = _; contracts = c; before = refl; after = refl }
