@@ -7,6 +7,7 @@ use Prim.Native.Nat.{ℕ}
 use lib.Dec.{eqb}
 use Rattle.rules.specs.Answer.{Answer, accepted, refused, ◌>>◌, ask, refused_at, each, first_below}
 use Rattle.rules.specs.Script.{exactly}
+use Rattle.rules.proofs.Asked.{regroup}
 use Rattle.demands.proofs.Answers.{accepted≢refused, number_inj, place_inj}
 use Rattle.demands.specs.Questions.{Question, question, AllYes, none_left, yes, FirstNo, this_one, a_later, Decides, Checks}
 
@@ -87,14 +88,9 @@ decided_then {A} {qs} {rs} m n (refuses F) D = refuses (before_more rs F)
 pub decided_yes : {A : Type 0} (a : A) → Decided [] (accepted a)
 decided_yes a = says_yes none_left
 
--- One question after another, taken together in another way.
-pub taken_together : {A : Type 0} (l m : Answer (Unit {0})) (n : Answer A) → ◌>>◌ l (◌>>◌ m n) ≡ ◌>>◌ (◌>>◌ l m) n
-taken_together (accepted u) m n = refl
-taken_together (refused q p) m n = refl
-
 pub checks_more : {A : Type 0} {qs rs : List Question} (l m : Answer (Unit {0})) (n : Answer A) → Decided qs l → Decided rs m
     → Checks (qs ++ rs) n (◌>>◌ l (◌>>◌ m n))
-checks_more l m n D E = record { asked = ◌>>◌ l m; decides = decides (decided_then l m D E); goes_on = taken_together l m n }
+checks_more l m n D E = record { asked = ◌>>◌ l m; decides = decides (decided_then l m D E); goes_on = sym (regroup l m n) }
 
 -- a refusal has the number of one of the questions: what holds of each of these holds of it
 unfoldable pub Numbers : (ℕ → Type 0) → List Question → Type 0

@@ -20,9 +20,10 @@ use Rattle.rules.specs.Sheet.{sheet}
 use Rattle.rules.specs.Calls.{zeros, q1, q25, q26, q27, groups_check, types_check, comparing, script_check, checking, answer_after, work_after, stepping, written_after, running, first_after, scratch_after, sheeting, sheet_after}
 use Rattle.rules.specs.Profile.{ok39, q39, profile_checking}
 use Rattle.rules.specs.Rewriting.{widen_types, widen_script, old_types_check, rewriting_types, rewriting_script, rewritten_after}
+use Rattle.rules.proofs.Asked.{regroup}
 use Rattle.demands.specs.Questions.{question, of_groups, from_9, of_types, from_14, of_script, of_old_types, of_old_script, Checks}
 use Rattle.demands.specs.Demands.{Demand1}
-use Rattle.demands.proofs.Deciding.{Own, Decided, decides, ask_own, each_own, exactly_own, decided_one, decided_then, decided_yes, taken_together, checks_more, Numbers, refusal_number}
+use Rattle.demands.proofs.Deciding.{Own, Decided, decides, ask_own, each_own, exactly_own, decided_one, decided_then, decided_yes, checks_more, Numbers, refusal_number}
 use Rattle.demands.proofs.Places.{typing_placed, placed_refusal}
 use Rattle.demands.proofs.OldQuestions.{after_8, after_13, old_types_asked, old_script_asked}
 
@@ -116,7 +117,7 @@ profile_asks : (g t s : Bytes) (work answer : ℕ)
 unfolding profile_checking
 profile_asks g t s work answer =
     let typed = typing (properties_of g) (type_at t) [] 0 (term s) in
-    rw (taken_together (script_check [] g t s) (q39 s) typed)
+    rw (regroup (script_check [] g t s) (q39 s) typed) at
     (checks_more (q1 work answer) (◌>>◌ (script_check [] g t s) (q39 s)) typed (decided_one (own_1 work answer))
     (decided_then (script_check [] g t s) (q39 s) (script_decided [] g t s) (decided_one (each_own 39 (records s) (ok39 s)))))
 

@@ -30,3 +30,4 @@ pub mod GroupZero
 pub mod MigratedScripts
 pub mod Migration
 pub mod CommonTypes
+pub mod Profile

@@ -5,3 +5,4 @@ pub mod Comparison
 pub mod Closed
 pub mod Migration
 pub mod CommonTypes
+pub mod Profile
