@@ -1,9 +1,10 @@
-// Questions 13 to 17 and 36 of a script, one function each.
+// Questions 13 to 17, 36 and 39 of a script, one function each.
 
 #![tactic(auto)]
 
 ghost use Rattle.std.specs.Prelude.{◌≡◌, ◌&&◌, ◌<◌, eqb, ltb};
 ghost use Rattle.rules.specs.Script.{records, kind, is_object, ok14, ok15, ok36_object, ok16, sum_of_units, q13_of, q13, q14, q15, q36_objects, q16, q17};
+ghost use Rattle.rules.specs.Profile.{ok39, q39};
 ghost use Rattle.rules.specs.Types.{type_count, type_kind};
 ghost use Rattle.answer.specs.Said.{said};
 
@@ -187,4 +188,24 @@ pub fn question_17(script: &[u8]) -> Checked
     let count = records::record_count(script);
     let end = records::term_end(script, 0);
     answer::ask(Question::OneTerm, end.unwrap_or(count), end == Some(count))
+}
+
+// Is record i no recursion?
+#[tactic(auto, unfolding(rules::specs::Profile::ok39))]
+fn no_recursion(script: &[u8], i: usize) -> bool
+    requires { i < records script.now }
+    ensures { result ≡ ok39 script.now i }
+{
+    records::kind_at(script, i) != Some(Kind::Recursion)
+}
+
+// 39. No recursion? The profile of the scripts that always finish.
+pub fn question_39(script: &[u8]) -> Checked
+    ensures { said result ≡ q39 script.now }
+{
+    answer::each(
+        Question::Profile,
+        records::record_count(script),
+        |i| no_recursion(script, i),
+    )
 }
