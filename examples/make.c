@@ -5,7 +5,7 @@
  *     cc -std=c99 -Iinclude -o make examples/make.c target/staticlib/libwigneld_office.a && ./make examples
  *
  * A script is written in its own order, each record followed by its operands; the indent below follows the operands. All but the
- * last two examples were saved in an older form (WIGNELD_FORMAT): they are written as they were and rewritten by the engine's own calls.
+ * last three examples were saved in an older form (WIGNELD_FORMAT): they are written as they were and rewritten by the engine's own calls.
  * A second folder, if one is named, gets an example as it was saved in form 1.
  */
 #include <stdint.h>
@@ -15,7 +15,7 @@
 #include "wigneld_office.h"
 
 #if WIGNELD_FORMAT != 4
-#error "the last two examples are written in form 4"
+#error "the last three examples are written in form 4"
 #endif
 
 /* Who reads: anyone; the bench, where objects are treated; the lender's office; the registrar, who may read what either may. */
@@ -496,6 +496,41 @@ static void days_script(void)
             present(12, BENCH, 21);
 }
 
+/* ---- a line for the gallery's screen: in form 4, and without a recursion, so that it always finishes */
+
+enum { SHOWN = 0, CASE_DAY = 4 };
+
+static void screen_types(void)
+{
+    present_choice_type(ANYONE); /* SHOWN: on display, or taken down */
+    present_type(4, ANYONE);
+    present_type(2, ANYONE);     /* CASE_DAY: the days that a sheet has hung, and the bench's remark */
+        present_type(4, ANYONE);
+        present_choice_type(BENCH);
+}
+
+static void days_hung(void)
+{
+    passed(7, ANYONE, 0);
+        passed(0, 0, 0);
+}
+
+static void screen_script(void)
+{
+    passed(6, ANYONE, 0);
+        present(2, ANYONE, CASE_DAY);
+            present(3, ANYONE, 0);
+                passed(14, ANYONE, SHOWN); /* a sheet hangs for less than 90 days: on display */
+                    days_hung();
+                    present(12, ANYONE, 90);
+                passed(13, ANYONE, 0); /* and tomorrow's count */
+                    days_hung();
+                    present(12, ANYONE, 1);
+        present(3, ANYONE, 0); /* the entry: 21 days, with a remark of the bench's own */
+            present(12, ANYONE, 21);
+            present_choice(1, BENCH, CASE_DAY + 2);
+}
+
 /* ---- */
 
 static void put(struct bytes *into, void (*what)(void))
@@ -565,6 +600,7 @@ int main(int count, char **words)
     save(words[1], "own-words", "words", &bytes);
     as_written(words[1], "whose-hands", hands_types, hands_script);
     as_written(words[1], "drying-days", days_types, days_script);
+    as_written(words[1], "gallery-screen", screen_types, screen_script);
     if (count == 3)
         as_written(words[2], ".", panel_types, first_panel_script);
     return 0;

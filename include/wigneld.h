@@ -22,7 +22,7 @@ extern "C" {
 #endif
 
 /* Raised whenever a constant, a prototype or an answer changes. */
-#define WIGNELD_VERSION 9
+#define WIGNELD_VERSION 10
 
 /* The form of rows and records. Raised whenever a width below changes, or what a byte of a record means: files of another form
    are to be rewritten before they are lent. No file says its form, so keep it beside them. Form 3 had no numbers, and its sheet
@@ -275,7 +275,7 @@ static inline unsigned wigneld_place_kind(unsigned question)
         return WIGNELD_PLACE_ROW;
     case 9: case 10: case 11: case 12:
         return WIGNELD_PLACE_TYPE_RECORD;
-    case 14: case 15: case 16: case 17: case 18: case 19: case 20: case 21: case 22: case 23: case 24: case 31:
+    case 14: case 15: case 16: case 17: case 18: case 19: case 20: case 21: case 22: case 23: case 24: case 31: case 39:
         return WIGNELD_PLACE_SCRIPT_RECORD;
     case 36:
         return WIGNELD_PLACE_EITHER_RECORD;
@@ -304,8 +304,9 @@ static inline unsigned wigneld_place_kind_over(unsigned question, const uint8_t 
                : WIGNELD_PLACE_SCRIPT_RECORD;
 }
 
-/* The last question there is. 28 to 30 and 35 are none yet; 32 to 34 are the report program's, of its file of words. */
-#define WIGNELD_LAST_QUESTION 36
+/* The last question there is. 28 to 30, 35, 37 and 38 are none yet; 32 to 34 are the report program's, of its file of words, and 39 is
+   wigneld_check_profile's (wigneld_office.h). */
+#define WIGNELD_LAST_QUESTION 39
 
 /* A question in a few words: what is not so, when it is the one that an answer names. */
 static inline const char *wigneld_asked(unsigned question)
@@ -349,6 +350,9 @@ static inline const char *wigneld_asked(unsigned question)
         "a word is none of the earlier ones",                              /* 34 */
         none,                                                              /* 35 */
         "a record's indirect creators are at or below its creators",       /* 36 */
+        none,                                                              /* 37 */
+        none,                                                              /* 38 */
+        "a record is no recursion, so that the script finishes",           /* 39 */
     };
 
     return question <= WIGNELD_LAST_QUESTION ? words[question] : none;

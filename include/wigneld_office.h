@@ -1,16 +1,16 @@
 /*
- * Wigneld for the office: the comparison of two types of a types table, and the rewriting of files from before this form, for C99
- * and C++ on x86-64 Linux.
+ * Wigneld for the office: the comparison of two types of a types table, the check of scripts that always finish, and the rewriting
+ * of files from before this form, for C99 and C++ on x86-64 Linux.
  *
  * Tables and scripts, and how a refusal is read, are as in wigneld.h. Every function here is total too: any bytes of any length get
- * an answer. Nothing is allocated, kept or printed, and nothing is written but what is rewritten, so calls from several threads are
+ * an answer. Nothing is allocated, kept or printed, and nothing is written but what is lent for it, so calls from several threads are
  * apart as long as that is.
  *
  * What the caller owes, since no check can see it from inside:
  *  - each pointer has as many bytes behind it as the length after it says; NULL only with length 0;
- *  - a buffer that a call writes to (script of wigneld_write_callers, rewritten) overlaps none of the call's other slices;
+ *  - a buffer that a call writes to (work, answer, script of wigneld_write_callers, rewritten) overlaps none of the call's other slices;
  *  - nobody else writes any of them while the call runs;
- *  - the stack has room (WIGNELD_COMPARE_STACK_BYTES and the three after it).
+ *  - the stack has room (WIGNELD_COMPARE_STACK_BYTES and the four after it).
  */
 #ifndef WIGNELD_OFFICE_H
 #define WIGNELD_OFFICE_H
@@ -29,6 +29,7 @@ extern "C" {
 #define WIGNELD_WRITE_CALLERS_STACK_BYTES 512
 #define WIGNELD_REWRITE_TYPES_STACK_BYTES 28672
 #define WIGNELD_REWRITE_SCRIPT_STACK_BYTES 118784
+#define WIGNELD_CHECK_PROFILE_STACK_BYTES 90112
 
 /*
  * Compares two types of one table, each named by the index of its first record: questions 2 to 12 and 25, whose place is 0 for the
@@ -47,6 +48,18 @@ static inline unsigned wigneld_comparison(uint64_t answer)
 {
     return wigneld_question(answer) != 0 ? WIGNELD_COMPARE_REFUSED : (unsigned)answer;
 }
+
+/*
+ * Checks a script for a public screen, which may not hang: wigneld_check, with 39 asked after 19 at the first record that is a
+ * recursion. What it accepts wigneld_check accepts with the same type; buffers, answer and what they hold afterwards are as there.
+ *
+ * A script that it accepts always finishes. There is a number of steps after which it is a value, and a run with a budget of at
+ * least that many ends with WIGNELD_END_VALUE, or with WIGNELD_END_TOO_BIG if a term on the way is too large or too deep. Nothing is
+ * said of how many steps they are.
+ */
+uint64_t wigneld_check_profile(const uint8_t *groups, size_t groups_length, const uint8_t *types, size_t types_length,
+                               const uint8_t *script, size_t script_length, uint8_t *work, size_t work_length, uint8_t *answer,
+                               size_t answer_length);
 
 /*
  * Files from before this form. Their types have records of 4 bytes (kind, r, ir, 0) and their scripts records of 6 (kind, r, ir, 0,

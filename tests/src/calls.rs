@@ -6,7 +6,7 @@
 use crate::groups::{read_groups, Group};
 use crate::limits::{ANSWER_BYTES, SCRIPT_BYTES, SHEET_BYTES, WORK_BYTES};
 use crate::refusal::{ask, Answer};
-use crate::script::read_script;
+use crate::script::{read_script, Term};
 use crate::sheet::sheet_of;
 use crate::steps::{self, is_value, End};
 use crate::types::{self, read_tables, Comparison, Tables};
@@ -45,9 +45,30 @@ pub fn check(
     work: &mut [u8],
     answer: &mut [u8],
 ) -> Answer<u32> {
-    // 1. Are work and answer buffer at least 96,768 and 378 bytes? (place 0)
-    ask(work.len() >= WORK_BYTES && answer.len() >= ANSWER_BYTES, 1, 0)?;
+    buffers_asked(work, answer)?;
     check_over(&read_tables(groups, types)?, script, work, answer)
+}
+
+/// 1. Are work and answer buffer at least 96,768 and 378 bytes? (place 0)
+fn buffers_asked(work: &[u8], answer: &[u8]) -> Answer<()> {
+    ask(work.len() >= WORK_BYTES && answer.len() >= ANSWER_BYTES, 1, 0)
+}
+
+/// Document 02, item 12: "The profile check is checking with 39 put after 19, at the first record
+/// of kind 11."
+pub fn check_profile(
+    groups: &[u8],
+    types: &[u8],
+    script: &[u8],
+    work: &mut [u8],
+    answer: &mut [u8],
+) -> Answer<u32> {
+    buffers_asked(work, answer)?;
+    let tables = read_tables(groups, types)?;
+    let term = read_script(&tables, script, &[])?;
+    let recursion = script.chunks(SCRIPT_BYTES).position(|record| record[0] == 11);
+    ask(recursion.is_none(), 39, recursion.unwrap_or(0) as u32)?;
+    find(&tables, &term, work, answer)
 }
 
 /// Checking from question 13 on.
@@ -58,9 +79,13 @@ pub fn check_over(
     answer: &mut [u8],
 ) -> Answer<u32> {
     let term = read_script(tables, script, &[])?;
-    // From here on typing has begun, whatever it answers.
+    find(tables, &term, work, answer)
+}
+
+/// Checking from question 20 on: typing has begun, whatever it answers.
+fn find(tables: &Tables, term: &Term, work: &mut [u8], answer: &mut [u8]) -> Answer<u32> {
     work.fill(0);
-    let found = type_of(tables, &term)?;
+    let found = type_of(tables, term)?;
     let bytes = found.write();
     answer[..bytes.len()].copy_from_slice(&bytes);
     Ok(found.size() as u32)

@@ -39,6 +39,13 @@ mod raw {
             types: *const u8, types_length: usize,
             first: u64, second: u64,
         ) -> u64;
+        pub fn wigneld_check_profile(
+            groups: *const u8, groups_length: usize,
+            types: *const u8, types_length: usize,
+            script: *const u8, script_length: usize,
+            work: *mut u8, work_length: usize,
+            answer: *mut u8, answer_length: usize,
+        ) -> u64;
         pub fn wigneld_write_callers(
             types: *const u8, types_length: usize,
             script: *mut u8, script_length: usize,
@@ -90,6 +97,29 @@ pub fn check(
 ) -> u64 {
     unsafe {
         raw::wigneld_check(
+            groups.as_ptr(),
+            groups.len(),
+            types.as_ptr(),
+            types.len(),
+            script.as_ptr(),
+            script.len(),
+            work.as_mut_ptr(),
+            work.len(),
+            answer.as_mut_ptr(),
+            answer.len(),
+        )
+    }
+}
+
+pub fn check_profile(
+    groups: &[u8],
+    types: &[u8],
+    script: &[u8],
+    work: &mut [u8],
+    answer: &mut [u8],
+) -> u64 {
+    unsafe {
+        raw::wigneld_check_profile(
             groups.as_ptr(),
             groups.len(),
             types.as_ptr(),

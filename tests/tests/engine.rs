@@ -56,7 +56,8 @@ fn compare_all(rng: &mut Rng, inputs: &Inputs) -> usize {
         (WORK_BYTES + rng.below(9), ANSWER_BYTES + rng.below(9))
     };
     let (work, answer) = (rng.bytes(work), rng.bytes(answer));
-    let _ = check_with(inputs, work, answer);
+    let _ = check_with(inputs, work.clone(), answer.clone());
+    let _ = check_profile_with(inputs, work, answer);
 
     let budget = match rng.below(8) {
         0 => 0,
@@ -93,9 +94,9 @@ fn compare_all(rng: &mut Rng, inputs: &Inputs) -> usize {
     }
     strip_script(&mut inputs.script.clone());
     strip_types(&mut inputs.types.clone());
-    // Four calls with lent buffers, two checks of tables, four and three look-ups, two strippings, the
+    // Five calls with lent buffers, two checks of tables, four and three look-ups, two strippings, the
     // rewriting.
-    15 + compare_rewriting(rng, &old_form(inputs))
+    16 + compare_rewriting(rng, &old_form(inputs))
 }
 
 /// The three rewriting calls on inputs of the old form.

@@ -5,7 +5,7 @@ use mathlib.Core.Logic.{◌↔◌}
 use mathlib.Core.List.{[], ◌∷◌}
 use Prim.Native.Nat.{ℕ, suc, zero, ◌≤◌, ◌<◌, min}
 use native.Mathlib.Omega.{arith}
-use borrow.Author.Tests.{eqb-true, eq-eqb}
+use borrow.Author.Tests.{eqb-true, eq-eqb, le-leb}
 use lib.Dec.{eqb}
 use Rattle.calculus.specs.Security.{Security}
 use Rattle.calculus.specs.Types.{Ty}
@@ -35,10 +35,10 @@ use Rattle.rules.proofs.TermCode.{term_shape, term_head}
 use Rattle.rules.proofs.RecordFields.{kind_is}
 use Rattle.rules.proofs.NodeQuestions.{asked_of_nodes}
 use Rattle.demands.specs.Profile.{Finishes, InProfile}
-use Rattle.demands.proofs.Answers.{accepted_inj, go_on, and_true}
+use Rattle.demands.proofs.Answers.{accepted_inj, asks, go_on, and_true}
 use Rattle.demands.proofs.Checked.{script_passed}
 use Rattle.demands.proofs.TypesTable.{tables}
-use Rattle.demands.proofs.SecondDemand.{only}
+use Rattle.demands.proofs.SecondDemand.{goes, only}
 
 -- 39 looks at one record
 ok39_record : (s : Bytes) (i : ℕ) → ok39 (record_at script_width s i) 0 ≡ ok39 s i
@@ -153,6 +153,13 @@ module _ (g t s : Bytes) (octets_g : Octets g) (octets_s : Octets s) where
           let same = accepted_inj (and_then asked _ k).1 in
           let e = sym same ∙ run_to_value room budget r h l (λ q. unmet (ap (λ (y : Ran). y.end) (sym same) ∙ q)) in
           (ap (λ (y : Ran). y.end) e, ap (λ (y : Ran). y.steps) e, ap (λ (y : Ran). y.last) e)
+
+-- longer buffers than question 1 asks answer as those that it asks
+pub longer_in_profile : (g t s : Bytes) (work answer : ℕ) → work_length ≤ work → answer_length ≤ answer
+    → profile_checking work answer g t s ≡ profile_checking work_length answer_length g t s
+unfolding profile_checking
+longer_in_profile g t s work answer l m =
+    goes (q1 work answer) _ (asks 1 0 _ (and_true (le-leb work_length work l) (le-leb answer_length answer m)))
 
 pub page_scripts : (g t s : Bytes) → Octets g → Octets s → InProfile g t s
 page_scripts g t s G O = record {

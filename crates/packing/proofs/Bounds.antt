@@ -12,6 +12,7 @@ use Rattle.rules.specs.Typing.{of_typing, typing}
 use Rattle.rules.specs.Sheet.{sheet}
 use Rattle.rules.specs.Words.{q32, q33, ok33, ok34, words_check}
 use Rattle.rules.specs.Calls.{q1, q25, q26, q27, groups_check, types_check, comparing, script_check, checking, stepping, running, sheeting}
+use Rattle.rules.specs.Profile.{ok39, q39, profile_checking}
 use Rattle.rules.specs.Rewriting.{widen_types, widen_script, old_types_check, old_script_check, rewriting_types, rewriting_script}
 use Rattle.rules.proofs.ScriptLength.{q13_fitting}
 use Rattle.rules.proofs.Scripts.{whole}
@@ -124,6 +125,11 @@ script_bounded rooms g t s =
     then (q18 s) _ (each_bounded 18 (records s) (ok18 (depths (term s))) (omega arith) (omega arith) n) λ e18.
     each_bounded 19 (records s) (ok19 (binders (term s)) s) (omega arith) (omega arith) n
 
+-- how many records a script has that passes
+script_records : (rooms : List ℕ) (g t s : Bytes) → script_check rooms g t s ≡ accepted tt → records s ≤ script_limit
+unfolding script_check
+script_records rooms g t s e = (q13_fitting rooms s (and_then (q13 rooms s) _ (and_then (types_check g t) _ e).1).0).limited
+
 pub step_bounded : (g t s : Bytes) (room : ℕ) → Bounded (stepping g t s room)
 unfolding stepping
 step_bounded g t s room = then (script_check [] g t s) _ (script_bounded [] g t s) λ e. bounded_yes
@@ -196,10 +202,21 @@ script_small rooms g t s o e =
     let f13 = (and_then (q13 rooms s) _ e13).0 in
     omega (arith, (whole rooms s o f13 (and_then (q14 s) _ e14).0 (and_then (q17 s) _ e17).0).sized, (q13_fitting rooms s f13).limited)
 
+-- typing of a script that has passed the questions before it
+typing_bounded : (g t s : Bytes) → Octets s → script_check [] g t s ≡ accepted tt → Bounded (typing (properties_of g) (type_at t) [] 0 (term s))
+typing_bounded g t s o e =
+    placed_bounded (typing (properties_of g) (type_at t) [] 0 (term s)) (typing_placed (properties_of g) (type_at t) (size (term s)) [] 0 (term s) (omega arith))
+    (script_small [] g t s o e)
+
 pub check_bounded : (g t s : Bytes) (work answer : ℕ) → Octets s → Bounded (checking work answer g t s)
 unfolding checking
 check_bounded g t s work answer o =
     then (q1 work answer) _ (front 1 (leb work_length work && leb answer_length answer) (omega arith) (omega arith)) λ e1.
+    then (script_check [] g t s) _ (script_bounded [] g t s) λ e19. typing_bounded g t s o e19
+
+pub profile_bounded : (g t s : Bytes) (work answer : ℕ) → Octets s → Bounded (profile_checking work answer g t s)
+unfolding profile_checking
+profile_bounded g t s work answer o =
+    then (q1 work answer) _ (front 1 (leb work_length work && leb answer_length answer) (omega arith) (omega arith)) λ e1.
     then (script_check [] g t s) _ (script_bounded [] g t s) λ e19.
-    placed_bounded (typing (properties_of g) (type_at t) [] 0 (term s)) (typing_placed (properties_of g) (type_at t) (size (term s)) [] 0 (term s) (omega arith))
-    (script_small [] g t s o e19)
+    then (q39 s) _ (each_bounded 39 (records s) (ok39 s) (omega arith) (omega arith) (script_records [] g t s e19)) λ e39. typing_bounded g t s o e19

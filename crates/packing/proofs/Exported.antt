@@ -13,13 +13,14 @@ use Rattle.rules.specs.Typing.{typing}
 use Rattle.rules.specs.Sheet.{sheet}
 use Rattle.rules.specs.Run.{Ran}
 use Rattle.rules.specs.Calls.{q1, q25, q26, q27, groups_check, types_check, script_check, checking, type_records, stepping, step_report, running, run_report, sheeting, sheet_records}
+use Rattle.rules.specs.Profile.{q39, profile_checking}
 use Rattle.rules.specs.Rewriting.{widen_types, widen_script, old_types_check, old_script_check, rewriting_types, rewriting_script, rewritten_records}
 use Rattle.demands.proofs.Answers.{accepted_inj}
 use Rattle.rules.proofs.Asked.{and_then, few_types}
 use Rattle.demands.proofs.TypesTable.{tables}
 use Rattle.packing.specs.Packed.{packed, compared, ended, step_ended, run_ended, Bounded, bounded_yes, bounded_no, Holds, holds_yes, holds_no}
 use Rattle.packing.proofs.Unpacked.{Reads, unended}
-use Rattle.packing.proofs.Bounds.{check_bounded, run_bounded, page_bounded, rewriting_types_bounded, rewriting_script_bounded, script_small}
+use Rattle.packing.proofs.Bounds.{check_bounded, profile_bounded, run_bounded, page_bounded, rewriting_types_bounded, rewriting_script_bounded, script_small}
 use Rattle.packing.proofs.Sizes.{Small, small_yes, small_no, no_binders, typing_small, Within, within_move, step_within, Ends, run_within, sheet_length}
 
 pub records_bounded : (a : Answer Ty) → Bounded a → Bounded (type_records a)
@@ -48,22 +49,30 @@ found_size : (a : Answer Ty) (s : Ty) → Small a → a ≡ accepted s → size_
 found_size (accepted s') s (small_yes l) e = omega (arith, ap size_t (accepted_inj e))
 found_size (refused q p) s small_no e = let z : ◌≡◌ {A = ℕ} 0 1 = cc in absurd (omega arith)
 
-check_size : (g t s : Bytes) (work answer : ℕ) (type : Ty) → Octets g → checking work answer g t s ≡ accepted type → size_t type ≤ type_limit
-unfolding checking script_check
-check_size g t s work answer type o e =
-    let e1 = (and_then (q1 work answer) _ e).1 in
-    let e2 = and_then (script_check [] g t s) _ e1 in
-    let T = tables g t o (and_then (types_check g t) _ e2.0).0 in
+typed_size : (g t s : Bytes) (type : Ty) → Octets g → script_check [] g t s ≡ accepted tt → typing (properties_of g) (type_at t) [] 0 (term s) ≡ accepted type
+    → size_t type ≤ type_limit
+unfolding script_check
+typed_size g t s type o e h =
+    let T = tables g t o (and_then (types_check g t) _ e).0 in
     found_size (typing (properties_of g) (type_at t) [] 0 (term s)) type
-    (typing_small (properties_of g) (type_at t) (λ i. leb-true (size_t (type_at t i)) type_limit (T.table.small i)) [] no_binders 0 (term s)) e2.1
+    (typing_small (properties_of g) (type_at t) (λ i. leb-true (size_t (type_at t i)) type_limit (T.table.small i)) [] no_binders 0 (term s)) h
+
+found_holds : (a : Answer Ty) → Bounded a → ((type : Ty) → a ≡ accepted type → size_t type ≤ type_limit) → Holds (type_records a)
+unfolding type_records
+found_holds (accepted type) x small = holds_yes {n = size_t type} (omega (arith, small type refl))
+found_holds (refused q p) (bounded_no l m n) small = holds_no {q = q} {p = p} l m (omega arith)
 
 pub check_holds : (g t s : Bytes) (work answer : ℕ) → Octets g → Octets s → Holds (type_records (checking work answer g t s))
-unfolding type_records
-check_holds g t s work answer o o' = go (checking work answer g t s) refl (check_bounded g t s work answer o')
-  where
-    go : (a : Answer Ty) → checking work answer g t s ≡ a → Bounded a → Holds (type_records a)
-    go (accepted type) e x = holds_yes {n = size_t type} (omega (arith, check_size g t s work answer type o e))
-    go (refused q p) e (bounded_no l m n) = holds_no {q = q} {p = p} l m (omega arith)
+unfolding checking
+check_holds g t s work answer o o' =
+    found_holds (checking work answer g t s) (check_bounded g t s work answer o') λ type e.
+        let a = and_then (script_check [] g t s) _ (and_then (q1 work answer) _ e).1 in typed_size g t s type o a.0 a.1
+
+pub profile_holds : (g t s : Bytes) (work answer : ℕ) → Octets g → Octets s → Holds (type_records (profile_checking work answer g t s))
+unfolding profile_checking
+profile_holds g t s work answer o o' =
+    found_holds (profile_checking work answer g t s) (profile_bounded g t s work answer o') λ type e.
+        let a = and_then (script_check [] g t s) _ (and_then (q1 work answer) _ e).1 in typed_size g t s type o a.0 (and_then (q39 s) _ a.1).1
 
 pub page_holds : (g t s : Bytes) (group room : ℕ) → Octets s → Holds (sheet_records (sheeting g t s group room))
 unfolding sheet_records sheeting

@@ -1,5 +1,5 @@
 -- A caller reads off an exported number the answer that was packed.
-use Rattle.std.proofs.Common.{◌≡◌, ap, ap₂, ℕ, ◌+◌, ◌*◌, ◌/◌, ◌%◌, ◌≤◌, arith, eq-eqb, ne_eqb}
+use Rattle.std.proofs.Common.{◌≡◌, sym, ap, ap₂, subst, ◌∙◌, ℕ, ◌+◌, ◌*◌, ◌/◌, ◌%◌, ◌≤◌, arith, eq-eqb, ne_eqb}
 use Rattle.rules.specs.Answer.{Answer, accepted, refused}
 use Rattle.rules.specs.Limits.{script_limit}
 use Rattle.packing.specs.Packed.{half, packed, unpacked, ended, end_of, count_of, Holds, holds_yes, holds_no}
@@ -13,6 +13,10 @@ unpack (refused q p) (holds_no a b l) =
     let z : (q * half + p) / half ≡ q = omega arith in
     let m : (q * half + p) % half ≡ p = omega arith in
     rw (ne_eqb ((q * half + p) / half) 0 (λ e. omega arith)) (ap₂ (λ (x y : ℕ). refused x y) z m)
+
+-- what holds of an answer holds of the one that is read off its number
+pub read_off : (P : Answer ℕ → Type 0) {a : Answer ℕ} {n : ℕ} → n ≡ packed a → Holds a → P a → P (unpacked n)
+read_off P {a} e h p = subst P (sym (ap unpacked e ∙ unpack a h)) p
 
 -- the end and the record count that are read off a number
 pub record Reads (n end count : ℕ) : Type 0 where

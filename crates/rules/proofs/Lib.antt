@@ -31,4 +31,5 @@ pub mod WordExamples
 pub mod FoundExamples
 pub mod CreatorExamples
 pub mod NumberExamples
+pub mod ProfileExamples
 pub mod Examples

@@ -23,3 +23,4 @@ pub mod WordExamples
 pub mod FoundExamples
 pub mod CreatorExamples
 pub mod NumberExamples
+pub mod ProfileExamples

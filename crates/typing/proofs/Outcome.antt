@@ -1,22 +1,24 @@
 -- What checking answers and leaves, by the question that ends it.
-use Rattle.std.proofs.Common.{Result, Ok, Err, IsErrAnd, ◌≡◌, refl, sym, ap, ◌∙◌, Bool, true, false, cond, ◌↔◌, [], ℕ, ◌≤◌, length}
+use Rattle.std.proofs.Common.{Result, Ok, Err, IsErrAnd, ◌≡◌, refl, sym, ap, subst, ◌∙◌, true, false, cond, ◌&&◌, ◌↔◌, [], ℕ, ◌≤◌, leb, length}
 use Rattle.calculus.specs.Types.{Ty, size_t}
-use Rattle.rules.specs.Answer.{Bytes, Octets, Answer, accepted, refused, ◌>>◌ as then, ask}
+use Rattle.rules.specs.Answer.{Bytes, Octets, Answer, accepted, refused, ◌>>◌ as then}
 use Rattle.rules.specs.Limits.{work_length, answer_length}
 use Rattle.rules.specs.Groups.{properties_of}
 use Rattle.rules.specs.Types.{type_at}
-use Rattle.rules.specs.Script.{term}
+use Rattle.rules.specs.Script.{records, term}
 use Rattle.rules.specs.Typing.{of_typing, typing}
 use Rattle.rules.specs.Calls.{zeros, q1, script_check, checking, type_records, answer_after, work_after}
-use Rattle.rules.specs.Reach.{verdict}
-use Rattle.demands.proofs.Answers.{accepted_inj, accepted≢refused}
+use Rattle.rules.specs.Profile.{ok39, q39, profile_checking}
+use Rattle.demands.proofs.Answers.{accepted_inj, accepted≢refused, number_inj}
+use Rattle.demands.proofs.Deciding.{Own, own_yes, own_no, ask_own, each_own}
 use Rattle.demands.proofs.FirstDemand.{first_demand, script_early}
 use Rattle.demands.proofs.SecondDemand.{longer_same, second_demand}
+use Rattle.demands.proofs.Profile.{page_scripts, longer_in_profile}
 use Rattle.answer.specs.Numbers.{number}
 use Rattle.answer.specs.Said.{said}
 use Rattle.answer.specs.declared.Refusal.{Refusal}
 use Rattle.inference.specs.Memory.{Meets, finds, refuses}
-use Rattle.typing.specs.Judged.{Judged}
+use Rattle.typing.specs.Judged.{Reports, Judged, JudgedInProfile}
 
 abbrev pub Outcome : Answer Ty → Result ℕ Refusal → Bytes → Bytes → Bytes → Bytes → Type 0
 Outcome o x work work' answer answer' = (said x ≡ type_records o) × (work' ≡ work_after o work) × (answer' ≡ answer_after o answer)
@@ -32,10 +34,10 @@ early o e (Err y) work answer h l p = (
   sym (ap (λ y. answer_after y answer) h),
 )
 
--- question 1 comes before typing
-before_typing : (n p : ℕ) (b : Bool) → refused n p ≡ ask 1 0 b → of_typing n ≡ false
-before_typing n p true e = absurd (accepted≢refused (sym e))
-before_typing n p false e = let q : n ≡ 1 = cc in rw q refl
+-- a question of another number than typing's comes before it
+before_typing : {n : ℕ} {q p : ℕ} {a : Answer (Unit {0})} → Own n a → of_typing n ≡ false → refused q p ≡ a → of_typing q ≡ false
+before_typing own_yes l e = accepted≢refused (sym e)
+before_typing own_no l e = ap of_typing (number_inj e) ∙ l
 
 -- the answer's first part
 counted : {o : Answer Ty} {b : ℕ} {w : Bytes} {x : Result ℕ Refusal} {v : Bytes} → Meets o b w x v → said x ≡ type_records o
@@ -49,53 +51,87 @@ cleared (accepted t) work h = refl
 cleared (refused q p) work h = sym (ap (λ b. cond b (zeros (length work)) work) (h q p refl))
 
 module _ (g t s work answer : Bytes) where
-  abbrev pub asked : Answer Ty
-  asked = checking (length work) (length answer) g t s
-
   abbrev pub typed : Answer Ty
   typed = typing (properties_of g) (type_at t) [] 0 (term s)
 
-  abbrev from_2 : Answer Ty
-  from_2 = then (script_check [] g t s) typed
+  -- typing's answer, as the buffers have it
+  pub given : {x : Result ℕ Refusal} {w₁ work' answer' : Bytes} → Meets typed 0 work x w₁ → work' ≡ zeros (length work) → answer' ≡ answer_after typed answer
+      → Outcome typed x work work' answer answer'
+  given m p q = (counted m, p ∙ cleared typed work (λ n i k. ((first_demand g t s).typing_asks n i k).0), q)
 
-  under_1 : asked ≡ then (q1 (length work) (length answer)) from_2
+  -- A call that asks question 1, then 2 to 19, and then goes on with the rest.
+  abbrev pub GoesOn : Answer Ty → Answer Ty → Type 0
+  GoesOn call rest = call ≡ then (q1 (length work) (length answer)) (then (script_check [] g t s) rest)
+
+  abbrev pub checked : Answer Ty
+  checked = checking (length work) (length answer) g t s
+
+  pub checked_goes_on : GoesOn checked typed
   unfolding checking
-  under_1 = refl
+  checked_goes_on = refl
 
-  pub short : (e : Refusal) (x : Result ℕ Refusal) → said {A = Unit {0}} (Err e) ≡ q1 (length work) (length answer) → IsErrAnd x (λ y. y ≡ e) → Outcome asked x work work answer answer
-  short e x h p = early asked e x work answer (under_1 ∙ ap (λ y. then y from_2) (sym h)) (before_typing _ _ _ h) p
+  abbrev pub profiled : Answer Ty
+  profiled = profile_checking (length work) (length answer) g t s
 
-  module _ (r : accepted tt ≡ q1 (length work) (length answer)) where
-    roomy : asked ≡ from_2
-    roomy = under_1 ∙ ap (λ y. then y from_2) (sym r)
+  pub profiled_goes_on : GoesOn profiled (then (q39 s) typed)
+  unfolding profile_checking
+  profiled_goes_on = refl
 
-    pub script_refused : (e : Refusal) (x : Result ℕ Refusal) → said {A = Unit {0}} (Err e) ≡ script_check [] g t s → IsErrAnd x (λ y. y ≡ e) → Outcome asked x work work answer answer
-    script_refused e x h p =
-        early asked e x work answer (roomy ∙ ap (λ y. then y typed) (sym h)) (script_early [] g t s (number e.question) e.place (sym h)) p
+  module _ (call rest : Answer Ty) (c : GoesOn call rest) where
+    pub short : (e : Refusal) (x : Result ℕ Refusal) → said {A = Unit {0}} (Err e) ≡ q1 (length work) (length answer) → IsErrAnd x (λ y. y ≡ e)
+        → Outcome call x work work answer answer
+    short e x h p =
+        early call e x work answer (c ∙ ap (λ y. then y (then (script_check [] g t s) rest)) (sym h))
+        (before_typing (ask_own 1 0 (leb work_length (length work) && leb answer_length (length answer))) refl h) p
 
-    pub finished : accepted tt ≡ script_check [] g t s → {x : Result ℕ Refusal} {w₁ work' answer' : Bytes} → Meets typed 0 work x w₁ → work' ≡ zeros (length work)
-        → answer' ≡ answer_after typed answer → Outcome asked x work work' answer answer'
-    finished h m p q =
-        let e : asked ≡ typed = roomy ∙ ap (λ y. then y typed) (sym h) in (
-          counted m ∙ ap type_records (sym e),
-          p ∙ cleared typed work (λ n i k. ((first_demand g t s).typing_asks n i k).0) ∙ ap (λ y. work_after y work) (sym e),
-          q ∙ ap (λ y. answer_after y answer) (sym e),
-        )
+    module _ (r : accepted tt ≡ q1 (length work) (length answer)) where
+      roomy : call ≡ then (script_check [] g t s) rest
+      roomy = c ∙ ap (λ y. then y (then (script_check [] g t s) rest)) (sym r)
 
--- the answer reports the verdict that demand 2 speaks of
+      pub script_refused : (e : Refusal) (x : Result ℕ Refusal) → said {A = Unit {0}} (Err e) ≡ script_check [] g t s → IsErrAnd x (λ y. y ≡ e)
+          → Outcome call x work work answer answer
+      script_refused e x h p =
+          early call e x work answer (roomy ∙ ap (λ y. then y rest) (sym h)) (script_early [] g t s (number e.question) e.place (sym h)) p
+
+      pub asked_19 : accepted tt ≡ script_check [] g t s → call ≡ rest
+      asked_19 h = roomy ∙ ap (λ y. then y rest) (sym h)
+
+  -- 39, once the script's other questions are answered yes
+  pub recursion_refused : profiled ≡ then (q39 s) typed → (e : Refusal) (x : Result ℕ Refusal) → said {A = Unit {0}} (Err e) ≡ q39 s → IsErrAnd x (λ y. y ≡ e)
+      → Outcome profiled x work work answer answer
+  recursion_refused c e x h p =
+      early profiled e x work answer (c ∙ ap (λ y. then y typed) (sym h)) (before_typing (each_own 39 (records s) (ok39 s)) refl h) p
+
+  pub asked_39 : profiled ≡ then (q39 s) typed → accepted tt ≡ q39 s → profiled ≡ typed
+  asked_39 c h = c ∙ ap (λ y. then y typed) (sym h)
+
+-- an answer with the outcome of typing
+pub as_typed : (x : Result ℕ Refusal) (work work' answer answer' : Bytes) {call typed : Answer Ty} → call ≡ typed → Outcome typed x work work' answer answer'
+    → Outcome call x work work' answer answer'
+as_typed x work work' answer answer' e h = subst (λ o. Outcome o x work work' answer answer') (sym e) h
+
+-- the answer reports the verdict
 counts_when : (o : Answer Ty) (n : ℕ) → (type_records o ≡ accepted n) ↔ ((type : Ty) × (o ≡ accepted type) × (n ≡ size_t type))
 unfolding type_records
 counts_when (accepted type) n = (λ e. (type, refl, sym (accepted_inj e)), λ h. ap accepted (ap size_t (accepted_inj h.1) ∙ sym h.2))
 counts_when (refused q p) n = (λ e. accepted≢refused (sym e), λ h. accepted≢refused (sym h.1))
 
-pub judged : (g t s work answer : Bytes) → Octets g → Octets s → (x : Result ℕ Refusal) (work' answer' : Bytes) → Outcome (asked g t s work answer) x work work' answer answer'
-    → work_length ≤ length work → answer_length ≤ length answer → Judged g t s answer (said x) answer'
-judged g t s work answer G O x work' answer' h l m =
-    let same = longer_same g t s (length work) (length answer) l m in
+reported : (x : Result ℕ Refusal) (work work' answer answer' : Bytes) {call verdict : Answer Ty} → call ≡ verdict → Outcome call x work work' answer answer'
+    → Reports (λ type. verdict ≡ accepted type) answer (said x) answer'
+reported x work work' answer answer' {call} {verdict} same h =
     record {
-      demand = second_demand g t s G O;
       counts_when = λ n.
-          let c = counts_when (verdict g t s) n in
+          let c = counts_when verdict n in
           (λ e. c.0 (sym (h.0 ∙ ap type_records same) ∙ e), λ w. h.0 ∙ ap type_records same ∙ c.1 w);
       writes = λ type a. h.2 ∙ ap (λ (o : Answer Ty). answer_after o answer) (same ∙ a);
     }
+
+module _ (g t s work answer : Bytes) (G : Octets g) (O : Octets s) (x : Result ℕ Refusal) (work' answer' : Bytes) where
+  pub judged : Outcome (checked g t s work answer) x work work' answer answer' → work_length ≤ length work → answer_length ≤ length answer
+      → Judged g t s answer (said x) answer'
+  judged h l m = record { demand = second_demand g t s G O; reports = reported x work work' answer answer' (longer_same g t s (length work) (length answer) l m) h }
+
+  pub judged_in_profile : Outcome (profiled g t s work answer) x work work' answer answer' → work_length ≤ length work → answer_length ≤ length answer
+      → JudgedInProfile g t s answer (said x) answer'
+  judged_in_profile h l m =
+      record { promise = page_scripts g t s G O; reports = reported x work work' answer answer' (longer_in_profile g t s (length work) (length answer) l m) h }

@@ -1,4 +1,4 @@
-// The checker, which calls itself on each operand's part of the script, and checking.
+// The checker, which calls itself on each operand's part of the script, and the two checks.
 
 #![tactic(auto)]
 
@@ -10,15 +10,16 @@ ghost use Rattle.rules.specs.Groups.{properties_of};
 ghost use Rattle.rules.specs.Types.{type_at};
 ghost use Rattle.rules.specs.Script.{encode, size, term};
 ghost use Rattle.rules.specs.Typing.{typing};
-ghost use Rattle.rules.specs.Calls.{script_check, checking, type_records, answer_after, work_after};
+ghost use Rattle.rules.specs.Calls.{q1, script_check, checking, type_records, answer_after, work_after};
+ghost use Rattle.rules.specs.Profile.{profile_checking};
 ghost use Rattle.answer.specs.Said.{said};
 ghost use Rattle.records.specs.Place.{At};
 ghost use Rattle.inference.specs.Memory.{Meets, Ready};
 ghost use Rattle.typing.specs.Parts.{OperandAt, PartOf, kept_between};
 ghost use Rattle.typing.specs.Answers.{Answers};
-ghost use Rattle.typing.specs.Judged.{Judged};
+ghost use Rattle.typing.specs.Judged.{Judged, JudgedInProfile};
 
-use answer::{Question, Refusal};
+use answer::{Checked, Question, Refusal};
 use inference::{SECOND_PART, SLOT};
 use scope::DEPTH_LIMIT;
 use types::TYPE_WIDTH;
@@ -130,6 +131,37 @@ fn hand_over(x: Result<usize, Refusal>, work: &[u8], answer: &mut [u8])
     }
 }
 
+// 1. Are work and answer buffer long enough?
+fn question_1(work: &[u8], answer: &[u8]) -> Checked
+    ensures { said result ≡ q1 (length work.now) (length answer.now) }
+{
+    let fits = (WORK_LENGTH <= work.len()) & (SLOT <= answer.len());
+    answer::ask(Question::BufferLengths, 0, fits)
+}
+
+// The end of a check: the type to the answer buffer's front, and the work buffer left all zeros.
+fn give_type(
+    groups: &[u8],
+    types: &[u8],
+    script: &[u8],
+    work: &mut [u8],
+    answer: &mut [u8],
+) -> Result<usize, Refusal>
+    requires { (script_check [] groups.now types.now script.now ≡ accepted tt)
+        × (work_length ≤ length work.old) × (answer_length ≤ length answer.old) }
+    ensures { (said result ≡ type_records
+        (typing (properties_of groups.now) (type_at types.now) [] 0 (term script.now)))
+        × (work.new ≡ work_after
+        (typing (properties_of groups.now) (type_at types.now) [] 0 (term script.now)) work.old)
+        × (answer.new ≡ answer_after
+        (typing (properties_of groups.now) (type_at types.now) [] 0 (term script.now)) answer.old) }
+{
+    let x = type_script(groups, types, script, work);
+    hand_over(x, work, answer);
+    memory::clear(work);
+    x
+}
+
 // Checking: questions 1 to 24, 31 and 36. The type is written to the answer buffer's front, and the work buffer is left all zeros once
 // typing has begun. The last clause is demand 2.
 pub fn checking(
@@ -149,11 +181,31 @@ pub fn checking(
         → Judged groups.now types.now script.now answer.old (said result)
         answer.new) }
 {
-    let fits = (WORK_LENGTH <= work.len()) & (SLOT <= answer.len());
-    answer::ask(Question::BufferLengths, 0, fits)?;
+    question_1(work, answer)?;
     syntax::script_check(groups, types, script, &[])?;
-    let x = type_script(groups, types, script, work);
-    hand_over(x, work, answer);
-    memory::clear(work);
-    x
+    give_type(groups, types, script, work, answer)
+}
+
+// The check of the profile of scripts that always finish: checking, with 39 after 19. The last clause is item 12's promise.
+pub fn profile_checking(
+    groups: &[u8],
+    types: &[u8],
+    script: &[u8],
+    work: &mut [u8],
+    answer: &mut [u8],
+) -> Result<usize, Refusal>
+    ensures { (said result ≡ type_records (profile_checking (length work.old) (length answer.old)
+        groups.now types.now script.now))
+        × (work.new ≡ work_after (profile_checking (length work.old) (length answer.old)
+        groups.now types.now script.now) work.old)
+        × (answer.new ≡ answer_after (profile_checking (length work.old) (length answer.old)
+        groups.now types.now script.now) answer.old)
+        × (work_length ≤ length work.old → answer_length ≤ length answer.old
+        → JudgedInProfile groups.now types.now script.now answer.old (said result)
+        answer.new) }
+{
+    question_1(work, answer)?;
+    syntax::script_check(groups, types, script, &[])?;
+    script::question_39(script)?;
+    give_type(groups, types, script, work, answer)
 }

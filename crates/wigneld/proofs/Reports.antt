@@ -1,14 +1,12 @@
--- What the exported check and run pass on.
-use mathlib.Core.Path.{◌≡◌, refl, sym, ap, subst, ◌∙◌}
+-- What the exported run passes on.
+use mathlib.Core.Path.{◌≡◌, refl}
 use Prim.Native.Nat.{ℕ}
 use Rattle.rules.specs.Answer.{Bytes, Octets, Answer, accepted, refused}
 use Rattle.rules.specs.Run.{Ran}
 use Rattle.rules.specs.Calls.{running, run_report}
-use Rattle.typing.specs.Judged.{Judged}
-use Rattle.packing.specs.Packed.{packed, unpacked, steps_after, Holds, Bounded, bounded_no, counted_yes, counted_no, RunCounted}
+use Rattle.packing.specs.Packed.{steps_after, Bounded, bounded_no, counted_yes, counted_no, RunCounted}
 use Rattle.packing.proofs.Bounds.{run_bounded}
 use Rattle.packing.proofs.Exported.{run_ends}
-use Rattle.packing.proofs.Unpacked.{unpack}
 use Rattle.wigneld.specs.Exported.{steps_told}
 
 pub run_counted : (g t s : Bytes) (budget first scratch : ℕ) → Octets s → RunCounted (run_report (running g t s budget first scratch))
@@ -23,8 +21,3 @@ pub steps_same : (a : Answer Ran) (old : Bytes) → steps_told (run_report a) ol
 unfolding run_report
 steps_same (accepted x) old = refl
 steps_same (refused q p) old = refl
-
--- demand 2 of the answer that a caller reads off the number
-pub read_off : {g t s answer answer' : Bytes} {a : Answer ℕ} {n : ℕ} → n ≡ packed a → Holds a → Judged g t s answer a answer' → Judged g t s answer (unpacked n) answer'
-read_off {g} {t} {s} {answer} {answer'} {a} e h j =
-    subst (λ (r : Answer ℕ). Judged g t s answer r answer') (sym (ap unpacked e ∙ unpack a h)) j

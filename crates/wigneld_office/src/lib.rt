@@ -4,13 +4,15 @@
 
 #![tactic(auto)]
 
-ghost use Rattle.std.specs.Prelude.{◌≡◌, length};
-ghost use Rattle.rules.specs.Limits.{type_width, script_width};
+ghost use Rattle.std.specs.Prelude.{◌≡◌, ◌≤◌, length};
+ghost use Rattle.rules.specs.Limits.{type_width, script_width, work_length, answer_length};
 ghost use Rattle.rules.specs.Callers.{write_callers, callers_written};
-ghost use Rattle.rules.specs.Calls.{comparing};
+ghost use Rattle.rules.specs.Calls.{comparing, type_records, work_after, answer_after};
+ghost use Rattle.rules.specs.Profile.{profile_checking};
 ghost use Rattle.rules.specs.Rewriting.{rewriting_types, rewriting_script, rewritten_records, rewritten_after};
 ghost use Rattle.types_table.specs.Answered.{answered};
-ghost use Rattle.packing.specs.Packed.{packed, compared, Bounded};
+ghost use Rattle.typing.specs.Judged.{JudgedInProfile};
+ghost use Rattle.packing.specs.Packed.{packed, unpacked, compared, Bounded};
 
 use answer::Refusal;
 use types_table::Comparison;
@@ -71,4 +73,27 @@ pub extern "C" fn wigneld_rewrite_script(
         rewritten.old) }
 {
     packing::answer(rewriting::rewrite_script(groups, types, script, rewritten))
+}
+
+// The check of scripts that always finish: checking, with 39 after 19. The last clause is item 12's promise, of the answer that a
+// caller reads off the number.
+#[unsafe(no_mangle)]
+pub extern "C" fn wigneld_check_profile(
+    groups: &[u8],
+    types: &[u8],
+    script: &[u8],
+    work: &mut [u8],
+    answer: &mut [u8],
+) -> u64
+    ensures { (result ≡ packed (type_records (profile_checking (length work.old) (length answer.old)
+        groups.now types.now script.now)))
+        × (work.new ≡ work_after (profile_checking (length work.old) (length answer.old)
+        groups.now types.now script.now) work.old)
+        × (answer.new ≡ answer_after (profile_checking (length work.old) (length answer.old)
+        groups.now types.now script.now) answer.old)
+        × (work_length ≤ length work.old → answer_length ≤ length answer.old
+        → JudgedInProfile groups.now types.now script.now answer.old (unpacked result)
+        answer.new) }
+{
+    packing::answer(typing::profile_checking(groups, types, script, work, answer))
 }

@@ -116,6 +116,20 @@ pub fn check_with(
     (result, work_after, answer_after)
 }
 
+/// The profile check with these buffers.
+pub fn check_profile_with(
+    inputs: &Inputs,
+    work: Vec<u8>,
+    answer: Vec<u8>,
+) -> (Answer<u32>, Vec<u8>, Vec<u8>) {
+    let Inputs { groups, types, script } = inputs;
+    let (mut work_after, mut answer_after) = (work.clone(), answer.clone());
+    let result = calls::check_profile(groups, types, script, &mut work_after, &mut answer_after);
+    #[cfg(feature = "engine")]
+    compared::check_profile(inputs, [&work, &answer], &result, [&work_after, &answer_after]);
+    (result, work_after, answer_after)
+}
+
 /// A run with these buffers.
 pub fn run_with(
     inputs: &Inputs,
@@ -433,19 +447,41 @@ mod compared {
         given.unchanged(old);
     }
 
+    type Check = fn(&[u8], &[u8], &[u8], &mut [u8], &mut [u8]) -> u64;
+
     pub fn check(inputs: &Inputs, lent: [&[u8]; 2], expected: &Answer<u32>, after: [&[u8]; 2]) {
+        checked(engine::check, "check", inputs, lent, expected, after);
+    }
+
+    pub fn check_profile(
+        inputs: &Inputs,
+        lent: [&[u8]; 2],
+        expected: &Answer<u32>,
+        after: [&[u8]; 2],
+    ) {
+        checked(engine::check_profile, "profile check", inputs, lent, expected, after);
+    }
+
+    fn checked(
+        check: Check,
+        name: &str,
+        inputs: &Inputs,
+        lent: [&[u8]; 2],
+        expected: &Answer<u32>,
+        after: [&[u8]; 2],
+    ) {
         let mut given = Given::of(inputs);
         let [mut work, mut answer] = lent.map(Guarded::new);
-        let found = engine::check(
+        let found = check(
             given.groups.lend(),
             given.types.lend(),
             given.script.lend(),
             work.lend(),
             answer.lend(),
         );
-        answers(found, packed_count(expected), "check");
-        same(work.take("work"), after[0], "check: work buffer");
-        same(answer.take("answer"), after[1], "check: answer buffer");
+        answers(found, packed_count(expected), name);
+        same(work.take("work"), after[0], &format!("{name}: work buffer"));
+        same(answer.take("answer"), after[1], &format!("{name}: answer buffer"));
         given.unchanged(inputs);
     }
 

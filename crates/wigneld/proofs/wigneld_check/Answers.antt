@@ -4,7 +4,8 @@ use Rattle.answer.specs.Said.{said}
 use Rattle.packing.specs.Packed.{packed, Holds}
 use Rattle.packing.proofs.Bounds.{place_small, check_bounded}
 use Rattle.packing.proofs.Exported.{records_bounded, check_holds}
-use Rattle.wigneld.proofs.Reports.{read_off}
+use Rattle.packing.proofs.Unpacked.{read_off}
+use Rattle.typing.specs.Judged.{Judged}
 use Rattle.wigneld.proofs.wigneld_check.Goals as goal
 
 pub answer-requires : goal.answer-requires
@@ -23,4 +24,4 @@ returns c =
     subst Holds (sym c.checking.ensures.0)
     (check_holds a.groups.now a.types.now a.script.now (length a.work.now) (length a.answer.now) groups_octets script_octets) in
     let x = c.checking.ensures in
-    (c.answer.ensures ∙ ap packed x.0, x.1, x.2, λ l m. read_off c.answer.ensures holds (x.3 l m))
+    (c.answer.ensures ∙ ap packed x.0, x.1, x.2, λ l m. read_off (λ r. Judged _ _ _ _ r _) c.answer.ensures holds (x.3 l m))

@@ -1,0 +1,28 @@
+-- The profile's answer is bounded, so its number says what the check says.
+use Rattle.std.proofs.Common.{length, sym, ap, subst, ◌∙◌, arith}
+use Rattle.rules.specs.Answer.{Octets}
+use Rattle.answer.specs.Said.{said}
+use Rattle.packing.specs.Packed.{packed, Holds}
+use Rattle.packing.proofs.Bounds.{place_small, profile_bounded}
+use Rattle.packing.proofs.Exported.{records_bounded, profile_holds}
+use Rattle.packing.proofs.Unpacked.{read_off}
+use Rattle.typing.specs.Judged.{JudgedInProfile}
+use Rattle.wigneld_office.proofs.wigneld_check_profile.Goals as goal
+
+pub answer-requires : goal.answer-requires
+answer-requires c =
+    let a = c.args in
+    let script_octets : Octets a.script.now = λ k. omega (arith, c.type_inv.script k) in
+    place_small _ c.profile_checking.ensures.0
+    (records_bounded _ (profile_bounded a.groups.now a.types.now a.script.now (length a.work.now) (length a.answer.now) script_octets))
+
+pub returns : goal.returns
+returns c =
+    let a = c.args in
+    let groups_octets : Octets a.groups.now = λ k. omega (arith, c.type_inv.groups k) in
+    let script_octets : Octets a.script.now = λ k. omega (arith, c.type_inv.script k) in
+    let holds : Holds (said c.profile_checking.result) =
+    subst Holds (sym c.profile_checking.ensures.0)
+    (profile_holds a.groups.now a.types.now a.script.now (length a.work.now) (length a.answer.now) groups_octets script_octets) in
+    let x = c.profile_checking.ensures in
+    (c.answer.ensures ∙ ap packed x.0, x.1, x.2, λ l m. read_off (λ r. JudgedInProfile _ _ _ _ r _) c.answer.ensures holds (x.3 l m))
