@@ -67,7 +67,7 @@ pub fn check_profile(
     let tables = read_tables(groups, types)?;
     let term = read_script(&tables, script, &[])?;
     let recursion = script.chunks(SCRIPT_BYTES).position(|record| record[0] == 11);
-    ask(recursion.is_none(), 39, recursion.unwrap_or(0) as u32)?;
+    ask(recursion.is_none(), 39, recursion.unwrap_or(0))?;
     find(&tables, &term, work, answer)
 }
 
