@@ -1,6 +1,6 @@
 /*
  * A program of the office, written from the header alone, in what C99 and C++ share: it compares types, reads every kind of
- * answer, and rewrites tables and scripts of forms 1 and 2. Exits with 0 when all is as the header says.
+ * answer, checks scripts for a screen, and rewrites tables and scripts of forms 1 and 2. Exits with 0 when all is as the header says.
  */
 #include <string.h>
 
@@ -361,6 +361,50 @@ static void longest(void)
     keeps(rewrite_script(table, most, script, sizeof script, sizeof new_script), 13, 0);
 }
 
+/* Checks a script for a screen; every byte past what an accepted one writes is kept. */
+static uint8_t work[WIGNELD_WORK_BYTES + 1], found[WIGNELD_ANSWER_BYTES + 1];
+
+static uint64_t for_a_screen(const uint8_t *script, size_t length, size_t work_length, size_t found_length)
+{
+    memset(work, OLD, sizeof work);
+    memset(found, OLD, sizeof found);
+    return wigneld_check_profile(groups, sizeof groups, types, sizeof types, script, length, work, work_length, found,
+                                 found_length);
+}
+
+static void unwritten(uint64_t answer, unsigned question, uint32_t place)
+{
+    HOLD(wigneld_question(answer) == question && wigneld_place(answer) == place);
+    HOLD(all(work, sizeof work, OLD) && all(found, sizeof found, OLD));
+}
+
+static void screens(void)
+{
+    enum { RECORD = WIGNELD_SCRIPT_RECORD_BYTES };
+    /* A pair of two rules of type 3 that are functions, and a unit of a function's parameter. */
+    static const uint8_t rules[] = {
+        3, 0, 0, 0, 0, 0, 0, 0, 11, 0, 0, 0, 3, 0, 0, 0, 2, 0, 0, 0, 4, 0, 0, 0, 1, 0, 0, 0, 0, 0, 0, 0,
+        11, 0, 0, 0, 3, 0, 0, 0, 2, 0, 0, 0, 4, 0, 0, 0, 1, 0, 0, 0, 0, 0, 0, 0,
+    };
+    static const uint8_t unit_of_type[] = { 0, 0, 0, 0, 0, 0 };
+    uint8_t unbound[sizeof rules];
+
+    unwritten(for_a_screen(rules, sizeof rules, sizeof work, sizeof found), 39, 1);
+    unwritten(for_a_screen(rules + RECORD, 3 * RECORD, sizeof work, sizeof found), 39, 0);
+    unwritten(for_a_screen(rules + RECORD, 3 * RECORD, WIGNELD_WORK_BYTES - 1, sizeof found), 1, 0);
+    unwritten(for_a_screen(rules + RECORD, 3 * RECORD, sizeof work, WIGNELD_ANSWER_BYTES - 1), 1, 0);
+    unwritten(for_a_screen(NULL, 0, sizeof work, sizeof found), 13, 0);
+    /* 19 comes first, wherever it is refused. */
+    memcpy(unbound, rules, sizeof rules);
+    unbound[6 * RECORD] = WIGNELD_KIND_VARIABLE;
+    unbound[6 * RECORD + WIGNELD_AT_NUMBER] = 2;
+    unwritten(for_a_screen(unbound, sizeof unbound, sizeof work, sizeof found), 19, 6);
+    /* What is no rule is checked. */
+    HOLD(for_a_screen(rules + 3 * RECORD, RECORD, sizeof work, sizeof found) == 1);
+    HOLD(all(work, sizeof work, 0) && memcmp(found, unit_of_type, sizeof unit_of_type) == 0);
+    HOLD(all(found + sizeof unit_of_type, sizeof found - sizeof unit_of_type, OLD));
+}
+
 /* The editor's archive serves the same program. */
 static void beside_the_editor(void)
 {
@@ -381,6 +425,7 @@ int main(void)
     left_as_they_are();
     rewriting_refused();
     longest();
+    screens();
     beside_the_editor();
     return told();
 }

@@ -274,13 +274,15 @@ static void sheet_script(struct script *s, enum way way)
 
 /* The calls, in buffers that stand apart from the stack. */
 
-enum call { CHECK, RUN, SHEET, COMPARE, WRITE_CALLERS, REWRITE_SCRIPT, REWRITE_TYPES, CALLS };
+enum call { CHECK, RUN, SHEET, COMPARE, WRITE_CALLERS, REWRITE_SCRIPT, REWRITE_TYPES, CHECK_PROFILE, CALLS };
 
 static const char *const names[CALLS] = { "wigneld_check", "wigneld_run", "wigneld_sheet", "wigneld_compare",
-                                          "wigneld_write_callers", "wigneld_rewrite_script", "wigneld_rewrite_types" };
+                                          "wigneld_write_callers", "wigneld_rewrite_script", "wigneld_rewrite_types",
+                                          "wigneld_check_profile" };
 static const size_t promised[CALLS] = { WIGNELD_CHECK_STACK_BYTES, WIGNELD_RUN_STACK_BYTES, WIGNELD_SHEET_STACK_BYTES,
                                         WIGNELD_COMPARE_STACK_BYTES, WIGNELD_WRITE_CALLERS_STACK_BYTES,
-                                        WIGNELD_REWRITE_SCRIPT_STACK_BYTES, WIGNELD_REWRITE_TYPES_STACK_BYTES };
+                                        WIGNELD_REWRITE_SCRIPT_STACK_BYTES, WIGNELD_REWRITE_TYPES_STACK_BYTES,
+                                        WIGNELD_CHECK_PROFILE_STACK_BYTES };
 
 /* No promise up to this is too high: it is less than a caller's own frames are apart. */
 enum { NEXT_TO_NONE = 512 };
@@ -331,6 +333,10 @@ __attribute__((noinline)) static void make_call(struct job *job)
         break;
     case REWRITE_TYPES:
         job->answer = wigneld_rewrite_types(groups, sizeof groups, old_types, sizeof old_types, first, sizeof first);
+        break;
+    case CHECK_PROFILE:
+        job->answer = wigneld_check_profile(groups, sizeof groups, types, sizeof types, script, length, work, sizeof work, found,
+                                            sizeof found);
         break;
     case CALLS: break;
     }
@@ -490,6 +496,7 @@ static int script_of(enum call call, unsigned number, struct script *s)
     case REWRITE_SCRIPT:
         return script_of(RUN, number, s);
     case REWRITE_TYPES: return number < 1;
+    case CHECK_PROFILE: return script_of(CHECK, number, s);
     case CALLS: break;
     }
     return 0;
@@ -529,6 +536,8 @@ static unsigned hold(enum call call)
         /* Refused before anything goes deep, a script tries nothing. */
         if (wigneld_question(answer) != 0 && (wigneld_question(answer) < 20 || wigneld_question(answer) == 36))
             fail("a script is no whole term of depth 256");
+        if ((wigneld_question(answer) == 39) != (call == CHECK_PROFILE && recursions(&s) != 0))
+            fail("39 is not asked of recursions alone");
         if (call == COMPARE && wigneld_comparison(answer) != WIGNELD_COMPARE_SAME)
             fail("a type is not the same as itself");
         if (call == WRITE_CALLERS && answer != recursions(&s))

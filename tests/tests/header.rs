@@ -146,7 +146,7 @@ const LIMITS: [(&str, usize, &str); 20] = [
     ("STEPS_BYTES", u64::BITS as usize / 8, ""),
     ("GROUPS_LONGEST_BYTES", MOST_GROUPS * ROW_BYTES, ""),
     ("TYPES_LONGEST_BYTES", MOST_TABLE_RECORDS * TYPE_BYTES, ""),
-    ("LAST_QUESTION", LAST_QUESTION, "answer::Question::Creators"),
+    ("LAST_QUESTION", LAST_QUESTION, "answer::Question::Profile"),
     ("OWN_TYPE", OWN_TYPE as usize, "records::OWN_TYPE"),
     ("MOST_NUMBER", u16::MAX as usize, ""),
 ];
@@ -241,11 +241,12 @@ const OLD_WIDTHS: [(&str, usize, &str); 2] = [
     ("OLD_TYPE_RECORD_BYTES", OLD_TYPE_BYTES, "rewriting::OLD_TYPE_WIDTH"),
     ("OLD_SCRIPT_RECORD_BYTES", OLD_SCRIPT_BYTES, "rewriting::OLD_SCRIPT_WIDTH"),
 ];
-const OFFICE_OTHERS: [&str; 8] = [
+const OFFICE_OTHERS: [&str; 9] = [
     "COMPARE_STACK_BYTES",
     "WRITE_CALLERS_STACK_BYTES",
     "REWRITE_SCRIPT_STACK_BYTES",
     "REWRITE_TYPES_STACK_BYTES",
+    "CHECK_PROFILE_STACK_BYTES",
     "COMPARE_NEITHER",
     "COMPARE_BELOW",
     "COMPARE_SAME",

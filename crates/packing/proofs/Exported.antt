@@ -66,13 +66,13 @@ pub check_holds : (g t s : Bytes) (work answer : ℕ) → Octets g → Octets s 
 unfolding checking
 check_holds g t s work answer o o' =
     found_holds (checking work answer g t s) (check_bounded g t s work answer o') λ type e.
-        let a = and_then (script_check [] g t s) _ (and_then (q1 work answer) _ e).1 in typed_size g t s type o a.0 a.1
+    let a = and_then (script_check [] g t s) _ (and_then (q1 work answer) _ e).1 in typed_size g t s type o a.0 a.1
 
 pub profile_holds : (g t s : Bytes) (work answer : ℕ) → Octets g → Octets s → Holds (type_records (profile_checking work answer g t s))
 unfolding profile_checking
 profile_holds g t s work answer o o' =
     found_holds (profile_checking work answer g t s) (profile_bounded g t s work answer o') λ type e.
-        let a = and_then (script_check [] g t s) _ (and_then (q1 work answer) _ e).1 in typed_size g t s type o a.0 (and_then (q39 s) _ a.1).1
+    let a = and_then (script_check [] g t s) _ (and_then (q1 work answer) _ e).1 in typed_size g t s type o a.0 (and_then (q39 s) _ a.1).1
 
 pub page_holds : (g t s : Bytes) (group room : ℕ) → Octets s → Holds (sheet_records (sheeting g t s group room))
 unfolding sheet_records sheeting

@@ -24,4 +24,4 @@ returns c =
     subst Holds (sym c.checking.ensures.0)
     (check_holds a.groups.now a.types.now a.script.now (length a.work.now) (length a.answer.now) groups_octets script_octets) in
     let x = c.checking.ensures in
-    (c.answer.ensures ∙ ap packed x.0, x.1, x.2, λ l m. read_off (λ r. Judged _ _ _ _ r _) c.answer.ensures holds (x.3 l m))
+    (c.answer.ensures ∙ ap packed x.0, x.1, x.2, λ l m. read_off (λ r. Judged a.groups.now a.types.now a.script.now a.answer.now r c.checking.new.answer) c.answer.ensures holds (x.3 l m))

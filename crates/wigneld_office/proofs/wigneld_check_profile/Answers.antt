@@ -25,4 +25,4 @@ returns c =
     subst Holds (sym c.profile_checking.ensures.0)
     (profile_holds a.groups.now a.types.now a.script.now (length a.work.now) (length a.answer.now) groups_octets script_octets) in
     let x = c.profile_checking.ensures in
-    (c.answer.ensures ∙ ap packed x.0, x.1, x.2, λ l m. read_off (λ r. JudgedInProfile _ _ _ _ r _) c.answer.ensures holds (x.3 l m))
+    (c.answer.ensures ∙ ap packed x.0, x.1, x.2, λ l m. read_off (λ r. JudgedInProfile a.groups.now a.types.now a.script.now a.answer.now r c.profile_checking.new.answer) c.answer.ensures holds (x.3 l m))
