@@ -352,7 +352,7 @@ static inline const char *wigneld_asked(unsigned question)
         "a record's indirect creators are at or below its creators",       /* 36 */
         none,                                                              /* 37 */
         none,                                                              /* 38 */
-        "a record is no recursion, so that the script finishes",           /* 39 */
+        "the script has no recursion, so that it always finishes",          /* 39, place: the first */
     };
 
     return question <= WIGNELD_LAST_QUESTION ? words[question] : none;

@@ -107,6 +107,18 @@ fn drying_days() {
 }
 
 #[test]
+fn gallery_screen() {
+    let name = "gallery-screen";
+    prints_expected(name);
+    // Record 12 is the days that the sheet has hung: with 90 it is taken down.
+    for (days, side) in [(89, "first 0 0"), (90, "second 0 0")] {
+        let printed = with_byte(name, byte(12, 4), 21, days);
+        assert_eq!(printed.lines().nth(3), Some(side));
+        assert_eq!(printed.lines().last(), Some(format!("number 0 0 {}", days + 1).as_str()));
+    }
+}
+
+#[test]
 fn own_words() {
     prints_expected("own-words");
 }
