@@ -1,7 +1,7 @@
 -- Table 2 without its rule of transitivity, as derivations that know their direction: one rule stands for every former.
 -- The relation and the test both agree with them, so every other proof goes by cases here.
 use mathlib.Core.Path.{◌≡◌, refl}
-use mathlib.Core.Bool.{So, false≢true}
+use mathlib.Core.Bool.{Bool, false, So, false≢true}
 use Rattle.calculus.specs.Security.{Property, Security, Laws}
 use Rattle.calculus.specs.Types.{Leaf, one, number, Former, sum, product, function, Ty, leaf, node, same_leaf, same, secure_t}
 use Rattle.calculus.specs.Subtyping.{
@@ -71,6 +71,16 @@ test_directed {S} d (node f k s t) (node g l s' t') h =
     rw (← same_eq f g (and_left _ _ h))
     (d_node (and_left _ _ h1)
     (test_directed (leftward f d) s s' (and_left _ _ h2)) (test_directed d t t' (and_right (subtype S (leftward f d) s s') _ h2)))
+
+-- is the type of this form?
+abbrev pub formed : Former → Ty → Bool
+formed f (leaf b k) = false
+formed f (node g k s t) = same f g
+
+-- types that are compared have the same form
+pub directed_formed : {S : Security} {d : Direction} {s t : Ty} (f : Former) → Directed S d s t → formed f s ≡ formed f t
+directed_formed f (d_leaf h) = refl
+directed_formed f (d_node h p q) = refl
 
 -- The other way round.
 

@@ -8,7 +8,7 @@ pub moved_injective : {e e' : Term} → moved e ≡ moved e' → e ≡ e'
 moved_injective h = cc
 
 -- Only `moved` is followed by a further term.
-abbrev is_moved : Outcome → Bool
+abbrev pub is_moved : Outcome → Bool
 is_moved value = false
 is_moved (moved e) = true
 is_moved denied = false

@@ -1,11 +1,11 @@
 -- Progress (theorem 2.2): a closed term with a type is a value or reduces. No reading of it is denied, and no destructor meets a wrong kind.
 use mathlib.Core.Path.{◌≡◌, refl, sym, ap, ◌∙◌}
-use mathlib.Core.Bool.{Bool, false, So, false≢true}
+use mathlib.Core.Bool.{false, So, false≢true}
 use mathlib.Core.List.{List, []}
 use mathlib.Core.Option.{none-ne-some}
 use Prim.Native.Nat.{ℕ}
 use Rattle.calculus.specs.Security.{Security, Laws}
-use Rattle.calculus.specs.Types.{Former, sum, product, function, Ty, leaf, node, same, exists, parts}
+use Rattle.calculus.specs.Types.{Former, sum, product, function, Ty, exists, parts}
 use Rattle.calculus.specs.Terms.{Term, is_value}
 use Rattle.calculus.specs.Numbers.{literal_of, number_of}
 use Rattle.calculus.specs.Reduction.{Reduces, Outcome, value, moved, denied, stuck, step}
@@ -27,16 +27,12 @@ use Rattle.calculus.specs.Stuck.{
 }
 use Rattle.calculus.specs.Typing.{lookup, HasType, Table}
 use Rattle.calculus.proofs.Booleans.{both}
+use Rattle.calculus.proofs.Directed.{formed}
 use Rattle.calculus.proofs.Inferred.{Inferred, i_var, i_unit, i_lam, i_pair, i_inj, i_app, i_proj, i_case, i_protect, i_mu, i_literal, i_reckon}
 use Rattle.calculus.proofs.Completeness.{n_empty, typed_inferred}
 use Rattle.calculus.proofs.TypedContexts.{filled}
 use Rattle.calculus.proofs.Agreement.{Says, step_says}
 use Rattle.calculus.proofs.Reduction.{step_denied, step_stuck}
-
--- is the type of this form?
-abbrev formed : Former → Ty → Bool
-formed f (leaf b k) = false
-formed f (node g k s t) = same f g
 
 -- Canonical forms: the kind of a value is the form of its type.
 pub canonical_forms : {S : Security} {tab : ℕ → Ty} {Γ : List Ty} {v : Term} {t : Ty} (f : Former) → So (is_value v) → Inferred S tab Γ v t

@@ -59,7 +59,7 @@ table_parts {S} T i e = secure_parts S _ _ _ _ (rw e at (T.secure i))
 
 module _ {S : Security} {tab : ℕ → Ty} (L : Laws S) (T : Table S tab) where
   -- what a destructor gives of a part of what it reads
-  read_secure : (k : Property) (w : Reader) (t : Ty) → So (S.secure k) → So (S.permits k w) → So (secure_t S t)
+  pub read_secure : (k : Property) (w : Reader) (t : Ty) → So (S.secure k) → So (S.permits k w) → So (secure_t S t)
       → So (secure_t S (raise_t S t (S.influence k w)))
   read_secure k w t h m g = raise_secure L t _ g (L.influence_secure k w h m)
 

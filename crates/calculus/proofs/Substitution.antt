@@ -15,7 +15,7 @@ use Rattle.calculus.specs.Typing.{lookup, HasType, t_sub, t_var, t_unit, t_lam, 
 use Rattle.calculus.proofs.Weakening.{weakening}
 
 -- a variable is the outermost one, or one of the others
-outermost_or : {P : Type 0} {s t : Ty} (Δ : List Ty) (n : ℕ) → lookup (Δ ++ (s ∷ [])) n ≡ some t
+pub outermost_or : {P : Type 0} {s t : Ty} (Δ : List Ty) (n : ℕ) → lookup (Δ ++ (s ∷ [])) n ≡ some t
     → (eqb n (length Δ) ≡ true → s ≡ t → P) → (eqb n (length Δ) ≡ false → lookup Δ n ≡ some t → P) → P
 unfolding lookup
 outermost_or {s = s} {t = t} [] zero h k l = k refl (some-injective s t h)

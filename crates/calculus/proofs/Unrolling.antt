@@ -17,7 +17,7 @@ use Rattle.calculus.proofs.Weakening.{weakening}
 
 module _ {S : Security} {tab : ℕ → Ty} (L : Laws S) (T : Table S tab) where
   -- Raised by the influence of its own calls, the result stays at or below itself.
-  absorbed : (k : Property) (w : Reader) (t : Ty) → So (S.secure k) → So (secure_t S t) → So (S.permits k w) → So (S.absorbs k w (top t))
+  pub absorbed : (k : Property) (w : Reader) (t : Ty) → So (S.secure k) → So (secure_t S t) → So (S.permits k w) → So (S.absorbs k w (top t))
       → Directed S below (raise_t S t (S.influence k w)) t
   unfolding secure_t
   absorbed k w (leaf b l) h g m a = d_leaf (L.absorption k l w h g m a)
