@@ -31,3 +31,5 @@ pub mod MigratedScripts
 pub mod Migration
 pub mod CommonTypes
 pub mod Profile
+pub mod PlaceBytes
+pub mod Noninterference

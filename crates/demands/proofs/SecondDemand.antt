@@ -87,11 +87,15 @@ module _ (g t s : Bytes) (octets_g : Octets g) (octets_s : Octets s) where
       let c = infer_complete (properties_laws X.lattice) X.table (term s) type sc_empty h in
       (c.0, goes_typing q ∙ found_accepted (typing S tab [] 0 (term s)) (same_type q ∙ c.1), c.2)
 
+  -- the reported type is the one that is inferred
+  pub reported : (type : Ty) → Accepted g t s type → (script_check [] g t s ≡ accepted tt) × (infer S tab [] (term s) ≡ some type)
+  reported type a = let p = verdict_parts type a in (p.0, sym (same_type p.0) ∙ ap forget p.1)
+
   pub only : (type : Ty) → Accepted g t s type → (script_check [] g t s ≡ accepted tt) × Typed g t s type
   only type a =
-      let p = verdict_parts type a in
+      let p = reported type a in
       let X = known p.0 in
-      (p.0, infer_sound (properties_laws X.lattice) X.table (term s) type sc_empty (sym (same_type p.0) ∙ ap forget p.1))
+      (p.0, infer_sound (properties_laws X.lattice) X.table (term s) type sc_empty p.1)
 
   reports : (type : Ty) → Accepted g t s type → type_bytes (verdict g t s) ≡ accepted (encode_type type)
   unfolding type_bytes

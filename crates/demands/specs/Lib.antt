@@ -6,3 +6,4 @@ pub mod Closed
 pub mod Migration
 pub mod CommonTypes
 pub mod Profile
+pub mod Noninterference
