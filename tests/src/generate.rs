@@ -782,6 +782,68 @@ impl Maker<'_> {
         Term::Case(r, result, tested, first, second)
     }
 
+    /// A term of exactly this type: the introduction form, or around such a term what adds no group to it.
+    fn exactly(&mut self, wanted: &Type, fuel: usize) -> Option<Rc<Term>> {
+        let (top, lowest) = (highest(self.groups), lowest_marks(self.groups));
+        let more = fuel.saturating_sub(1);
+        let part = self.rng.below(more + 1);
+        let rest = more - part;
+        let term = match if fuel == 0 { 7 } else { self.rng.below(8) } {
+            0 => Term::Protect(Raise { ir: 0, ic: top }, self.exactly(wanted, more)?),
+            1 | 2 => {
+                let index = self.index_where(|_, s| matches!(s.form, Form::Sum(..)))?;
+                let sum = Type { marks: lowest, ..self.all[index as usize].clone() };
+                let (a, b) = sum.sides().expect("a sum has sides");
+                let (side, of) =
+                    if self.rng.one_in(2) { (Side::First, a) } else { (Side::Second, b) };
+                let tested = Term::Injection(side, lowest, index, self.make(of, part / 2));
+                let first = self.exactly_under(a, wanted, part / 2)?;
+                let second = self.exactly_under(b, wanted, rest.saturating_sub(1))?;
+                Term::Case(top, OWN_TYPE, Rc::new(tested), first, second)
+            }
+            3 => {
+                let room = MOST_TYPE_RECORDS.saturating_sub(1 + wanted.size());
+                let index = self.index_where(|_, s| s.size() <= room)?;
+                let binder = self.all[index as usize].clone();
+                let body = self.exactly_under(&binder, wanted, part)?;
+                let function = Rc::new(Term::Function(lowest, index, body));
+                Term::Application(top, function, self.make(&binder, rest))
+            }
+            4 => {
+                let room = MOST_TYPE_RECORDS.saturating_sub(1 + wanted.size());
+                let index = self.index_where(|_, s| s.size() <= room)?;
+                let other = self.all[index as usize].clone();
+                let pair = Term::Pair(lowest, self.make(&other, rest), self.exactly(wanted, part)?);
+                Term::Projection(Side::Second, top, Rc::new(pair))
+            }
+            _ => match &wanted.form {
+                Form::Unit => Term::Unit(wanted.marks),
+                Form::Number => Term::Literal(wanted.marks, random_number(self.rng)),
+                Form::Sum(a, b) => {
+                    let sum = self.index_where(|_, s| s.form == wanted.form)?;
+                    let (side, of) =
+                        if self.rng.one_in(2) { (Side::First, a) } else { (Side::Second, b) };
+                    Term::Injection(side, wanted.marks, sum, self.make(of, more))
+                }
+                Form::Pair(a, b) => {
+                    Term::Pair(wanted.marks, self.exactly(a, part)?, self.exactly(b, rest)?)
+                }
+                Form::Function(a, b) => {
+                    let parameter = self.index_where(|_, s| *s == **a)?;
+                    Term::Function(wanted.marks, parameter, self.exactly_under(a, b, more)?)
+                }
+            },
+        };
+        Some(Rc::new(term))
+    }
+
+    fn exactly_under(&mut self, binder: &Type, wanted: &Type, fuel: usize) -> Option<Rc<Term>> {
+        self.context.push(binder.clone());
+        let term = self.exactly(wanted, fuel);
+        self.context.pop();
+        term
+    }
+
     /// A case that finds its type, its branches of two types of this shape, so that what is found may stand
     /// nowhere in the table.
     fn choice(&mut self, shape: &Type, fuel: usize) -> Option<Term> {
@@ -840,6 +902,17 @@ pub fn typed_script(rng: &mut Rng, tables: &Tables, fuel: usize) -> Rc<Term> {
 pub fn typed_at(rng: &mut Rng, tables: &Tables, wanted: &Type, fuel: usize) -> Rc<Term> {
     assert!(fuel <= 200, "deeper than this a script may pass depth 256");
     maker(rng, tables).make(wanted, fuel)
+}
+
+/// A script whose reported type is this one, if the table has the sums and parameters that it has to name.
+pub fn typed_exactly(
+    rng: &mut Rng,
+    tables: &Tables,
+    wanted: &Type,
+    fuel: usize,
+) -> Option<Rc<Term>> {
+    assert!(fuel <= 200, "deeper than this a script may pass depth 256");
+    maker(rng, tables).exactly(wanted, fuel)
 }
 
 /// A recursion applied to an argument, the recursion's body a function that may call it.
