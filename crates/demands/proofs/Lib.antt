@@ -32,4 +32,5 @@ pub mod Migration
 pub mod CommonTypes
 pub mod Profile
 pub mod PlaceBytes
+pub mod RecordKinds
 pub mod Noninterference

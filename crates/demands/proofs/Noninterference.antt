@@ -1,10 +1,9 @@
 -- Item 8: two runs of scripts that differ in what isn't seen end with one value.
-use mathlib.Core.Path.{◌≡◌, refl, sym, ap, subst, ◌∙◌}
-use mathlib.Core.Bool.{Bool, true, false, cond, So}
+use mathlib.Core.Path.{◌≡◌, refl, ap, subst, ◌∙◌}
+use mathlib.Core.Bool.{Bool, true, false, cond}
 use mathlib.Core.List.{List, [], ◌∷◌}
 use Prim.Native.Nat.{ℕ, suc, zero, min}
 use native.Mathlib.Omega.{arith}
-use lib.ListN.{length}
 use Rattle.calculus.specs.Security.{Security}
 use Rattle.calculus.specs.Types.{Ty}
 use Rattle.calculus.specs.Terms.{Term, is_value}
@@ -14,22 +13,23 @@ use Rattle.calculus.specs.Typing.{HasType}
 use Rattle.calculus.proofs.Reduction.{step_value, step_reduces}
 use Rattle.noninterference.specs.Noninterference.{Ends}
 use Rattle.noninterference.proofs.Noninterference.{noninterference}
-use Rattle.rules.specs.Answer.{Bytes, Octets, Answer, accepted, ◌>>◌}
+use Rattle.rules.specs.Answer.{Bytes, Octets, accepted}
 use Rattle.rules.specs.Groups.{groups_of, properties_of}
 use Rattle.rules.specs.Types.{type_at}
 use Rattle.rules.specs.Script.{records, kind, number, encode, term}
 use Rattle.rules.specs.Sheet.{sheet}
 use Rattle.rules.specs.Step.{exceeds, step_in}
 use Rattle.rules.specs.Run.{Ran, run}
-use Rattle.rules.specs.Calls.{script_check, running, first_after, sheeting}
+use Rattle.rules.specs.Calls.{script_check, running, sheeting}
 use Rattle.rules.proofs.Asked.{and_then}
 use Rattle.noninterference.specs.Places as places
-use Rattle.demands.specs.Noninterference.{SamePlace, SamePlaceOf, Unseen, BothEnd, SameRecords, SameValue, Noninterference}
+use Rattle.demands.specs.Noninterference.{Unseen, BothEnd, SameRecords, SameValue, Noninterference}
 use Rattle.demands.proofs.Answers.{accepted_inj}
 use Rattle.demands.proofs.Checked.{script_passed}
 use Rattle.demands.proofs.TypesTable.{tables}
 use Rattle.demands.proofs.SecondDemand.{reported}
-use Rattle.demands.proofs.PlaceBytes.{Around, place_around, of_terms, of_bytes, octets_between}
+use Rattle.demands.proofs.RecordKinds.{same_records}
+use Rattle.demands.proofs.PlaceBytes.{place_around, of_terms, of_bytes, octets_between}
 
 -- A run that ends 0 comes to a value, whatever its limits.
 more_steps : {S : Security} {tab : ℕ → Ty} {e e' v : Term} → Reduces S tab e e' → Ends S tab e' v → Ends S tab e v
@@ -131,6 +131,7 @@ nothing_learned_of_scripts = record {
   nothing_learned = nothing_learned;
   one_value = one_value;
   same_place = λ a b w w' A B W W'. (λ S. of_terms a b w w' A B W S, λ T. of_bytes a b w w' A B W W' T);
+  same_records = same_records;
   place_bytes = λ P.
       let x = place_around P in
       let l = x.1.length_is in

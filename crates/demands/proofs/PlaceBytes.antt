@@ -1,9 +1,8 @@
 -- A place in bytes: the records before and after it are the same whatever stands there, and where a whole term stands among the records of
 -- another, it stands at a place of it.
 use mathlib.Core.Path.{◌≡◌, refl, ap, ap₂, sym, subst, ◌∙◌}
-use mathlib.Core.Logic.{◌↔◌}
 use mathlib.Core.List.{List, [], ◌∷◌, ◌++◌, append_assoc, append-nil}
-use Prim.Native.Nat.{ℕ, zero, suc, ◌+◌, ◌*◌, ◌/◌, ◌%◌, ◌<◌}
+use Prim.Native.Nat.{ℕ, zero, suc, ◌+◌, ◌*◌, ◌/◌, ◌<◌}
 use native.Mathlib.Omega.{arith}
 use lib.ListN.{length, take, drop, length-append}
 use lib.Seq.{take_at, drop_at}
@@ -32,7 +31,7 @@ use Rattle.rules.specs.Answer.{Bytes, Octets}
 use Rattle.rules.specs.Limits.{script_width}
 use Rattle.rules.specs.Script.{full_record, object_record, script_record, encode, size, term}
 use Rattle.rules.proofs.Prefix.{joined, total}
-use Rattle.rules.proofs.Parts.{joined_append, total_append}
+use Rattle.rules.proofs.Parts.{joined_append}
 use Rattle.rules.proofs.PrefixLaws.{encode_length, joined_length, alone, unique, size_positive}
 use Rattle.rules.proofs.Nodes.{At, here, below, node_at, at_bytes}
 use Rattle.rules.proofs.TermCode.{term_shape, term_code, term_prefix, term_operands, term_head, term_head_length, term_encode_is}

@@ -84,6 +84,8 @@ pub record Noninterference : Type 0 where
   -- "The same place" is one notion on bytes and on terms, for all bytes that encode a term, as a script that passes questions 2 to 19 does.
   pub same_place : (a b w w' : Bytes) → encode (term a) ≡ a → encode (term b) ≡ b → encode (term w) ≡ w → encode (term w') ≡ w'
       → SamePlace a b w w' ↔ SamePlaceOf (term a) (term b) (term w) (term w')
+  -- "The same kinds of record in the same order" and "equal literals" are one notion too.
+  pub same_records : (e e' : Term) → SameRecords (encode e) (encode e') ↔ (places.records e ≡ places.records e')
   -- What stands before and after a place is the same for all terms that are put there.
   pub place_bytes : (P : Place) → (before : Bytes) × (after : Bytes) × (length before % script_width ≡ 0)
       × ((e : Term) → encode (put P e) ≡ before ++ (encode e ++ after))
