@@ -67,18 +67,18 @@ abbrev layer : (node : Term → Term) (on : Place → Place) (head : Bytes) (ear
     → ((x : Term) → term_head (node x) ≡ head) → ((x : Term) → term_operands (node x) ≡ earlier ++ (x ∷ later)) → Layer
 layer n o h a b p q r = record { node = n; on = o; head = h; earlier = a; later = b; puts = p; heads = q; operands = r }
 
+-- a place's bytes within a node's
+regrouped : (h a b x c d : Bytes) → h ++ (a ++ ((b ++ (x ++ c)) ++ d)) ≡ (h ++ (a ++ b)) ++ (x ++ (c ++ d))
+regrouped h a b x c d =
+    ap (λ y. h ++ (a ++ y)) (append_assoc b (x ++ c) d ∙ ap (λ y. b ++ y) (append_assoc x c d))
+    ∙ ap (λ y. h ++ y) (sym (append_assoc a b (x ++ (c ++ d))))
+    ∙ sym (append_assoc h (a ++ b) (x ++ (c ++ d)))
+
 module _ (l : Layer) where
   node_bytes : (x : Term) → encode (l.node x) ≡ l.head ++ (joined encode l.earlier ++ (encode x ++ joined encode l.later))
   node_bytes x =
       term_encode_is (l.node x) ∙ ap (λ b. b ++ joined encode (term_operands (l.node x))) (l.heads x)
       ∙ ap (λ b. l.head ++ b) (ap (joined encode) (l.operands x) ∙ joined_append encode l.earlier (x ∷ l.later))
-
-  -- five parts of bytes, put together the other way
-  regrouped : (h a b x c d : Bytes) → h ++ (a ++ ((b ++ (x ++ c)) ++ d)) ≡ (h ++ (a ++ b)) ++ (x ++ (c ++ d))
-  regrouped h a b x c d =
-      ap (λ y. h ++ (a ++ y)) (append_assoc b (x ++ c) d ∙ ap (λ y. b ++ y) (append_assoc x c d))
-      ∙ ap (λ y. h ++ y) (sym (append_assoc a b (x ++ (c ++ d))))
-      ∙ sym (append_assoc h (a ++ b) (x ++ (c ++ d)))
 
   head_length : length l.head ≡ script_width
   head_length = sym (ap length (l.heads (var 0))) ∙ term_head_length (l.node (var 0))
@@ -96,7 +96,6 @@ module _ (l : Layer) where
   }
 
 -- the places in a node, one for each operand
-
 abbrev lam_layer : Property → ℕ → Layer
 unfolding put
 lam_layer k i = layer (lam k i) (in_lam k i) (object_record 2 k i) [] [] (λ P e. refl) (λ x. refl) (λ x. refl)
