@@ -5,7 +5,7 @@ use mathlib.Core.List.{List, [], ◌∷◌, ◌++◌}
 use mathlib.Core.Option.{Option, none, some}
 use Prim.Native.Nat.{ℕ}
 use lib.Dec.{eqb}
-use Rattle.rules.specs.Answer.{Answer, accepted, refused, ◌>>◌, ask, refused_at, each, first_below}
+use Rattle.rules.specs.Answer.{Answer, accepted, refused, ◌>>=◌, ◌>>◌, ask, refused_at, each, first_below}
 use Rattle.rules.specs.Script.{exactly}
 use Rattle.rules.proofs.Asked.{regroup}
 use Rattle.demands.proofs.Answers.{accepted≢refused, number_inj, place_inj}
@@ -87,6 +87,11 @@ decided_then {A} {qs} {rs} m n (refuses F) D = refuses (before_more rs F)
 
 pub decided_yes : {A : Type 0} (a : A) → Decided [] (accepted a)
 decided_yes a = says_yes none_left
+
+-- An answer that comes of a yes goes on.
+pub then_found : {A B : Type 0} (m : Answer (Unit {0})) (a : A) (f : A → Answer B) → ◌>>=◌ (◌>>◌ m (accepted a)) f ≡ ◌>>◌ m (f a)
+then_found (accepted u) a f = refl
+then_found (refused q p) a f = refl
 
 pub checks_more : {A : Type 0} {qs rs : List Question} (l m : Answer (Unit {0})) (n : Answer A) → Decided qs l → Decided rs m
     → Checks (qs ++ rs) n (◌>>◌ l (◌>>◌ m n))

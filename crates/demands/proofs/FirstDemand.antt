@@ -8,22 +8,23 @@ use lib.Dec.{eqb, leb, ltb}
 use lib.ListN.{length, get_or}
 use Rattle.calculus.specs.Types.{Ty}
 use Rattle.calculus.specs.Terms.{is_value}
-use Rattle.rules.specs.Answer.{Bytes, Answer, refused, ◌>>◌, all_below}
+use Rattle.rules.specs.Answer.{Bytes, Answer, accepted, refused, ◌>>◌, all_below}
 use Rattle.rules.specs.Limits.{row_width, type_width, script_width, group_limit, table_limit, script_limit, work_length, answer_length, old_type_width, old_script_width}
 use Rattle.rules.specs.Groups.{rows, properties_of, ok3, ok4, ok5, ok6, ok7, q2, q3, q4, q5, q6, q7}
 use Rattle.rules.specs.Types.{type_count, type_at, ok9, ok10, ok36_type, ok11, ok12, q8_of, q8, q9, q10, q36_types, q11, q12}
 use Rattle.rules.specs.Script.{records, term, size, depths, binders, term_end, ok14, ok15, ok36_object, ok16, ok18, ok19, q13_of, q13, q14, q15, q36_objects, q16, q17, q18, q19}
 use Rattle.rules.specs.Typing.{of_typing, typing}
-use Rattle.rules.specs.Step.{End}
+use Rattle.rules.specs.Step.{End, end_number, end_count, step_in}
 use Rattle.rules.specs.Run.{Ran}
 use Rattle.rules.specs.Sheet.{sheet}
 use Rattle.rules.specs.Calls.{zeros, q1, q25, q26, q27, groups_check, types_check, comparing, script_check, checking, answer_after, work_after, stepping, written_after, running, first_after, scratch_after, sheeting, sheet_after}
 use Rattle.rules.specs.Profile.{ok39, q39, profile_checking}
+use Rattle.rules.specs.Preview.{Preview, q35, previewing, moving}
 use Rattle.rules.specs.Rewriting.{widen_types, widen_script, old_types_check, rewriting_types, rewriting_script, rewritten_after}
 use Rattle.rules.proofs.Asked.{regroup}
 use Rattle.demands.specs.Questions.{question, of_groups, from_9, of_types, from_14, of_script, of_old_types, of_old_script, Checks}
 use Rattle.demands.specs.Demands.{Demand1}
-use Rattle.demands.proofs.Deciding.{Own, Decided, decides, ask_own, each_own, exactly_own, decided_one, decided_then, decided_yes, checks_more, Numbers, refusal_number}
+use Rattle.demands.proofs.Deciding.{Own, Decided, decides, ask_own, each_own, exactly_own, decided_one, decided_then, decided_yes, then_found, checks_more, Numbers, refusal_number}
 use Rattle.demands.proofs.Places.{typing_placed, placed_refusal}
 use Rattle.demands.proofs.OldQuestions.{after_8, after_13, old_types_asked, old_script_asked}
 
@@ -125,6 +126,26 @@ step_decided : (g t s : Bytes) (room : ℕ) → Decided (of_groups g ++ of_types
 unfolding stepping
 step_decided g t s room = decided_then (script_check [] g t s) _ (script_decided [] g t s) (decided_yes _)
 
+preview_decided : (g t s : Bytes) (room steps : ℕ) → Decided (of_groups g ++ of_types g t ++ of_script [] g t s) (previewing g t s room steps)
+unfolding previewing stepping
+preview_decided g t s room steps =
+    rw (then_found {B = Preview} (script_check [] g t s) (step_in (properties_of g) (type_at t) room (term s)) (λ x. accepted (record { end = end_number x; count = end_count (records s) x; steps = steps })))
+    (decided_then (script_check [] g t s) _ (script_decided [] g t s) (decided_yes _))
+
+move_decided : (g t s : Bytes) (room : ℕ) (v : Preview)
+    → Decided
+    (of_groups g
+    ++ of_types g t
+    ++ of_script [] g t s
+    ++ (question 35 (q35 v (records s) (step_in (properties_of g) (type_at t) room (term s))) ∷ []))
+    (moving g t s room v)
+unfolding moving stepping
+move_decided g t s room v =
+    let x = step_in (properties_of g) (type_at t) room (term s) in
+    rw (then_found (script_check [] g t s) x (λ x. ◌>>◌ (q35 v (records s) x) (accepted x)))
+    (decided_then (script_check [] g t s) _ (script_decided [] g t s)
+    (decided_then (q35 v (records s) x) _ (decided_one (ask_own 35 0 (eqb v.end (end_number x) && eqb v.count (end_count (records s) x)))) (decided_yes _)))
+
 run_decided : (g t s : Bytes) (budget first scratch : ℕ)
     → Decided (of_groups g ++ of_types g t ++ of_script (first ∷ scratch ∷ []) g t s) (running g t s budget first scratch)
 unfolding running
@@ -177,6 +198,8 @@ first_demand g t s = record {
   typing_asks = λ q place e.
       placed_refusal (typing (properties_of g) (type_at t) [] 0 (term s)) (typing_placed (properties_of g) (type_at t) (size (term s)) [] 0 (term s) (omega arith)) e;
   profile = profile_asks g t s;
+  preview = λ room steps. decides (preview_decided g t s room steps);
+  move = λ room v. decides (move_decided g t s room v);
   step = λ room. decides (step_decided g t s room);
   run = λ budget first scratch. decides (run_decided g t s budget first scratch);
   page = λ group room. decides (page_decided g t s group room);
@@ -192,6 +215,7 @@ first_demand g t s = record {
     λ l. ap (λ (x : Answer Ty). work_after x old) e ∙ ap (λ (b : Bool). cond b (zeros (length old)) old) l,
     λ l. ap (λ (x : Answer Ty). work_after x old) e ∙ ap (λ (b : Bool). cond b (zeros (length old)) old) l,
   );
+  move_keeps = λ room q place v e old. ap (λ (x : Answer End). written_after x old) e;
   step_keeps = λ room q place e old. ap (λ (x : Answer End). written_after x old) e;
   run_keeps = λ budget first scratch q place e old. (ap (λ (x : Answer Ran). first_after x old) e, ap (λ (x : Answer Ran). scratch_after x old) e);
   page_keeps = λ group room q place e old. ap (λ (x : Answer Bytes). sheet_after x old) e;

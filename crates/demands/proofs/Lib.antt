@@ -34,3 +34,4 @@ pub mod Profile
 pub mod PlaceBytes
 pub mod RecordKinds
 pub mod Noninterference
+pub mod Preview

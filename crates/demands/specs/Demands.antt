@@ -9,9 +9,9 @@ use Rattle.calculus.specs.Typing.{HasType}
 use Rattle.rules.specs.Answer.{Bytes, Octets, accepted, refused}
 use Rattle.rules.specs.Groups.{rows, properties_of}
 use Rattle.rules.specs.Types.{type_count, type_at, encode_type}
-use Rattle.rules.specs.Script.{encode, term, size}
+use Rattle.rules.specs.Script.{records, encode, term, size}
 use Rattle.rules.specs.Typing.{of_typing, typing}
-use Rattle.rules.specs.Step.{at_value, moves, may_not, wrong_kind, too_big, exceeds}
+use Rattle.rules.specs.Step.{at_value, moves, may_not, wrong_kind, too_big, exceeds, step_in}
 use Rattle.rules.specs.Run.{Ran}
 use Rattle.rules.specs.Strip.{strip_script, strip_types, one_group}
 use Rattle.rules.specs.Sheet.{sheet}
@@ -19,6 +19,7 @@ use Rattle.rules.specs.Calls.{zeros, q1, q25, q26, q27, groups_check, types_chec
 use Rattle.rules.specs.Rewriting.{widen_types, widen_script, rewriting_types, rewriting_script, rewritten_after}
 use Rattle.rules.specs.Reach.{verdict, Accepted}
 use Rattle.rules.specs.Profile.{q39, profile_checking}
+use Rattle.rules.specs.Preview.{Preview, q35, previewing, moving}
 use Rattle.demands.specs.Runs.{MovesTo, Repeats, Reaches}
 use Rattle.demands.specs.Questions.{question, of_groups, of_types, of_script, of_old_types, of_old_script, Decides, Checks}
 
@@ -42,6 +43,15 @@ pub record Demand1 (g t s : Bytes) : Type 0 where
   -- typing asks its questions in the order of its definition, and each of a record of the script
   pub typing_asks : (q place : ℕ) → typing (properties_of g) (type_at t) [] 0 (term s) ≡ refused q place → (of_typing q ≡ true) × (place < size (term s))
   pub step : (room : ℕ) → Decides (of_groups g ++ of_types g t ++ of_script [] g t s) (stepping g t s room)
+  -- item 9: "Refusal 35, place 0, comes after 19"
+  pub preview : (room steps : ℕ) → Decides (of_groups g ++ of_types g t ++ of_script [] g t s) (previewing g t s room steps)
+  pub move : (room : ℕ) (v : Preview)
+      → Decides
+      (of_groups g
+      ++ of_types g t
+      ++ of_script [] g t s
+      ++ (question 35 (q35 v (records s) (step_in (properties_of g) (type_at t) room (term s))) ∷ []))
+      (moving g t s room v)
   pub run : (budget first scratch : ℕ)
       → Decides (of_groups g ++ of_types g t ++ of_script (first ∷ scratch ∷ []) g t s) (running g t s budget first scratch)
   pub page : (group room : ℕ)
@@ -65,6 +75,7 @@ pub record Demand1 (g t s : Bytes) : Type 0 where
       × (of_typing q ≡ false → work_after (profile_checking work answer g t s) old ≡ old)
       × (of_typing q ≡ true → work_after (profile_checking work answer g t s) old ≡ zeros (length old))
   pub step_keeps : (room q place : ℕ) → stepping g t s room ≡ refused q place → (old : Bytes) → written_after (stepping g t s room) old ≡ old
+  pub move_keeps : (room q place : ℕ) (v : Preview) → moving g t s room v ≡ refused q place → (old : Bytes) → written_after (moving g t s room v) old ≡ old
   pub run_keeps : (budget first scratch q place : ℕ) → running g t s budget first scratch ≡ refused q place → (old : Bytes)
       → (first_after (running g t s budget first scratch) old ≡ old) × (scratch_after (running g t s budget first scratch) old ≡ old)
   pub page_keeps : (group room q place : ℕ) → sheeting g t s group room ≡ refused q place → (old : Bytes) → sheet_after (sheeting g t s group room) old ≡ old

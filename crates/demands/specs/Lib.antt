@@ -7,3 +7,4 @@ pub mod Migration
 pub mod CommonTypes
 pub mod Profile
 pub mod Noninterference
+pub mod Preview

@@ -14,6 +14,7 @@ pub mod Calls
 pub mod Rewriting
 pub mod Reach
 pub mod Profile
+pub mod Preview
 pub mod Words
 pub mod Report
 pub mod Cases
