@@ -41,6 +41,7 @@ pub enum Question {
     WordsLength = 32,
     Letters = 33,
     DistinctWords = 34,
+    Preview = 35,
     Creators = 36,
     Profile = 39,
 }

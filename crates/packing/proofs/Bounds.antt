@@ -3,13 +3,15 @@
 use Rattle.std.proofs.Common.{Result, Ok, Err, IfErr, ◌<◌, sym, subst, ◌≡◌, refl, Bool, true, false, not, ◌&&◌, ◌||◌, List, [], ◌∷◌, ℕ, zero, suc, ◌+◌, ◌-◌, ◌/◌, ◌%◌, ◌≤◌, arith, eqb-true, leb-true, eqb, leb, ltb, length, get_or}
 use Rattle.std.proofs.Math.Option.{Option, none, some}
 use Rattle.calculus.specs.Terms.{is_value}
-use Rattle.rules.specs.Answer.{Bytes, Octets, Answer, accepted, refused, ◌>>◌, ask, first_from, refused_at, each, all_below}
+use Rattle.rules.specs.Answer.{Bytes, Octets, Answer, accepted, refused, ◌>>=◌, ◌>>◌, ask, first_from, refused_at, each, all_below}
 use Rattle.rules.specs.Limits.{row_width, type_width, script_width, old_type_width, old_script_width, group_limit, table_limit, script_limit, word_limit, words_length, last_question, work_length, answer_length}
 use Rattle.rules.specs.Groups.{rows, properties_of, ok3, ok4, ok5, ok6, ok7, q2, q3, q4, q5, q6}
 use Rattle.rules.specs.Types.{type_count, type_at, ok9, ok10, ok36_type, ok11, ok12, q8_of, q8, q9, q10, q36_types, q11}
 use Rattle.rules.specs.Script.{records, arity, kind, term, size, depths, binders, term_end, exactly, ok14, ok15, ok36_object, ok16, ok18, ok19, q13_of, q13, q14, q15, q36_objects, q16, q17, q18}
 use Rattle.rules.specs.Typing.{of_typing, typing}
 use Rattle.rules.specs.Sheet.{sheet}
+use Rattle.rules.specs.Step.{End, end_number, end_count}
+use Rattle.rules.specs.Preview.{Preview, q35, previewing, moving}
 use Rattle.rules.specs.Words.{q32, q33, ok33, ok34, words_check}
 use Rattle.rules.specs.Calls.{q1, q25, q26, q27, groups_check, types_check, comparing, script_check, checking, stepping, running, sheeting}
 use Rattle.rules.specs.Profile.{ok39, q39, profile_checking}
@@ -133,6 +135,20 @@ script_records rooms g t s e = (q13_fitting rooms s (and_then (q13 rooms s) _ (a
 pub step_bounded : (g t s : Bytes) (room : ℕ) → Bounded (stepping g t s room)
 unfolding stepping
 step_bounded g t s room = then (script_check [] g t s) _ (script_bounded [] g t s) λ e. bounded_yes
+
+-- what follows a step that isn't refused
+after_step : {B : Type 0} (a : Answer End) (f : End → Answer B) → Bounded a → ((x : End) → Bounded (f x)) → Bounded (◌>>=◌ a f)
+after_step (accepted x) f b h = h x
+after_step (refused q p) f (bounded_no l m n) h = bounded_no l m n
+
+pub preview_bounded : (g t s : Bytes) (room steps : ℕ) → Bounded (previewing g t s room steps)
+unfolding previewing
+preview_bounded g t s room steps = after_step (stepping g t s room) _ (step_bounded g t s room) λ x. bounded_yes
+
+pub move_bounded : (g t s : Bytes) (room : ℕ) (v : Preview) → Bounded (moving g t s room v)
+unfolding moving
+move_bounded g t s room v = after_step (stepping g t s room) _ (step_bounded g t s room) λ x.
+    then (q35 v (records s) x) _ (front 35 (eqb v.end (end_number x) && eqb v.count (end_count (records s) x)) (omega arith) (omega arith)) λ e. bounded_yes
 
 pub run_bounded : (g t s : Bytes) (budget first scratch : ℕ) → Bounded (running g t s budget first scratch)
 unfolding running

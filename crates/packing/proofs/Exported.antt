@@ -1,7 +1,7 @@
 -- Every exported answer is bounded, and one number holds it: `unpack` gives it back.
-use Rattle.std.proofs.Common.{◌≡◌, refl, ap, subst, [], ◌∷◌, ℕ, ◌/◌, ◌≤◌, min, arith, leb-true, length}
+use Rattle.std.proofs.Common.{◌≡◌, refl, sym, ap, subst, [], ◌∷◌, ℕ, ◌/◌, ◌≤◌, min, arith, leb-true, length}
 use Rattle.calculus.specs.Types.{Ty, size_t, type_limit}
-use Rattle.rules.specs.Answer.{Bytes, Octets, Answer, accepted, refused}
+use Rattle.rules.specs.Answer.{Bytes, Octets, Answer, accepted, refused, ◌>>=◌, ◌>>◌}
 use Rattle.rules.specs.Limits.{type_width, script_width, old_type_width, old_script_width, sheet_width, table_limit, script_limit}
 use Rattle.rules.specs.Groups.{rows, properties_of}
 use Rattle.rules.specs.Types.{type_at, q8, q8_of}
@@ -15,12 +15,13 @@ use Rattle.rules.specs.Run.{Ran}
 use Rattle.rules.specs.Calls.{q1, q25, q26, q27, groups_check, types_check, script_check, checking, type_records, stepping, step_report, running, run_report, sheeting, sheet_records}
 use Rattle.rules.specs.Profile.{q39, profile_checking}
 use Rattle.rules.specs.Rewriting.{widen_types, widen_script, old_types_check, old_script_check, rewriting_types, rewriting_script, rewritten_records}
-use Rattle.demands.proofs.Answers.{accepted_inj}
+use Rattle.rules.specs.Preview.{Preview, q35, previewing, moving}
+use Rattle.demands.proofs.Answers.{accepted≢refused, accepted_inj}
 use Rattle.rules.proofs.Asked.{and_then, few_types}
 use Rattle.demands.proofs.TypesTable.{tables}
-use Rattle.packing.specs.Packed.{packed, compared, ended, step_ended, run_ended, Bounded, bounded_yes, bounded_no, Holds, holds_yes, holds_no}
+use Rattle.packing.specs.Packed.{packed, compared, ended, step_ended, run_ended, preview_ended, StepCounted, PreviewCounted, counted_yes, counted_no, Bounded, bounded_yes, bounded_no, Holds, holds_yes, holds_no}
 use Rattle.packing.proofs.Unpacked.{Reads, unended}
-use Rattle.packing.proofs.Bounds.{check_bounded, profile_bounded, run_bounded, page_bounded, rewriting_types_bounded, rewriting_script_bounded, script_small}
+use Rattle.packing.proofs.Bounds.{check_bounded, profile_bounded, run_bounded, page_bounded, preview_bounded, move_bounded, rewriting_types_bounded, rewriting_script_bounded, script_small}
 use Rattle.packing.proofs.Sizes.{Small, small_yes, small_no, no_binders, typing_small, Within, within_move, step_within, Ends, run_within, sheet_length}
 
 pub records_bounded : (a : Answer Ty) → Bounded a → Bounded (type_records a)
@@ -154,6 +155,44 @@ step_count g t s room x e =
     subst (λ (y : End). end_count (records s) y ≤ script_limit) (accepted_inj e1.1)
     (count_small (records s) (step_in (properties_of g) (type_at t) room (term s)) (q13_fitting [] s e13).limited (step_within (properties_of g) (type_at t) room (term s)))
 
+-- and so a preview's and a move's, and of a preview its end too
+pub previewed : (g t s : Bytes) (room steps : ℕ) (v : Preview) → previewing g t s room steps ≡ accepted v
+    → (x : End) × (stepping g t s room ≡ accepted x) × (v ≡ record { end = end_number x; count = end_count (records s) x; steps = steps })
+unfolding previewing
+previewed g t s room steps v = go (stepping g t s room)
+  where
+    go : (a : Answer End) → ◌>>=◌ a (λ x. accepted (record { end = end_number x; count = end_count (records s) x; steps = steps })) ≡ accepted v
+        → (x : End) × (a ≡ accepted x) × (v ≡ record { end = end_number x; count = end_count (records s) x; steps = steps })
+    go (accepted x) h = (x, refl, sym (accepted_inj h))
+    go (refused q p) h = accepted≢refused (sym h)
+
+pub preview_count : (g t s : Bytes) (room steps : ℕ) (v : Preview) → previewing g t s room steps ≡ accepted v → v.count ≤ script_limit
+preview_count g t s room steps v h =
+    let q = previewed g t s room steps v h in
+    subst (λ (w : Preview). w.count ≤ script_limit) (sym q.2) (step_count g t s room q.0 q.1)
+
+pub preview_counted : (g t s : Bytes) (room steps : ℕ) → PreviewCounted (previewing g t s room steps)
+preview_counted g t s room steps = go (previewing g t s room steps) refl (preview_bounded g t s room steps)
+  where
+    go : (a : Answer Preview) → previewing g t s room steps ≡ a → Bounded a → PreviewCounted a
+    go (accepted v) e b = counted_yes (preview_count g t s room steps v e)
+    go (refused q p) e (bounded_no l m n) = counted_no n
+
+moving_step : (g t s : Bytes) (room : ℕ) (v : Preview) (x : End) → moving g t s room v ≡ accepted x → stepping g t s room ≡ accepted x
+unfolding moving
+moving_step g t s room v x = go (stepping g t s room)
+  where
+    go : (a : Answer End) → ◌>>=◌ a (λ y. ◌>>◌ (q35 v (records s) y) (accepted y)) ≡ accepted x → a ≡ accepted x
+    go (accepted y) h = (and_then (q35 v (records s) y) _ h).1
+    go (refused q p) h = accepted≢refused (sym h)
+
+pub move_counted : (g t s : Bytes) (room : ℕ) (v : Preview) → StepCounted (step_report s (moving g t s room v))
+move_counted g t s room v = go (moving g t s room v) refl (move_bounded g t s room v)
+  where
+    go : (a : Answer End) → moving g t s room v ≡ a → Bounded a → StepCounted (step_report s a)
+    go (accepted x) e b = counted_yes (step_count g t s room x (moving_step g t s room v x e))
+    go (refused q p) e (bounded_no l m n) = counted_no n
+
 -- What a caller reads off an accepted run's and an accepted step's number is its end and its record count.
 pub run_read : (g t s : Bytes) (budget first scratch : ℕ) (x : Ran) → Octets s → running g t s budget first scratch ≡ accepted x
     → Reads (packed (run_ended (run_report (accepted x)))) x.end (size x.last)
@@ -163,3 +202,6 @@ run_read g t s budget first scratch x o e = unended x.end (size x.last) (run_end
 pub step_read : (g t s : Bytes) (room : ℕ) (x : End) → stepping g t s room ≡ accepted x
     → Reads (packed (step_ended (step_report s (accepted x)))) (end_number x) (end_count (records s) x)
 step_read g t s room x e = unended (end_number x) (end_count (records s) x) (step_count g t s room x e)
+
+pub preview_read : (g t s : Bytes) (room steps : ℕ) (v : Preview) → previewing g t s room steps ≡ accepted v → Reads (packed (preview_ended (accepted v))) v.end v.count
+preview_read g t s room steps v e = unended v.end v.count (preview_count g t s room steps v e)

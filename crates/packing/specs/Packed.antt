@@ -5,6 +5,7 @@ use Rattle.rules.specs.Limits.{script_limit, last_question}
 use Rattle.rules.specs.Run.{Ran}
 use Rattle.rules.specs.Comparison.{Comparison, comparison_number}
 use Rattle.rules.specs.Calls.{StepReport, Report, fill_front}
+use Rattle.rules.specs.Preview.{Preview}
 
 -- 2^32
 abbrev pub half : ℕ
@@ -40,6 +41,9 @@ StepCounted = Counted (λ x. x.count)
 abbrev pub RunCounted : Answer Report → Type 0
 RunCounted = Counted (λ x. x.count)
 
+abbrev pub PreviewCounted : Answer Preview → Type 0
+PreviewCounted = Counted (λ x. x.count)
+
 -- an answer as a number, by what is counted of what was found
 abbrev pub numbered : {A : Type 0} → (A → ℕ) → Answer A → Answer ℕ
 numbered count (accepted x) = accepted (count x)
@@ -71,6 +75,9 @@ step_ended = numbered (λ x. ended x.end x.count)
 abbrev pub run_ended : Answer Report → Answer ℕ
 run_ended = numbered (λ x. ended x.end x.count)
 
+abbrev pub preview_ended : Answer Preview → Answer ℕ
+preview_ended = numbered (λ x. ended x.end x.count)
+
 -- the lowest bytes of a number, the lowest first
 unfoldable pub low_bytes : ℕ → ℕ → Bytes
 low_bytes zero n = []
@@ -83,6 +90,20 @@ steps_width = 8
 -- as many of them as a slice has, later bytes kept; nothing on a refusal
 abbrev pub steps_in : ℕ → Bytes → Bytes
 steps_in n old = fill_front (take (length old) (low_bytes steps_width n)) old
+
+-- the number that these lowest bytes of a slice hold; bytes that it hasn't are 0
+unfoldable pub low_number : ℕ → Bytes → ℕ
+low_number zero s = 0
+low_number (suc k) [] = 0
+low_number (suc k) (b ∷ s) = b + 256 * low_number k s
+
+abbrev pub steps_of : Bytes → ℕ
+steps_of s = low_number steps_width s
+
+-- a number of steps that a call answers, in a lent slice
+abbrev pub steps_left : Answer ℕ → Bytes → Bytes
+steps_left (accepted n) old = steps_in n old
+steps_left (refused q p) old = old
 
 abbrev pub steps_after : Answer Ran → Bytes → Bytes
 steps_after (accepted x) old = steps_in x.steps old

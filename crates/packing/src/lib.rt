@@ -2,10 +2,11 @@
 
 #![tactic(auto)]
 
-ghost use Rattle.std.specs.Prelude.{◌≡◌, ◌+◌, ◌*◌, ◌<◌, IfErr};
+ghost use Rattle.std.specs.Prelude.{◌≡◌, ℕ, ◌+◌, ◌*◌, ◌^◌, ◌≤◌, ◌<◌, length, IfErr};
+ghost use Rattle.rules.specs.Answer.{Bytes};
 ghost use Rattle.answer.specs.Numbers.{number};
 ghost use Rattle.answer.specs.Said.{said};
-ghost use Rattle.packing.specs.Packed.{half, packed, ended, steps_in};
+ghost use Rattle.packing.specs.Packed.{half, packed, ended, steps_width, steps_in, steps_of};
 
 use answer::Refusal;
 
@@ -46,4 +47,14 @@ pub fn put_steps(n: u64, steps: &mut [u8])
     ensures { steps.new ≡ steps_in n steps.old }
 {
     memory::put_fitting(&n.to_le_bytes(), steps);
+}
+
+// The step count that a slice holds, lowest byte first; bytes that it hasn't are 0. What `put_steps` wrote is read again.
+pub fn steps_of(steps: &[u8]) -> u64
+    ensures { (result ≡ steps_of steps.now)
+        × ((n : ℕ) (old : Bytes) → n < 2 ^ 64 → steps_width ≤ length old → steps.now ≡ steps_in n old → result ≡ n) }
+{
+    let mut bytes = [0; 8];
+    memory::put_fitting(steps, &mut bytes);
+    u64::from_le_bytes(bytes)
 }

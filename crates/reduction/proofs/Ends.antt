@@ -10,13 +10,14 @@ use Rattle.rules.specs.Groups.{properties_of}
 use Rattle.rules.specs.Types.{type_at}
 use Rattle.rules.specs.Script.{records, term}
 use Rattle.rules.specs.Step.{End, at_value, moves, may_not, wrong_kind, too_big, exceeds, limited, step_in}
-use Rattle.rules.specs.Calls.{step_report, script_check, stepping, written_after}
+use Rattle.rules.specs.Calls.{step_report, script_check, stepping, front_after, written_after}
 use Rattle.redex.specs.Found.{Site, Finds, finds_redex}
 use Rattle.redex.specs.declared.Found.TheVariants.{Value, Redex, Denied, Stuck}
 use Rattle.redex.proofs.Searches.{finds_step}
 use Rattle.answer.specs.Numbers.{number}
 use Rattle.answer.specs.declared.Refusal.{Refusal}
-use Rattle.reduction.specs.Steps.{told, said_step}
+use Rattle.reduction.specs.Steps.{told, Foresees, foresees_step, foresees_stop, counted, reported, said_step}
+use Rattle.reduction.specs.declared.NextStep.{NextStep}
 use Rattle.reduction.specs.declared.Stop.{Stop}
 use Rattle.reduction.specs.declared.StepReport.{StepReport as Reported}
 
@@ -45,10 +46,19 @@ module _ (S : Security) (tab : ℕ → Ty) (e : Term) where
   unfolding step_in
   ends_too_big room e' h k = rw (h, k)
 
--- what is reported of a step, with the script's own count where it didn't move
-abbrev reported : ℕ → Result ℕ Stop → Reported
-reported own (Ok count) = record { stop = None; records = count }
-reported own (Err stop) = record { stop = Some stop; records = own }
+-- what is counted of a plan is what the step tells
+pub foretold : {g t s : Bytes} {room : ℕ} {next : Result NextStep Stop} → Foresees g t s room next
+    → counted next ≡ told (step_in (properties_of g) (type_at t) room (term s))
+foretold (foresees_step q) = ap Ok q.count_is ∙ sym (ap told q.moves_to)
+foretold (foresees_stop h) = sym h
+
+-- a plan that doesn't move writes nothing
+pub stays : (x : End) {stop : Stop} (w : Bytes) → told x ≡ Err stop → w ≡ front_after x w
+stays at_value w h = refl
+stays (moves e) w h = absurd cc
+stays may_not w h = refl
+stays wrong_kind w h = refl
+stays too_big w h = refl
 
 made : (s : Bytes) (x : End) → said_step (Ok (reported (records s) (told x))) ≡ step_report s (accepted x)
 made s at_value = refl

@@ -1,3 +1,4 @@
 pub mod Starts
 pub mod Splices
 pub mod Ends
+pub mod Moves

@@ -1,5 +1,5 @@
 -- One step: what it is given, and what it reports.
-use Rattle.std.specs.Prelude.{◌≡◌, [], ℕ, ◌+◌, ◌*◌, ◌≤◌, length, Option, None, Some, Result, Ok, Err}
+use Rattle.std.specs.Prelude.{◌≡◌, [], ℕ, ◌+◌, ◌*◌, ◌≤◌, Option, None, Some, Result, Ok, Err}
 use Rattle.calculus.specs.Terms.{Term}
 use Rattle.calculus.specs.Reduction.{plug}
 use Rattle.rules.specs.Answer.{Bytes, Octets, Answer, accepted, refused}
@@ -7,14 +7,14 @@ use Rattle.rules.specs.Limits.{script_width}
 use Rattle.rules.specs.Groups.{properties_of}
 use Rattle.rules.specs.Types.{type_at}
 use Rattle.rules.specs.Script.{term, size}
-use Rattle.rules.specs.Step.{End, at_value, moves, may_not, wrong_kind, too_big}
+use Rattle.rules.specs.Step.{End, at_value, moves, may_not, wrong_kind, too_big, step_in}
 use Rattle.rules.specs.Calls.{StepReport, script_check}
 use Rattle.answer.specs.Numbers.{number}
 use Rattle.answer.specs.declared.Refusal.{Refusal}
 use Rattle.redex.specs.Fates.{contractum}
 use Rattle.redex.specs.Found.{Site}
-use Rattle.contraction.specs.declared.Plan.{Plan}
 use Rattle.contraction.specs.Plans.{Planned}
+use Rattle.reduction.specs.declared.NextStep.{NextStep}
 use Rattle.reduction.specs.declared.Stop.{Stop}
 use Rattle.reduction.specs.declared.Stop.TheVariants.{Value, MayNot, WrongKind, TooBig}
 use Rattle.reduction.specs.declared.StepReport.{StepReport as Reported}
@@ -30,17 +30,25 @@ pub record Sited (g t s : Bytes) (at around : ℕ) : Type 0 where
   pub start : Startable g t s
   pub site : Site (properties_of g) (type_at t) 0 0 (term s) at around
 
--- The new term can be written: the redex at record `at` has this plan and ends before record `end`, and the buffer has room for the
--- whole.
-pub record Placing (g t s : Bytes) (at : ℕ) (p : Plan) (end : ℕ) (w : Bytes) : Type 0 where
+-- That holds over some groups and types.
+pub record Contracting (s : Bytes) (at around : ℕ) : Type 0 where
+  pub groups : Bytes
+  pub types : Bytes
+  pub sited : Sited groups types s at around
+
+-- A planned step is the one that moves the term, into a buffer of `room` bytes: its redex has this plan and ends before record
+-- `end`, and the new term has as many records as are told and fits.
+pub record Placing (g t s : Bytes) (room : ℕ) (n : NextStep) : Type 0 where
   pub start : Startable g t s
   pub around : ℕ
-  pub site : Site (properties_of g) (type_at t) 0 0 (term s) at around
-  pub planned : Planned s site.redex p
-  pub end_is : end ≡ at + size site.redex
+  pub site : Site (properties_of g) (type_at t) 0 0 (term s) n.place around
+  pub planned : Planned s site.redex n.plan
+  pub end_is : n.end ≡ n.place + size site.redex
   pub whole : Term
   pub whole_is : whole ≡ plug site.context (contractum (properties_of g) (type_at t) site.redex)
-  pub fits : script_width * size whole ≤ length w
+  pub count_is : n.records ≡ size whole
+  pub fits : script_width * size whole ≤ room
+  pub moves_to : step_in (properties_of g) (type_at t) room (term s) ≡ moves whole
 
 -- the documents' number of an end: of a step that doesn't move the term, and 1 where nothing stops it
 abbrev pub stop_number : Stop → ℕ
@@ -60,6 +68,20 @@ told (moves e) = Ok (size e)
 told may_not = Err MayNot
 told wrong_kind = Err WrongKind
 told too_big = Err TooBig
+
+-- a plan is that of the step: it moves the term, or tells why it doesn't
+pub data Foresees (g t s : Bytes) (room : ℕ) : Result NextStep Stop → Type 0 where
+  foresees_step : {n : NextStep} → Placing g t s room n → Foresees g t s room (Ok n)
+  foresees_stop : {stop : Stop} → told (step_in (properties_of g) (type_at t) room (term s)) ≡ Err stop → Foresees g t s room (Err stop)
+
+abbrev pub counted : Result NextStep Stop → Result ℕ Stop
+counted (Ok n) = Ok n.records
+counted (Err stop) = Err stop
+
+-- what is reported of a step, with the script's own count where it didn't move
+abbrev pub reported : ℕ → Result ℕ Stop → Reported
+reported own (Ok count) = record { stop = None; records = count }
+reported own (Err stop) = record { stop = Some stop; records = own }
 
 -- "A step reports its end and a record count."
 abbrev pub said_step : Result Reported Refusal → Answer StepReport

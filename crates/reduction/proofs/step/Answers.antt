@@ -17,16 +17,9 @@ pub step_term-requires : goal.step_term-requires
 step_term-requires c =
     startable [] c.args.groups.now c.args.types.now c.args.script.now (λ k. omega (arith, c.type_inv.groups k)) (λ k. omega (arith, c.type_inv.script k)) (sym c.in_ok-script_check.ensures)
 
-pub returns-in-Ok : goal.returns-in-Ok
-returns-in-Ok c =
+pub returns : goal.returns
+returns c =
     let h = passed_step c.args.groups.now c.args.types.now c.args.script.now (length c.args.written.now) (sym c.in_ok-script_check.ensures) in (
-      made_report c.args.script.now (sym c.in-Ok.is ∙ c.step_term.ensures.0) h,
-      c.step_term.ensures.1 ∙ sym (ap (λ (o : Answer End). written_after o c.args.written.now) h),
-    )
-
-pub returns-in-Err : goal.returns-in-Err
-returns-in-Err c =
-    let h = passed_step c.args.groups.now c.args.types.now c.args.script.now (length c.args.written.now) (sym c.in_ok-script_check.ensures) in (
-      rw c.record_count-own.ensures (made_report c.args.script.now (sym c.in-Err.is ∙ c.step_term.ensures.0) h),
+      rw (c.report.ensures, c.record_count-own.ensures) (made_report c.args.script.now c.step_term.ensures.0 h),
       c.step_term.ensures.1 ∙ sym (ap (λ (o : Answer End). written_after o c.args.written.now) h),
     )

@@ -15,43 +15,43 @@ use Rattle.memory.specs.Written.{Room, Written}
 use Rattle.memory.specs.declared.Writer.{Writer}
 use Rattle.memory.proofs.Placed.{then, room_first, room_next}
 use Rattle.substitution.proofs.Reading.{term_length}
-use Rattle.contraction.specs.declared.Plan.{Plan}
 use Rattle.contraction.specs.Plans.{Fit}
 use Rattle.reduction.specs.Steps.{Placing}
+use Rattle.reduction.specs.declared.NextStep.{NextStep}
 use Rattle.reduction.proofs.Starts.{started, named_sides}
 use Rattle.reduction.proofs.Splices.{redex_at, redex_small, redex_shallow, length_is, end_inside, front_is, rest_is}
 use Rattle.reduction.proofs.write_new.Goals as goal
 use Rattle.std.specs.Borrow.{MutBor}
 
-module _ {g t s w : Bytes} {at end : ℕ} {p : Plan} (q : Placing g t s at p end w) where
+module _ {g t s : Bytes} {room : ℕ} {n : NextStep} (q : Placing g t s room n) where
   abbrev new : Term
   new = contractum (properties_of g) (type_at t) q.site.redex
 
-  inside : script_width * end ≤ length s
-  inside = omega (arith, end_inside (started q.start) q.site end q.end_is, length_is (started q.start) q.site)
+  inside : script_width * n.end ≤ length s
+  inside = omega (arith, end_inside (started q.start) q.site n.end q.end_is, length_is (started q.start) q.site)
 
-  at_before : at ≤ end
+  at_before : n.place ≤ n.end
   at_before = omega (arith, q.end_is)
 
   -- the new term's bytes: before the redex, the contractum, after it
   whole_bytes : encode q.whole ≡ before q.site.context ++ (encode new ++ after q.site.context)
   whole_bytes = ap encode q.whole_is ∙ plug_bytes q.site.context new
 
-  begun_room : (out : Writer) {lent : MutBor Bytes} → (out.end ≡ 0) × (out.out ≡ lent) → lent.now ≡ w
+  begun_room : (out : Writer) {lent : MutBor Bytes} → (out.end ≡ 0) × (out.out ≡ lent) → length lent.now ≡ room
       → Room (before q.site.context ++ (encode new ++ after q.site.context)) out
   begun_room out e l =
       transport (λ (b : Bytes). Room b out) whole_bytes
-      (omega (arith, e.0, ap (λ (o : MutBor Bytes). length o.now) e.1, ap length l, q.fits, term_length q.whole))
+      (omega (arith, e.0, ap (λ (o : MutBor Bytes). length o.now) e.1, l, q.fits, term_length q.whole))
 
-  front_written : {out out' : Writer} → Written (take (script_width * at) s) out out' → Written (before q.site.context) out out'
+  front_written : {out out' : Writer} → Written (take (script_width * n.place) s) out out' → Written (before q.site.context) out out'
   front_written {out} {out'} m = transport (λ (b : Bytes). Written b out out') (front_is (started q.start) q.site) m
 
   -- room for the contractum and what follows it, once the front is written
-  next_room : (out : Writer) {out' : Writer} {lent : MutBor Bytes} → (out.end ≡ 0) × (out.out ≡ lent) → lent.now ≡ w → Written (take (script_width * at) s) out out'
+  next_room : (out : Writer) {out' : Writer} {lent : MutBor Bytes} → (out.end ≡ 0) × (out.out ≡ lent) → length lent.now ≡ room → Written (take (script_width * n.place) s) out out'
       → Room (encode new ++ after q.site.context) out'
   next_room out e l m = room_next (encode new ++ after q.site.context) (front_written m) (begun_room out e l)
 
-  abbrev fit : (out : Writer) → Room (encode new ++ after q.site.context) out → Fit g t s at p out
+  abbrev fit : (out : Writer) → Room (encode new ++ after q.site.context) out → Fit g t s n.place n.plan out
   fit out r = record {
     ready = record {
       tree = q.site.redex;
@@ -66,18 +66,18 @@ module _ {g t s w : Bytes} {at end : ℕ} {p : Plan} (q : Placing g t s at p end
     room = room_first (encode new) (after q.site.context) out r;
   }
 
-  whole_written : {o o₁ o₂ o₃ : Writer} → Written (take (script_width * at) s) o o₁ → Written (encode new) o₁ o₂
-      → Written (take (length s - script_width * end) (drop (script_width * end) s)) o₂ o₃ → Written (encode q.whole) o o₃
-  whole_written {o₂ = o₂} {o₃ = o₃} m n r =
-      rw whole_bytes (then (front_written m) (then n (transport (λ (b : Bytes). Written b o₂ o₃) (rest_is (started q.start) q.site end q.end_is) r)))
+  whole_written : {o o₁ o₂ o₃ : Writer} → Written (take (script_width * n.place) s) o o₁ → Written (encode new) o₁ o₂
+      → Written (take (length s - script_width * n.end) (drop (script_width * n.end) s)) o₂ o₃ → Written (encode q.whole) o o₃
+  whole_written {o₂ = o₂} {o₃ = o₃} m k r =
+      rw whole_bytes (then (front_written m) (then k (transport (λ (b : Bytes). Written b o₂ o₃) (rest_is (started q.start) q.site n.end q.end_is) r)))
 
-pub overflow_mul-at : goal.overflow_mul-at
-overflow_mul-at c = omega (arith, inside c.requires, at_before c.requires)
+pub overflow_mul-next : goal.overflow_mul-next
+overflow_mul-next c = omega (arith, inside c.requires, at_before c.requires)
 
 pub slice_bounds-put-end : goal.slice_bounds-put-end
 slice_bounds-put-end c =
-    let l : script_width * c.args.at ≤ length c.args.script.now = omega (arith, inside c.requires, at_before c.requires) in
-    omega (arith, length-take-le (script_width * c.args.at) c.args.script.now l)
+    let l : script_width * c.args.next.place ≤ length c.args.script.now = omega (arith, inside c.requires, at_before c.requires) in
+    omega (arith, length-take-le (script_width * c.args.next.place) c.args.script.now l)
 
 pub put-requires : goal.put-requires
 put-requires c =
@@ -87,8 +87,8 @@ put-requires c =
 pub write_contractum-requires : goal.write_contractum-requires
 write_contractum-requires c = fit c.requires c.put.new.self (next_room c.requires c.new-out.result c.new-out.ensures refl c.put.ensures)
 
-pub overflow_mul-end : goal.overflow_mul-end
-overflow_mul-end c = omega (arith, inside c.requires)
+pub overflow_mul-next-2 : goal.overflow_mul-next-2
+overflow_mul-next-2 c = omega (arith, inside c.requires)
 
 pub slice_bounds-put-count : goal.slice_bounds-put-count
 slice_bounds-put-count c = omega (arith, inside c.requires)
@@ -100,7 +100,7 @@ pub put-requires-2 : goal.put-requires-2
 put-requires-2 c =
     let q = c.requires in
     let r = next_room q c.new-out.result c.new-out.ensures refl c.put.ensures in
-    rw (rest_is (started q.start) q.site c.args.end q.end_is) (room_next _ (c.write_contractum.ensures (fit q c.put.new.self r)) r)
+    rw (rest_is (started q.start) q.site c.args.next.end q.end_is) (room_next _ (c.write_contractum.ensures (fit q c.put.new.self r)) r)
 
 pub returns : goal.returns
 returns c q =
