@@ -1,5 +1,5 @@
 /*
- * Wigneld: the check, the run and the sheet of a treatment log's scripts, for C99 and C++ on x86-64 Linux.
+ * Wigneld: the check, the run, the sheet and the next step of a treatment log's scripts, for C99 and C++ on x86-64 Linux.
  *
  * Every function is total: any bytes of any length get an answer, and a refusal changes nothing that was lent, but for a work
  * buffer in use, which ends as zeros. Nothing is allocated, kept or printed, so calls from several threads are apart as long as
@@ -7,9 +7,9 @@
  *
  * What the caller owes, since no check can see it from inside:
  *  - each pointer has as many bytes behind it as the length after it says; NULL only with length 0;
- *  - a buffer that a call writes to (work, answer, first, scratch, steps, sheet) overlaps none of the call's other slices;
+ *  - a buffer that a call writes to (work, answer, first, scratch, written, steps, sheet) overlaps none of the call's other slices;
  *  - nobody else writes any of them while the call runs;
- *  - the stack has room (WIGNELD_CHECK_STACK_BYTES and the two after it).
+ *  - the stack has room (WIGNELD_CHECK_STACK_BYTES and the four after it).
  */
 #ifndef WIGNELD_H
 #define WIGNELD_H
@@ -158,7 +158,7 @@ extern "C" {
 #define WIGNELD_ANSWER_BYTES (WIGNELD_MOST_TYPE_RECORDS * WIGNELD_TYPE_RECORD_BYTES)
 #define WIGNELD_WORK_BYTES (WIGNELD_MOST_DEPTH * WIGNELD_ANSWER_BYTES)
 
-/* Buffers of this size are never too short: a run's first and scratch, its step count, and a sheet. */
+/* Buffers of this size are never too short: a run's first and scratch and a move's written, a step count, and a sheet. */
 #define WIGNELD_RUN_BYTES WIGNELD_SCRIPT_LONGEST_BYTES
 #define WIGNELD_STEPS_BYTES 8
 #define WIGNELD_SHEET_BYTES (WIGNELD_MOST_SCRIPT_RECORDS * WIGNELD_SHEET_RECORD_BYTES)
@@ -203,8 +203,30 @@ uint64_t wigneld_sheet(const uint8_t *groups, size_t groups_length, const uint8_
                        const uint8_t *value, size_t value_length, uint64_t group, uint8_t *sheet, size_t sheet_length);
 
 /*
+ * What the next step of a script would give, in a buffer of `written_length` bytes: questions 2 to 19. Nothing is lent to be
+ * written. wigneld_step_end and wigneld_step_count read the end and the record count off the answer: the script's own count unless
+ * the end is WIGNELD_END_MOVED. A preview stays good for as long as the groups, the types and the script stay as they are and the
+ * buffer that the move writes to has this length.
+ */
+uint64_t wigneld_preview(const uint8_t *groups, size_t groups_length, const uint8_t *types, size_t types_length,
+                         const uint8_t *script, size_t script_length, uint64_t written_length);
+
+/*
+ * Makes the step that a preview showed: questions 2 to 19, and then 35 where `end` or `records` isn't what this script and a buffer
+ * of `written_length` bytes give now. They are numbers that the caller kept, and any are answered. With end WIGNELD_END_MOVED the new
+ * term stands in front of `written`, later bytes are kept, and the number of steps in `steps` goes up by one, where the largest
+ * number of 64 bits stays. With any other end, and on a refusal, nothing changes; the script has no next step then.
+ *
+ * The number of steps so far is the caller's: WIGNELD_STEPS_BYTES bytes, lowest first, zeros before the first move. Where fewer
+ * bytes are lent, the missing ones are taken as 0, and as many are written back as there are. It is never asked whether it is right.
+ */
+uint64_t wigneld_move(const uint8_t *groups, size_t groups_length, const uint8_t *types, size_t types_length,
+                      const uint8_t *script, size_t script_length, uint64_t end, uint64_t records, uint8_t *written,
+                      size_t written_length, uint8_t *steps, size_t steps_length);
+
+/*
  * Taking an answer apart. Every reader looks for a refusal first, so that none is taken for anything else: counts are then 0, and
- * a run's end is none that a run can have.
+ * a run's or a step's end is none that it can have.
  */
 
 /* The number of the first question answered no, and 0 where the call was not refused. */
@@ -225,13 +247,14 @@ static inline uint32_t wigneld_count(uint64_t answer)
     return wigneld_question(answer) != 0 ? 0 : (uint32_t)answer;
 }
 
-/* How a run ends. */
+/* How a run or a step ends. */
 #define WIGNELD_END_VALUE 0      /* a value */
-#define WIGNELD_END_SPENT 1      /* the budget is spent */
+#define WIGNELD_END_SPENT 1      /* of a run: the budget is spent */
+#define WIGNELD_END_MOVED 1      /* of a step: there is a next term */
 #define WIGNELD_END_MAY_NOT 2    /* the reader may not read an object; never after an accepted check */
 #define WIGNELD_END_WRONG_KIND 3 /* an object of the wrong kind; never after an accepted check */
 #define WIGNELD_END_TOO_BIG 4    /* the next term is too large or too deep */
-#define WIGNELD_END_REFUSED 255  /* there was no run: the call was refused. No run ends so */
+#define WIGNELD_END_REFUSED 255  /* there was no run or step: the call was refused. None ends so */
 
 static inline unsigned wigneld_run_end(uint64_t answer)
 {
@@ -255,6 +278,18 @@ static inline uint64_t wigneld_run_steps(uint64_t answer, const uint8_t *steps)
     for (i = WIGNELD_STEPS_BYTES - 1; i >= 0; i--)
         made = made << 8 | steps[i];
     return made;
+}
+
+/* Of a preview or a move: the step's end, and WIGNELD_END_REFUSED where the call was refused. */
+static inline unsigned wigneld_step_end(uint64_t answer)
+{
+    return wigneld_run_end(answer);
+}
+
+/* Of a preview or a move: the record count after the step, and 0 where the call was refused. */
+static inline uint32_t wigneld_step_count(uint64_t answer)
+{
+    return wigneld_run_count(answer);
 }
 
 /* What the place of a refusal counts. The last two are for calls that don't exist yet. */
@@ -304,7 +339,7 @@ static inline unsigned wigneld_place_kind_over(unsigned question, const uint8_t 
                : WIGNELD_PLACE_SCRIPT_RECORD;
 }
 
-/* The last question there is. 28 to 30, 35, 37 and 38 are none yet; 32 to 34 are the report program's, of its file of words, and 39 is
+/* The last question there is. 28 to 30, 37 and 38 are none yet; 32 to 34 are the report program's, of its file of words, and 39 is
    wigneld_check_profile's (wigneld_office.h). */
 #define WIGNELD_LAST_QUESTION 39
 
@@ -348,7 +383,7 @@ static inline const char *wigneld_asked(unsigned question)
         "the table of words has 84 bytes",                                 /* 32 */
         "a word is 1 to 12 letters a to z and then zero bytes",            /* 33 */
         "a word is none of the earlier ones",                              /* 34 */
-        none,                                                              /* 35 */
+        "the preview is the one that the script and the buffer give",      /* 35 */
         "a record's indirect creators are at or below its creators",       /* 36 */
         none,                                                              /* 37 */
         none,                                                              /* 38 */

@@ -3,7 +3,7 @@
 //! An answer is one number: refused is question * 2^32 + place; otherwise the upper half is 0 and
 //! the lower half is what the call answers. A call that asks nothing answers its number as it is.
 
-use crate::calls::{RunReport, StepReport};
+use crate::calls::{MoveReport, Preview, RunReport, StepReport};
 use crate::refusal::{Answer, Refusal};
 use crate::types::Comparison;
 
@@ -32,6 +32,20 @@ mod raw {
             value: *const u8, value_length: usize,
             group: u64,
             sheet: *mut u8, sheet_length: usize,
+        ) -> u64;
+        pub fn wigneld_preview(
+            groups: *const u8, groups_length: usize,
+            types: *const u8, types_length: usize,
+            script: *const u8, script_length: usize,
+            written_length: u64,
+        ) -> u64;
+        pub fn wigneld_move(
+            groups: *const u8, groups_length: usize,
+            types: *const u8, types_length: usize,
+            script: *const u8, script_length: usize,
+            end: u64, records: u64,
+            written: *mut u8, written_length: usize,
+            steps: *mut u8, steps_length: usize,
         ) -> u64;
 
         pub fn wigneld_compare(
@@ -178,6 +192,47 @@ pub fn sheet(groups: &[u8], types: &[u8], value: &[u8], group: u64, sheet: &mut 
     }
 }
 
+pub fn preview(groups: &[u8], types: &[u8], script: &[u8], written_length: u64) -> u64 {
+    unsafe {
+        raw::wigneld_preview(
+            groups.as_ptr(),
+            groups.len(),
+            types.as_ptr(),
+            types.len(),
+            script.as_ptr(),
+            script.len(),
+            written_length,
+        )
+    }
+}
+
+/// The end and the record count are those of `given`; the number of steps so far is in `steps`.
+pub fn move_on(
+    groups: &[u8],
+    types: &[u8],
+    script: &[u8],
+    given: Preview,
+    written: &mut [u8],
+    steps: &mut [u8],
+) -> u64 {
+    unsafe {
+        raw::wigneld_move(
+            groups.as_ptr(),
+            groups.len(),
+            types.as_ptr(),
+            types.len(),
+            script.as_ptr(),
+            script.len(),
+            given.end,
+            given.records,
+            written.as_mut_ptr(),
+            written.len(),
+            steps.as_mut_ptr(),
+            steps.len(),
+        )
+    }
+}
+
 pub fn compare(groups: &[u8], types: &[u8], first: u64, second: u64) -> u64 {
     unsafe {
         raw::wigneld_compare(
@@ -296,6 +351,16 @@ pub fn packed_count(answer: &Answer<u32>) -> u64 {
 /// Step: end * 65,536 + records.
 pub fn packed_step(answer: &Answer<StepReport>) -> u64 {
     packed(answer, |report| report.end as u64 * 65_536 + report.records as u64)
+}
+
+/// Preview: end * 65,536 + records; the number of steps stays with the caller.
+pub fn packed_preview(answer: &Answer<Preview>) -> u64 {
+    packed(answer, |shown| shown.end * 65_536 + shown.records)
+}
+
+/// Move: end * 65,536 + records; the number of steps is written apart.
+pub fn packed_move(answer: &Answer<MoveReport>) -> u64 {
+    packed(answer, |moved| moved.step.end as u64 * 65_536 + moved.step.records as u64)
 }
 
 /// Run: end * 65,536 + records; the steps are written apart.

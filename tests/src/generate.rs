@@ -10,6 +10,7 @@ use crate::limits::{
     MOST_DEPTH, MOST_GROUPS, MOST_TABLE_RECORDS, MOST_TYPE_RECORDS, OLD_SCRIPT_BYTES,
     OLD_TYPE_BYTES, OWN_TYPE, SCRIPT_BYTES, TYPE_BYTES, WORDS_BYTES, WORD_BYTES,
 };
+use crate::preview::Preview;
 use crate::script::{
     names_c, names_ic, names_ir, names_number, names_r, operand_count, Record, Side, Term, OPERANDS,
 };
@@ -1339,6 +1340,30 @@ pub fn old_form(inputs: &Inputs) -> Inputs {
         types: old_types(&inputs.types),
         script: old_script(&inputs.script),
     }
+}
+
+/// What is handed back to a move: the preview as it was shown, or an end or a count of some other step, wider ones among them; the
+/// number of steps may be any.
+pub fn handed_back(rng: &mut Rng, shown: Preview) -> Preview {
+    let mut given = shown;
+    let other = match rng.below(4) {
+        0 => 1 << rng.between(16, 63),
+        1 => 1 << rng.below(16),
+        _ => rng.between(1, 5) as u64,
+    };
+    match rng.below(8) {
+        0 => given.end = given.end.wrapping_add(other),
+        1 => given.records = given.records.wrapping_add(other),
+        2 => given.records = given.records.wrapping_sub(other),
+        3 => (given.end, given.records) = (rng.below(6) as u64, rng.below(12) as u64),
+        _ => {}
+    }
+    given.steps = match rng.below(4) {
+        0 => *rng.pick(&[0, 255, (1 << 40) - 1, u64::MAX - 1, u64::MAX]),
+        1 => rng.word(),
+        _ => shown.steps,
+    };
+    given
 }
 
 /// Bytes damaged in some way: a bit, a byte, a cut, an addition, or all of them by chance.

@@ -15,6 +15,7 @@ pub mod folders;
 pub mod generate;
 pub mod groups;
 pub mod limits;
+pub mod preview;
 pub mod refusal;
 pub mod report;
 pub mod rewriting;

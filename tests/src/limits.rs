@@ -44,7 +44,7 @@ pub const REPORT_SHEET_BYTES: usize = MOST_SCRIPT_RECORDS * SHEET_BYTES;
 /// Report program and cases: "budget 1,000".
 pub const REPORT_BUDGET: u64 = 1000;
 
-/// The highest question of a call: 1 to 27, and of document 02 31 (item 3), 36 (item 10) and 39 (item 12).
+/// The highest question of a call: 1 to 27, and of document 02 31 (item 3), 35 (item 9), 36 (item 10) and 39 (item 12).
 pub const LAST_QUESTION: usize = 39;
 
 /// Questions 8 and 13: whole records of this width, 1 to `most`?

@@ -8,6 +8,7 @@ mod common;
 use std::rc::Rc;
 
 use common::*;
+use wigneld_tests::calls::Preview;
 use wigneld_tests::cases::{self, Inputs};
 use wigneld_tests::engine;
 use wigneld_tests::generate::*;
@@ -77,6 +78,14 @@ fn compare_all(rng: &mut Rng, inputs: &Inputs) -> usize {
     let written = rng.bytes(written);
     let _ = step_with(inputs, written);
 
+    let length = near(rng, script);
+    let steps = rng.word();
+    let forged = Preview { end: rng.below(5) as u64, records: records as u64, steps };
+    let given = handed_back(rng, preview_of(inputs, length as u64, steps).unwrap_or(forged));
+    let length = if rng.one_in(4) { near(rng, script) } else { length };
+    let written = rng.bytes(length);
+    let _ = move_with(inputs, given, written);
+
     let group = index(rng, inputs.groups.len() / ROW_BYTES);
     let sheet = near(rng, records * SHEET_BYTES);
     let sheet = rng.bytes(sheet);
@@ -94,9 +103,9 @@ fn compare_all(rng: &mut Rng, inputs: &Inputs) -> usize {
     }
     strip_script(&mut inputs.script.clone());
     strip_types(&mut inputs.types.clone());
-    // Five calls with lent buffers, two checks of tables, four and three look-ups, two strippings, the
+    // Six calls with lent buffers and a preview, two checks of tables, four and three look-ups, two strippings, the
     // rewriting.
-    16 + compare_rewriting(rng, &old_form(inputs))
+    18 + compare_rewriting(rng, &old_form(inputs))
 }
 
 /// The three rewriting calls on inputs of the old form.

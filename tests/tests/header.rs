@@ -210,9 +210,10 @@ const FIELDS: [(&str, usize, &str); 10] = [
 ];
 
 /// What the document's text alone gives: header, value.
-const TEXT: [(&str, usize); 13] = [
+const TEXT: [(&str, usize); 14] = [
     ("END_VALUE", End::Value as usize),
     ("END_SPENT", End::Moved as usize),
+    ("END_MOVED", End::Moved as usize),
     ("END_MAY_NOT", End::MayNot as usize),
     ("END_WRONG_KIND", End::WrongKind as usize),
     ("END_TOO_BIG", End::TooBig as usize),
@@ -227,12 +228,14 @@ const TEXT: [(&str, usize); 13] = [
 ];
 
 /// Held elsewhere, or by nothing but what their comments say.
-const OTHERS: [&str; 6] = [
+const OTHERS: [&str; 8] = [
     "VERSION",
     "FORMAT",
     "CHECK_STACK_BYTES",
     "RUN_STACK_BYTES",
     "SHEET_STACK_BYTES",
+    "PREVIEW_STACK_BYTES",
+    "MOVE_STACK_BYTES",
     "END_REFUSED",
 ];
 

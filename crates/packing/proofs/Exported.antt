@@ -1,5 +1,5 @@
 -- Every exported answer is bounded, and one number holds it: `unpack` gives it back.
-use Rattle.std.proofs.Common.{◌≡◌, refl, sym, ap, subst, [], ◌∷◌, ℕ, ◌/◌, ◌≤◌, min, arith, leb-true, length}
+use Rattle.std.proofs.Common.{◌≡◌, refl, sym, ap, ap₂, ◌∙◌, subst, [], ◌∷◌, ℕ, ◌/◌, ◌≤◌, ◌<◌, min, arith, leb-true, length}
 use Rattle.calculus.specs.Types.{Ty, size_t, type_limit}
 use Rattle.rules.specs.Answer.{Bytes, Octets, Answer, accepted, refused, ◌>>=◌, ◌>>◌}
 use Rattle.rules.specs.Limits.{type_width, script_width, old_type_width, old_script_width, sheet_width, table_limit, script_limit}
@@ -19,7 +19,7 @@ use Rattle.rules.specs.Preview.{Preview, q35, previewing, moving}
 use Rattle.demands.proofs.Answers.{accepted≢refused, accepted_inj}
 use Rattle.rules.proofs.Asked.{and_then, few_types}
 use Rattle.demands.proofs.TypesTable.{tables}
-use Rattle.packing.specs.Packed.{packed, compared, ended, step_ended, run_ended, preview_ended, StepCounted, PreviewCounted, counted_yes, counted_no, Bounded, bounded_yes, bounded_no, Holds, holds_yes, holds_no}
+use Rattle.packing.specs.Packed.{packed, compared, ended, step_ended, run_ended, preview_ended, half, end_of, count_of, StepCounted, PreviewCounted, preview_yes, preview_no, counted_yes, counted_no, Bounded, bounded_yes, bounded_no, Holds, holds_yes, holds_no}
 use Rattle.packing.proofs.Unpacked.{Reads, unended}
 use Rattle.packing.proofs.Bounds.{check_bounded, profile_bounded, run_bounded, page_bounded, preview_bounded, move_bounded, rewriting_types_bounded, rewriting_script_bounded, script_small}
 use Rattle.packing.proofs.Sizes.{Small, small_yes, small_no, no_binders, typing_small, Within, within_move, step_within, Ends, run_within, sheet_length}
@@ -171,12 +171,24 @@ preview_count g t s room steps v h =
     let q = previewed g t s room steps v h in
     subst (λ (w : Preview). w.count ≤ script_limit) (sym q.2) (step_count g t s room q.0 q.1)
 
+end_small : (x : End) → end_number x ≤ 4
+end_small at_value = omega arith
+end_small (moves e) = omega arith
+end_small may_not = omega arith
+end_small wrong_kind = omega arith
+end_small too_big = omega arith
+
+preview_end : (g t s : Bytes) (room steps : ℕ) (v : Preview) → previewing g t s room steps ≡ accepted v → v.end ≤ 4
+preview_end g t s room steps v h =
+    let q = previewed g t s room steps v h in
+    subst (λ (w : Preview). w.end ≤ 4) (sym q.2) (end_small q.0)
+
 pub preview_counted : (g t s : Bytes) (room steps : ℕ) → PreviewCounted (previewing g t s room steps)
 preview_counted g t s room steps = go (previewing g t s room steps) refl (preview_bounded g t s room steps)
   where
     go : (a : Answer Preview) → previewing g t s room steps ≡ a → Bounded a → PreviewCounted a
-    go (accepted v) e b = counted_yes (preview_count g t s room steps v e)
-    go (refused q p) e (bounded_no l m n) = counted_no n
+    go (accepted v) e b = preview_yes (preview_end g t s room steps v e) (preview_count g t s room steps v e)
+    go (refused q p) e (bounded_no l m n) = preview_no n
 
 moving_step : (g t s : Bytes) (room : ℕ) (v : Preview) (x : End) → moving g t s room v ≡ accepted x → stepping g t s room ≡ accepted x
 unfolding moving
@@ -203,5 +215,21 @@ pub step_read : (g t s : Bytes) (room : ℕ) (x : End) → stepping g t s room �
     → Reads (packed (step_ended (step_report s (accepted x)))) (end_number x) (end_count (records s) x)
 step_read g t s room x e = unended (end_number x) (end_count (records s) x) (step_count g t s room x e)
 
-pub preview_read : (g t s : Bytes) (room steps : ℕ) (v : Preview) → previewing g t s room steps ≡ accepted v → Reads (packed (preview_ended (accepted v))) v.end v.count
-preview_read g t s room steps v e = unended v.end v.count (preview_count g t s room steps v e)
+-- What a caller reads off a preview's number that is no refusal is the preview, with the number of steps that is the caller's.
+pub preview_read : (g t s : Bytes) (room steps n : ℕ) → n ≡ packed (preview_ended (previewing g t s room steps)) → n < half
+    → previewing g t s room steps ≡ accepted (record { end = end_of n; count = count_of n; steps = steps })
+preview_read g t s room steps n h l = go (previewing g t s room steps) refl (preview_bounded g t s room steps) h
+  where
+    Wanted : Answer Preview → Type 0
+    Wanted a = a ≡ accepted (record { end = end_of n; count = count_of n; steps = steps })
+
+    go : (a : Answer Preview) → previewing g t s room steps ≡ a → Bounded a → n ≡ packed (preview_ended a) → Wanted a
+    go (accepted v) e b k =
+        let r = unended v.end v.count (preview_count g t s room steps v e) in
+        let q = previewed g t s room steps v e in
+        let own : v.steps ≡ steps = ap (λ (w : Preview). w.steps) q.2 in
+        let end : v.end ≡ end_of n = sym (ap end_of k ∙ r.end_is) in
+        let count : v.count ≡ count_of n = sym (ap count_of k ∙ r.count_is) in
+        ap₂ (λ (x y : ℕ). accepted (record { end = x; count = y; steps = v.steps })) end count
+        ∙ ap (λ (x : ℕ). accepted (record { end = end_of n; count = count_of n; steps = x })) own
+    go (refused q p) e (bounded_no l' m o) k = let z : ◌≡◌ {A = ℕ} 0 1 = omega (arith, k) in absurd (omega (arith, z))

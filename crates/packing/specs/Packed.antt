@@ -41,8 +41,10 @@ StepCounted = Counted (λ x. x.count)
 abbrev pub RunCounted : Answer Report → Type 0
 RunCounted = Counted (λ x. x.count)
 
-abbrev pub PreviewCounted : Answer Preview → Type 0
-PreviewCounted = Counted (λ x. x.count)
+-- and so a preview, whose end is one of a step's
+pub data PreviewCounted : Answer Preview → Type 0 where
+  preview_yes : {x : Preview} → x.end ≤ 4 → x.count ≤ script_limit → PreviewCounted (accepted x)
+  preview_no : {q p : ℕ} → p ≤ script_limit → PreviewCounted (refused q p)
 
 -- an answer as a number, by what is counted of what was found
 abbrev pub numbered : {A : Type 0} → (A → ℕ) → Answer A → Answer ℕ

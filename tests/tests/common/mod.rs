@@ -7,7 +7,7 @@
 
 pub mod records;
 
-use wigneld_tests::calls::{self, RunReport, StepReport};
+use wigneld_tests::calls::{self, MoveReport, Preview, RunReport, StepReport};
 use wigneld_tests::cases::Inputs;
 use wigneld_tests::limits::{ANSWER_BYTES, REPORT_RUN_BYTES, SCRIPT_BYTES, TYPE_BYTES, WORK_BYTES};
 use wigneld_tests::refusal::{Answer, Refusal};
@@ -155,6 +155,29 @@ pub fn step_with(inputs: &Inputs, written: Vec<u8>) -> (Answer<StepReport>, Vec<
     (result, after)
 }
 
+/// A preview of the step into a buffer of this length, with a number of steps so far.
+pub fn preview_of(inputs: &Inputs, length: u64, steps: u64) -> Answer<Preview> {
+    let Inputs { groups, types, script } = inputs;
+    let result = calls::preview(groups, types, script, length, steps);
+    #[cfg(feature = "engine")]
+    compared::preview(inputs, length, &result);
+    result
+}
+
+/// A move with what a preview gave, or with other numbers, and this written buffer.
+pub fn move_with(
+    inputs: &Inputs,
+    given: Preview,
+    written: Vec<u8>,
+) -> (Answer<MoveReport>, Vec<u8>) {
+    let Inputs { groups, types, script } = inputs;
+    let mut after = written.clone();
+    let result = calls::move_on(groups, types, script, given, &mut after);
+    #[cfg(feature = "engine")]
+    compared::move_on(inputs, given, &written, &result, &after);
+    (result, after)
+}
+
 /// A sheet in this buffer.
 pub fn sheet_with(inputs: &Inputs, group: u64, sheet: Vec<u8>) -> (Answer<u32>, Vec<u8>) {
     let Inputs { groups, types, script } = inputs;
@@ -250,6 +273,15 @@ pub fn step_reports(inputs: &Inputs, room: usize, end: u8, records: u32) -> Vec<
     written[..length].to_vec()
 }
 
+pub fn move_in(inputs: &Inputs, given: Preview, length: usize) -> (Answer<MoveReport>, Vec<u8>) {
+    move_with(inputs, given, filled(length))
+}
+
+/// Asserts a refusal of a move, and that it writes nothing.
+pub fn move_refuses(inputs: &Inputs, given: Preview, length: usize, question: u32, place: u32) {
+    assert_eq!(move_in(inputs, given, length), (no(question, place), filled(length)));
+}
+
 pub fn rewrite_types_in(groups: &[u8], types: &[u8], length: usize) -> (Answer<u32>, Vec<u8>) {
     rewrite_types_with(groups, types, filled(length))
 }
@@ -280,8 +312,10 @@ pub fn sheet_in(inputs: &Inputs, group: u64, length: usize) -> (Answer<u32>, Vec
 mod compared {
     use super::*;
     use wigneld_tests::engine::{
-        self, packed_comparison, packed_count, packed_nothing, packed_run, packed_step,
+        self, packed_comparison, packed_count, packed_move, packed_nothing, packed_preview,
+        packed_run, packed_step,
     };
+    use wigneld_tests::steps::End;
 
     const GUARD: usize = 61;
 
@@ -530,6 +564,52 @@ mod compared {
         );
         answers(found, packed_step(expected), "step");
         same(written.take("written"), after, "step: written buffer");
+        given.unchanged(inputs);
+    }
+
+    pub fn preview(inputs: &Inputs, length: u64, expected: &Answer<Preview>) {
+        let mut given = Given::of(inputs);
+        let found =
+            engine::preview(given.groups.lend(), given.types.lend(), given.script.lend(), length);
+        answers(found, packed_preview(expected), "preview");
+        given.unchanged(inputs);
+    }
+
+    pub fn move_on(
+        inputs: &Inputs,
+        preview: Preview,
+        lent: &[u8],
+        expected: &Answer<MoveReport>,
+        after: &[u8],
+    ) {
+        // Room for the number of steps and more, for just it, for a part of it, for nothing.
+        let length = [11, 8, 5, 0][(inputs.script.len() / SCRIPT_BYTES + lent.len()) % 4];
+        let mut before = filled(length);
+        let known = length.min(8);
+        before[..known].copy_from_slice(&preview.steps.to_le_bytes()[..known]);
+        let mut given = Given::of(inputs);
+        let mut written = Guarded::new(lent);
+        let mut steps = Guarded::new(&before);
+        let found = engine::move_on(
+            given.groups.lend(),
+            given.types.lend(),
+            given.script.lend(),
+            preview,
+            written.lend(),
+            steps.lend(),
+        );
+        answers(found, packed_move(expected), "move");
+        same(written.take("written"), after, "move: written buffer");
+        // The missing bytes of the number are 0, so it is the largest only where all are there.
+        let mut count = [0; 8];
+        count[..known].copy_from_slice(&before[..known]);
+        let so_far = u64::from_le_bytes(count);
+        if let Ok(moved) = expected {
+            let now = if moved.step.end == End::Moved { so_far.saturating_add(1) } else { so_far };
+            assert!(known < 8 || now == moved.steps, "move: {so_far} steps become {now}");
+            before[..known].copy_from_slice(&now.to_le_bytes()[..known]);
+        }
+        same(steps.take("steps"), &before, "move: number of steps");
         given.unchanged(inputs);
     }
 
