@@ -49,10 +49,12 @@ pub fn put_steps(n: u64, steps: &mut [u8])
     memory::put_fitting(&n.to_le_bytes(), steps);
 }
 
-// The step count that a slice holds, lowest byte first; bytes that it hasn't are 0. What `put_steps` wrote is read again.
+// The step count that a slice holds, lowest byte first; bytes that it hasn't are 0. What `put_steps` wrote is read again, and it would
+// write what is read as it stands.
 pub fn steps_of(steps: &[u8]) -> u64
     ensures { (result ≡ steps_of steps.now)
-        × ((n : ℕ) (old : Bytes) → n < 2 ^ 64 → steps_width ≤ length old → steps.now ≡ steps_in n old → result ≡ n) }
+        × ((n : ℕ) (old : Bytes) → n < 2 ^ 64 → steps_width ≤ length old → steps.now ≡ steps_in n old → result ≡ n)
+        × (steps_in result steps.now ≡ steps.now) }
 {
     let mut bytes = [0; 8];
     memory::put_fitting(steps, &mut bytes);

@@ -165,13 +165,13 @@ pub fn step_term(
 }
 
 // What a step reports of a script with `own` records.
-fn report(own: usize, moved: Result<usize, Stop>) -> StepReport
-    ensures { result ≡ reported own moved }
+fn report(own: usize, step: Result<usize, Stop>) -> StepReport
+    ensures { result ≡ reported own step }
 {
-    match moved {
-        Ok(records) => StepReport {
+    match step {
+        Ok(moved) => StepReport {
             stop: None,
-            records,
+            records: moved,
         },
         Err(stop) => StepReport {
             stop: Some(stop),
@@ -271,8 +271,9 @@ pub fn move_on(
         ≡ written_after (moving groups.now types.now script.now (length written.old) (preview_of preview)) written.old)
         × Promised groups.now types.now script.now written.old (preview_of preview) result written.new }
 {
+    let length = written.len();
     syntax::script_check(groups, types, script, &[])?;
-    let next = plan_step(groups, types, script, written.len());
+    let next = plan_step(groups, types, script, length);
     let report = report(records::record_count(script), counted(next));
     question_35(preview, report)?;
     take_step(groups, types, script, next, written);

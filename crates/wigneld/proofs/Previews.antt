@@ -1,14 +1,13 @@
 -- What the exported preview and move pass on.
 use Rattle.std.proofs.Common.{◌≡◌, refl, sym, ap, ◌∙◌, false, true, ℕ, eqb, length}
 use borrow.Author.Tests.{eq-eqb}
-use Rattle.rules.specs.Answer.{Bytes, Octets, Answer, accepted, refused, ◌>>=◌}
+use Rattle.rules.specs.Answer.{Bytes, Answer, accepted, refused, ◌>>=◌}
 use Rattle.rules.specs.Script.{records}
 use Rattle.rules.specs.Step.{End, at_value, moves, may_not, wrong_kind, too_big, end_number, end_count}
 use Rattle.rules.specs.Calls.{stepping, step_report, written_after}
 use Rattle.rules.specs.Preview.{Preview, previewing, moving, moved_steps}
 use Rattle.demands.proofs.Preview.{preview_then_move}
-use Rattle.packing.specs.Packed.{packed, step_ended, preview_ended, steps_left}
-use Rattle.packing.proofs.Steps.{kept}
+use Rattle.packing.specs.Packed.{packed, step_ended, preview_ended, steps_in, steps_of, steps_left}
 use Rattle.wigneld.specs.Exported.{handed_back, Followed}
 
 -- a preview's number tells nothing of the steps so far
@@ -23,7 +22,7 @@ any_steps g t s room n m = go (stepping g t s room)
     go (accepted x) = refl
     go (refused q p) = refl
 
-module _ (g t s : Bytes) (end count : ℕ) (written steps : Bytes) (octets : Octets steps) where
+module _ (g t s : Bytes) (end count : ℕ) (written steps : Bytes) (same : steps_in (steps_of steps) steps ≡ steps) where
   abbrev given : Preview
   given = handed_back end count steps
 
@@ -38,11 +37,11 @@ module _ (g t s : Bytes) (end count : ℕ) (written steps : Bytes) (octets : Oct
 
     both_kept : (o : Answer End) → moved ≡ o → ((x : End) → o ≡ accepted x → end ≡ end_number x) → Kept
     unfolding moved_steps
-    both_kept (accepted at_value) e h = (w ∙ ap (λ o. written_after o written) e, n ∙ ap (λ o. steps_left (moved_steps given o) steps) e ∙ kept steps octets)
+    both_kept (accepted at_value) e h = (w ∙ ap (λ o. written_after o written) e, n ∙ ap (λ o. steps_left (moved_steps given o) steps) e ∙ same)
     both_kept (accepted (moves e')) e h = let one : eqb end 1 ≡ true = eq-eqb end 1 (h (moves e') refl) in absurd cc
-    both_kept (accepted may_not) e h = (w ∙ ap (λ o. written_after o written) e, n ∙ ap (λ o. steps_left (moved_steps given o) steps) e ∙ kept steps octets)
-    both_kept (accepted wrong_kind) e h = (w ∙ ap (λ o. written_after o written) e, n ∙ ap (λ o. steps_left (moved_steps given o) steps) e ∙ kept steps octets)
-    both_kept (accepted too_big) e h = (w ∙ ap (λ o. written_after o written) e, n ∙ ap (λ o. steps_left (moved_steps given o) steps) e ∙ kept steps octets)
+    both_kept (accepted may_not) e h = (w ∙ ap (λ o. written_after o written) e, n ∙ ap (λ o. steps_left (moved_steps given o) steps) e ∙ same)
+    both_kept (accepted wrong_kind) e h = (w ∙ ap (λ o. written_after o written) e, n ∙ ap (λ o. steps_left (moved_steps given o) steps) e ∙ same)
+    both_kept (accepted too_big) e h = (w ∙ ap (λ o. written_after o written) e, n ∙ ap (λ o. steps_left (moved_steps given o) steps) e ∙ same)
     both_kept (refused q p) e h = (w ∙ ap (λ o. written_after o written) e, n ∙ ap (λ o. steps_left (moved_steps given o) steps) e)
 
   pub followed : (n : ℕ) (written' steps' : Bytes) → n ≡ packed (step_ended (step_report s moved)) → written' ≡ written_after moved written

@@ -1,9 +1,9 @@
-use Rattle.std.proofs.Common.{ℕ, sym, ap, subst, ◌∙◌, arith, length}
-use Rattle.rules.specs.Answer.{Bytes, Octets, Answer}
+use Rattle.std.proofs.Common.{ℕ, sym, ap, subst, ◌∙◌, length}
+use Rattle.rules.specs.Answer.{Bytes, Answer}
 use Rattle.rules.specs.Step.{End}
 use Rattle.rules.specs.Calls.{StepReport, step_report, written_after}
 use Rattle.rules.specs.Preview.{Preview, moving, moved_steps}
-use Rattle.packing.specs.Packed.{packed, step_ended, steps_left, StepCounted}
+use Rattle.packing.specs.Packed.{packed, step_ended, steps_in, steps_left, StepCounted}
 use Rattle.packing.proofs.Exported.{move_counted}
 use Rattle.wigneld.proofs.Previews.{followed}
 use Rattle.wigneld.proofs.wigneld_move.Goals as goal
@@ -30,7 +30,7 @@ returns c =
     let x = c.move_on.ensures in
     let y = c.moved.ensures in
     let z = c.steps_of.ensures.0 in
-    let octets : Octets lent = λ k. omega (arith, c.type_inv.steps k) in
+    let same = ap (λ (k : ℕ). steps_in k lent) (sym z) ∙ c.steps_of.ensures.2 in
     let n = y.0
     ∙ ap (λ (r : Answer StepReport). packed (step_ended r))
     (x.0 ∙ ap (λ (k : ℕ). step_report s (answer a.groups.now a.types.now s a.end a.records old k)) z) in
@@ -38,4 +38,4 @@ returns c =
     let m = y.1
     ∙ ap (λ (r : Answer ℕ). steps_left r lent)
     (x.1 ∙ ap (λ (k : ℕ). moved_steps (with_steps a.end a.records k) (answer a.groups.now a.types.now s a.end a.records old k)) z) in
-    (n, w, m, followed a.groups.now a.types.now s a.end a.records old lent octets _ _ _ n w m)
+    (n, w, m, followed a.groups.now a.types.now s a.end a.records old lent same _ _ _ n w m)
