@@ -1,10 +1,10 @@
 /*
- * A small editor's view of a script: checks it, shows what is wrong with it or its type, runs it and prints what the readers of a
- * group may see of the result.
+ * A small editor's view of a script: checks it, shows what is wrong with it or its type, shows its next steps and takes them one by
+ * one, runs it and prints what the readers of a group may see of the result.
  *
- *     editor FOLDER [GROUP [BUDGET]]
+ *     editor FOLDER [GROUP [BUDGET [STEPS]]]
  *
- * FOLDER holds the files groups, types and script. GROUP is 0 and BUDGET 1,000 unless they are given.
+ * FOLDER holds the files groups, types and script. GROUP is 0, BUDGET 1,000 and STEPS 2 unless they are given.
  */
 #include <errno.h>
 #include <inttypes.h>
@@ -119,6 +119,48 @@ static int check(const struct document *d)
     return accepted;
 }
 
+/* Shows the next step of the term in `now` and takes it, as its user does: gives the next term's length in `next`, or 0 where there
+   is none. The number of steps taken so far is kept in `steps`. */
+static size_t step(const struct document *d, const uint8_t *now, size_t length, uint8_t *next, uint8_t *steps)
+{
+    static const char *const ends[] = { "none, it is a value", "a term", "none: the reader may not", "none: wrong kind",
+                                        "none: too big" };
+    uint64_t shown = wigneld_preview(d->groups.bytes, d->groups.length, d->types.bytes, d->types.length, now, length,
+                                     WIGNELD_RUN_BYTES);
+    unsigned end = wigneld_step_end(shown);
+    uint64_t made;
+
+    if (end == WIGNELD_END_REFUSED) {
+        show_refusal(d, shown);
+        return 0;
+    }
+    printf("next step: %s of %" PRIu32 " records\n", ends[end], wigneld_step_count(shown));
+    if (end != WIGNELD_END_MOVED)
+        return 0;
+    made = wigneld_move(d->groups.bytes, d->groups.length, d->types.bytes, d->types.length, now, length, end,
+                        wigneld_step_count(shown), next, WIGNELD_RUN_BYTES, steps, WIGNELD_STEPS_BYTES);
+    if (wigneld_question(made) != 0) {
+        show_refusal(d, made); /* 35, where the script was edited since it was shown */
+        return 0;
+    }
+    printf("taken, step %" PRIu64 "\n", wigneld_steps(steps));
+    return (size_t)wigneld_step_count(made) * WIGNELD_SCRIPT_RECORD_BYTES;
+}
+
+/* The first steps, at most this many, in two buffers in turn. */
+static void walk(const struct document *d, uint64_t most)
+{
+    uint8_t *terms[] = { room_for(WIGNELD_RUN_BYTES), room_for(WIGNELD_RUN_BYTES) }, steps[WIGNELD_STEPS_BYTES] = { 0 };
+    size_t length = d->script.length;
+    uint64_t i;
+
+    memcpy(terms[0], d->script.bytes, length);
+    for (i = 0; i < most && length > 0; i++)
+        length = step(d, terms[i % 2], length, terms[(i + 1) % 2], steps);
+    free(terms[0]);
+    free(terms[1]);
+}
+
 /* Runs the script and leaves its last term in `last`; gives its record count where it is a value, and 0 otherwise. */
 static uint32_t run(const struct document *d, uint64_t budget, uint8_t *last)
 {
@@ -163,13 +205,14 @@ static void show_sheet(const struct document *d, const uint8_t *value, uint32_t 
 }
 
 /* What the editor shows of a document; gives 0 where its script is accepted. */
-static int view(const struct document *d, uint64_t group, uint64_t budget)
+static int view(const struct document *d, uint64_t group, uint64_t budget, uint64_t steps)
 {
     uint8_t *last;
     uint32_t records;
 
     if (!check(d))
         return 1;
+    walk(d, steps);
     last = room_for(WIGNELD_RUN_BYTES);
     records = run(d, budget, last);
     if (records > 0) {
@@ -184,17 +227,18 @@ int main(int count, char **words)
 {
     uint64_t group = count > 2 ? strtoull(words[2], NULL, 10) : 0;
     uint64_t budget = count > 3 ? strtoull(words[3], NULL, 10) : 1000;
+    uint64_t steps = count > 4 ? strtoull(words[4], NULL, 10) : 2;
     struct document d;
     int refused;
 
-    if (count < 2 || count > 4) {
-        fputs("usage: editor FOLDER [GROUP [BUDGET]]\n", stderr);
+    if (count < 2 || count > 5) {
+        fputs("usage: editor FOLDER [GROUP [BUDGET [STEPS]]]\n", stderr);
         return 2;
     }
     d.groups = load(words[1], "groups", WIGNELD_GROUPS_LONGEST_BYTES);
     d.types = load(words[1], "types", WIGNELD_TYPES_LONGEST_BYTES);
     d.script = load(words[1], "script", WIGNELD_SCRIPT_LONGEST_BYTES);
-    refused = view(&d, group, budget);
+    refused = view(&d, group, budget, steps);
     free(d.groups.bytes);
     free(d.types.bytes);
     free(d.script.bytes);

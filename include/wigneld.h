@@ -175,6 +175,8 @@ extern "C" {
 #define WIGNELD_CHECK_STACK_BYTES 90112
 #define WIGNELD_RUN_STACK_BYTES 69632
 #define WIGNELD_SHEET_STACK_BYTES 40960
+#define WIGNELD_PREVIEW_STACK_BYTES 69632
+#define WIGNELD_MOVE_STACK_BYTES 69632
 
 /*
  * Checks a script: questions 1 to 24, with 36 right after 10 and after 15, and 31 right after the second branch of a case that
@@ -267,17 +269,21 @@ static inline uint32_t wigneld_run_count(uint64_t answer)
     return wigneld_question(answer) != 0 ? 0 : (uint32_t)(answer & 0xffff);
 }
 
-/* Of a run: the steps made, from the WIGNELD_STEPS_BYTES bytes that were lent for them. A refused call writes none, and this is 0. */
-static inline uint64_t wigneld_run_steps(uint64_t answer, const uint8_t *steps)
+/* The number of steps in WIGNELD_STEPS_BYTES bytes: of those that a caller lends to each move. */
+static inline uint64_t wigneld_steps(const uint8_t *steps)
 {
     uint64_t made = 0;
     int i;
 
-    if (wigneld_question(answer) != 0)
-        return 0;
     for (i = WIGNELD_STEPS_BYTES - 1; i >= 0; i--)
         made = made << 8 | steps[i];
     return made;
+}
+
+/* Of a run: the steps made, from the WIGNELD_STEPS_BYTES bytes that were lent for them. A refused call writes none, and this is 0. */
+static inline uint64_t wigneld_run_steps(uint64_t answer, const uint8_t *steps)
+{
+    return wigneld_question(answer) != 0 ? 0 : wigneld_steps(steps);
 }
 
 /* Of a preview or a move: the step's end, and WIGNELD_END_REFUSED where the call was refused. */

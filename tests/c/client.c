@@ -573,6 +573,114 @@ static void refused_sheet(void)
     HOLD(wigneld_question(answer) == 26 && wigneld_count(answer) == 0);
 }
 
+/* A preview and a move of a script, with the number of steps as it stands in `steps`. */
+static uint64_t preview(const struct bytes *types, const struct bytes *script, uint64_t length)
+{
+    return wigneld_preview(groups, sizeof groups, types->at, types->length, script->at, script->length, length);
+}
+
+static uint64_t move_on(const struct bytes *types, const struct bytes *script, uint64_t end, uint64_t records, size_t length)
+{
+    memset(first, OLD, sizeof first);
+    return wigneld_move(groups, sizeof groups, types->at, types->length, script->at, script->length, end, records, first, length,
+                        steps, sizeof steps);
+}
+
+static void put_steps(uint64_t number)
+{
+    unsigned i;
+
+    for (i = 0; i < WIGNELD_STEPS_BYTES; i++)
+        steps[i] = (uint8_t)(number >> 8 * i);
+    HOLD(wigneld_steps(steps) == number);
+}
+
+/* Step by step to the value that a run reaches, each shown before it is taken. */
+static void stepped(void)
+{
+    struct bytes types = tables(), script = turned(1);
+    uint64_t ran = run(&types, &script, 1000), number, shown;
+    uint64_t made = wigneld_run_steps(ran, steps);
+    uint32_t records = wigneld_run_count(ran);
+
+    HOLD(wigneld_run_end(ran) == WIGNELD_END_VALUE && made > 1);
+    memcpy(scratch, first, records * WIGNELD_SCRIPT_RECORD_BYTES);
+    put_steps(0);
+    for (number = 0; number < made; number++) {
+        shown = preview(&types, &script, sizeof first);
+        HOLD(wigneld_question(shown) == 0 && wigneld_step_end(shown) == WIGNELD_END_MOVED);
+        HOLD(move_on(&types, &script, wigneld_step_end(shown), wigneld_step_count(shown), sizeof first) == shown);
+        HOLD(wigneld_steps(steps) == number + 1);
+        script.length = wigneld_step_count(shown) * WIGNELD_SCRIPT_RECORD_BYTES;
+        HOLD(all(first + script.length, sizeof first - script.length, OLD));
+        memcpy(script.at, first, script.length);
+    }
+    shown = preview(&types, &script, sizeof first);
+    HOLD(wigneld_step_end(shown) == WIGNELD_END_VALUE && wigneld_step_count(shown) == records);
+    HOLD(script.length == records * WIGNELD_SCRIPT_RECORD_BYTES && memcmp(script.at, scratch, script.length) == 0);
+    /* A move with the preview of a value is an answer, and keeps all. */
+    HOLD(move_on(&types, &script, WIGNELD_END_VALUE, records, sizeof first) == shown);
+    HOLD(wigneld_steps(steps) == made && all(first, sizeof first, OLD));
+}
+
+/* Stale and forged previews: refused where the end or the count isn't this step's, as wide as they are; nothing changes. */
+static void other_previews(void)
+{
+    static const uint64_t wide[] = { 1, 256, 65536, UINT64_C(1) << 32, UINT64_C(1) << 63 };
+    struct bytes types = tables(), script = turned(1);
+    uint64_t shown = preview(&types, &script, sizeof first), end = wigneld_step_end(shown), records = wigneld_step_count(shown);
+    size_t needed = (size_t)records * WIGNELD_SCRIPT_RECORD_BYTES;
+    unsigned i;
+
+    put_steps(77);
+    for (i = 0; i < sizeof wide / sizeof wide[0]; i++) {
+        uint64_t other_end = move_on(&types, &script, end + wide[i], records, sizeof first);
+        uint64_t other_count = move_on(&types, &script, end, records + wide[i], sizeof first);
+
+        HOLD(wigneld_question(other_end) == 35 && wigneld_place(other_end) == 0 && other_count == other_end);
+        HOLD(wigneld_place_kind(35) == WIGNELD_PLACE_NOTHING);
+        HOLD(all(first, sizeof first, OLD) && wigneld_steps(steps) == 77);
+    }
+    /* A shorter buffer is one that the preview doesn't show; a longer one, and any with the room, are as good. */
+    HOLD(wigneld_question(move_on(&types, &script, end, records, needed - 1)) == 35 && wigneld_steps(steps) == 77);
+    HOLD(move_on(&types, &script, end, records, needed) == shown && wigneld_steps(steps) == 78);
+    HOLD(all(first + needed, sizeof first - needed, OLD));
+    HOLD(wigneld_step_end(preview(&types, &script, needed - 1)) == WIGNELD_END_TOO_BIG);
+    HOLD(wigneld_step_count(preview(&types, &script, needed - 1)) == script.length / WIGNELD_SCRIPT_RECORD_BYTES);
+    HOLD(preview(&types, &script, UINT64_MAX) == shown);
+    /* The script's own questions come first. */
+    script.length -= WIGNELD_SCRIPT_RECORD_BYTES;
+    HOLD(preview(&types, &script, 0) == run(&types, &script, 0));
+    put_steps(5);
+    HOLD(wigneld_question(move_on(&types, &script, UINT64_MAX, UINT64_MAX, 0)) == 17 && wigneld_steps(steps) == 5);
+    HOLD(wigneld_question(wigneld_preview(NULL, 0, NULL, 0, NULL, 0, 0)) == 2);
+    HOLD(wigneld_question(wigneld_move(NULL, 0, NULL, 0, NULL, 0, 0, 0, NULL, 0, NULL, 0)) == 2);
+}
+
+/* The number of steps: any is taken, the largest stays, and of a shorter one as many bytes as are lent. */
+static void step_numbers(void)
+{
+    static const uint64_t numbers[] = { 0, 255, 65535, UINT32_MAX, UINT64_MAX - 1, UINT64_MAX };
+    struct bytes types = tables(), script = turned(1);
+    uint64_t shown = preview(&types, &script, sizeof first), end = wigneld_step_end(shown), records = wigneld_step_count(shown);
+    size_t lent;
+    unsigned i;
+
+    for (i = 0; i < sizeof numbers / sizeof numbers[0]; i++) {
+        put_steps(numbers[i]);
+        HOLD(move_on(&types, &script, end, records, sizeof first) == shown);
+        HOLD(wigneld_steps(steps) == numbers[i] + (numbers[i] != UINT64_MAX));
+    }
+    for (lent = 0; lent <= WIGNELD_STEPS_BYTES; lent++) {
+        uint8_t most[WIGNELD_STEPS_BYTES + 1];
+
+        memset(most, 255, sizeof most);
+        HOLD(wigneld_move(groups, sizeof groups, types.at, types.length, script.at, script.length, end, records, first, sizeof first,
+                          most, lent) == shown);
+        HOLD(all(most, lent, lent == WIGNELD_STEPS_BYTES ? 255 : 0) && all(most + lent, sizeof most - lent, 255));
+    }
+}
+
 /* What a reader makes of every refusal that there can be: each question, at small and large places. */
 static void every_refusal(void)
 {
@@ -586,6 +694,7 @@ static void every_refusal(void)
             HOLD(wigneld_question(answer) == question && wigneld_place(answer) == place);
             HOLD(wigneld_count(answer) == 0 && wigneld_run_count(answer) == 0 && wigneld_run_steps(answer, NULL) == 0);
             HOLD(wigneld_run_end(answer) == WIGNELD_END_REFUSED);
+            HOLD(wigneld_step_end(answer) == WIGNELD_END_REFUSED && wigneld_step_count(answer) == 0);
         }
     }
     for (end = WIGNELD_END_VALUE; end <= WIGNELD_END_TOO_BIG; end++) {
@@ -593,6 +702,7 @@ static void every_refusal(void)
 
         HOLD(wigneld_question(answer) == 0 && wigneld_run_end(answer) == end && end != WIGNELD_END_REFUSED);
         HOLD(wigneld_run_count(answer) == WIGNELD_MOST_SCRIPT_RECORDS);
+        HOLD(wigneld_step_end(answer) == end && wigneld_step_count(answer) == WIGNELD_MOST_SCRIPT_RECORDS);
     }
 }
 
@@ -610,7 +720,7 @@ static void places(void)
         HOLD(kind <= WIGNELD_PLACE_WORD && counted[question] == "-gtsew"[kind]);
         HOLD(kind == WIGNELD_PLACE_EITHER_RECORD || wigneld_place_kind_over(question, NULL, 0, NULL, 0) == kind);
         HOLD((strcmp(wigneld_asked(question), "no such question") == 0)
-             == ((question >= 28 && question <= 30) || question == 35 || question == 37 || question == 38));
+             == ((question >= 28 && question <= 30) || question == 37 || question == 38));
     }
     HOLD(strcmp(wigneld_asked(WIGNELD_LAST_QUESTION + 1), "no such question") == 0);
     HOLD(wigneld_place_kind(WIGNELD_LAST_QUESTION + 1) == WIGNELD_PLACE_NOTHING);
@@ -629,6 +739,9 @@ int main(void)
     written_creators();
     refused_run();
     refused_sheet();
+    stepped();
+    other_previews();
+    step_numbers();
     every_refusal();
     places();
     return told();

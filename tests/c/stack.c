@@ -274,15 +274,15 @@ static void sheet_script(struct script *s, enum way way)
 
 /* The calls, in buffers that stand apart from the stack. */
 
-enum call { CHECK, RUN, SHEET, COMPARE, WRITE_CALLERS, REWRITE_SCRIPT, REWRITE_TYPES, CHECK_PROFILE, CALLS };
+enum call { CHECK, RUN, SHEET, PREVIEW, MOVE, COMPARE, WRITE_CALLERS, REWRITE_SCRIPT, REWRITE_TYPES, CHECK_PROFILE, CALLS };
 
-static const char *const names[CALLS] = { "wigneld_check", "wigneld_run", "wigneld_sheet", "wigneld_compare",
-                                          "wigneld_write_callers", "wigneld_rewrite_script", "wigneld_rewrite_types",
-                                          "wigneld_check_profile" };
+static const char *const names[CALLS] = { "wigneld_check", "wigneld_run", "wigneld_sheet", "wigneld_preview", "wigneld_move",
+                                          "wigneld_compare", "wigneld_write_callers", "wigneld_rewrite_script",
+                                          "wigneld_rewrite_types", "wigneld_check_profile" };
 static const size_t promised[CALLS] = { WIGNELD_CHECK_STACK_BYTES, WIGNELD_RUN_STACK_BYTES, WIGNELD_SHEET_STACK_BYTES,
-                                        WIGNELD_COMPARE_STACK_BYTES, WIGNELD_WRITE_CALLERS_STACK_BYTES,
-                                        WIGNELD_REWRITE_SCRIPT_STACK_BYTES, WIGNELD_REWRITE_TYPES_STACK_BYTES,
-                                        WIGNELD_CHECK_PROFILE_STACK_BYTES };
+                                        WIGNELD_PREVIEW_STACK_BYTES, WIGNELD_MOVE_STACK_BYTES, WIGNELD_COMPARE_STACK_BYTES,
+                                        WIGNELD_WRITE_CALLERS_STACK_BYTES, WIGNELD_REWRITE_SCRIPT_STACK_BYTES,
+                                        WIGNELD_REWRITE_TYPES_STACK_BYTES, WIGNELD_CHECK_PROFILE_STACK_BYTES };
 
 /* No promise up to this is too high: it is less than a caller's own frames are apart. */
 enum { NEXT_TO_NONE = 512 };
@@ -298,6 +298,15 @@ struct job {
 
 static uint8_t work[WIGNELD_WORK_BYTES], found[WIGNELD_ANSWER_BYTES];
 static uint8_t first[WIGNELD_RUN_BYTES], scratch[WIGNELD_RUN_BYTES], steps[WIGNELD_STEPS_BYTES], sheet[WIGNELD_SHEET_BYTES];
+
+/* What a move takes back. */
+static uint64_t shown;
+
+static uint64_t preview(const struct script *script)
+{
+    return wigneld_preview(groups, sizeof groups, types, sizeof types, script->bytes, script->count * WIGNELD_SCRIPT_RECORD_BYTES,
+                           sizeof first);
+}
 
 /* What a caller does, right before and at its call. */
 __attribute__((noinline)) static void make_call(struct job *job)
@@ -320,6 +329,13 @@ __attribute__((noinline)) static void make_call(struct job *job)
         break;
     case SHEET:
         job->answer = wigneld_sheet(groups, sizeof groups, types, sizeof types, script, length, 0, sheet, sizeof sheet);
+        break;
+    case PREVIEW:
+        job->answer = wigneld_preview(groups, sizeof groups, types, sizeof types, script, length, sizeof first);
+        break;
+    case MOVE:
+        job->answer = wigneld_move(groups, sizeof groups, types, sizeof types, script, length, wigneld_step_end(shown),
+                                   wigneld_step_count(shown), first, sizeof first, steps, sizeof steps);
         break;
     case COMPARE:
         job->answer = wigneld_compare(groups, sizeof groups, types, sizeof types, job->script->type, job->script->type);
@@ -359,6 +375,9 @@ static void *in_thread(void *given)
 
     /* A script to rewrite; the copy is made here, where there is stack enough for it. */
     put_old(old_script, WIGNELD_OLD_SCRIPT_RECORD_BYTES, job->script->bytes, WIGNELD_SCRIPT_RECORD_BYTES, job->script->count);
+    /* And the preview of a move, which goes as deep as the move itself. */
+    if (job->call == MOVE)
+        shown = preview(job->script);
     if (job->wanted == 0)
         make_call_below(job, 0);
     else /* an array is aligned to 16 bytes: rather less free stack than more */
@@ -493,7 +512,7 @@ static int script_of(enum call call, unsigned number, struct script *s)
             return 0;
         run_script(s, (enum way)number, UNROLLED);
         return 1;
-    case REWRITE_SCRIPT:
+    case PREVIEW: case MOVE: case REWRITE_SCRIPT:
         return script_of(RUN, number, s);
     case REWRITE_TYPES: return number < 1;
     case CHECK_PROFILE: return script_of(CHECK, number, s);
@@ -538,6 +557,8 @@ static unsigned hold(enum call call)
             fail("a script is no whole term of depth 256");
         if ((wigneld_question(answer) == 39) != (call == CHECK_PROFILE && recursions(&s) != 0))
             fail("39 is not asked of recursions alone");
+        if (call == MOVE && answer != shown)
+            fail("a move is not what its preview showed");
         if (call == COMPARE && wigneld_comparison(answer) != WIGNELD_COMPARE_SAME)
             fail("a type is not the same as itself");
         if (call == WRITE_CALLERS && answer != recursions(&s))

@@ -1,5 +1,5 @@
 -- How a step ends, from what the search and the count say; and a step's answer to the questions.
-use Rattle.std.proofs.Common.{◌≡◌, refl, sym, ◌∙◌, None, Some, Result, Ok, Err, ap, true, false, [], ℕ}
+use Rattle.std.proofs.Common.{◌≡◌, refl, sym, ◌∙◌, Result, Ok, Err, ap, true, false, [], ℕ}
 use Rattle.std.proofs.Common.{subst as transport}
 use Rattle.calculus.specs.Security.{Security}
 use Rattle.calculus.specs.Types.{Ty}
@@ -19,7 +19,6 @@ use Rattle.answer.specs.declared.Refusal.{Refusal}
 use Rattle.reduction.specs.Steps.{told, Foresees, foresees_step, foresees_stop, counted, reported, said_step}
 use Rattle.reduction.specs.declared.NextStep.{NextStep}
 use Rattle.reduction.specs.declared.Stop.{Stop}
-use Rattle.reduction.specs.declared.StepReport.{StepReport as Reported}
 
 module _ {S : Security} {tab : ℕ → Ty} {e : Term} where
   pub ends_value : (room : ℕ) {n : ℕ} → Finds S tab 0 0 e (Value n) → step_in S tab room e ≡ at_value

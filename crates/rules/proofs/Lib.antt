@@ -32,4 +32,5 @@ pub mod FoundExamples
 pub mod CreatorExamples
 pub mod NumberExamples
 pub mod ProfileExamples
+pub mod PreviewExamples
 pub mod Examples

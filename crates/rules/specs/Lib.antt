@@ -25,3 +25,4 @@ pub mod FoundExamples
 pub mod CreatorExamples
 pub mod NumberExamples
 pub mod ProfileExamples
+pub mod PreviewExamples

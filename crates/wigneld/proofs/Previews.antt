@@ -1,5 +1,5 @@
 -- What the exported preview and move pass on.
-use Rattle.std.proofs.Common.{◌≡◌, refl, sym, ap, ◌∙◌, false, true, ℕ, eqb, length}
+use Rattle.std.proofs.Common.{◌≡◌, refl, ap, ◌∙◌, false, true, ℕ, eqb, length}
 use borrow.Author.Tests.{eq-eqb}
 use Rattle.rules.specs.Answer.{Bytes, Answer, accepted, refused, ◌>>=◌}
 use Rattle.rules.specs.Script.{records}

@@ -136,13 +136,7 @@ pub extern "C" fn wigneld_preview(
         × (result < half → previewing groups.now types.now script.now written_length steps
         ≡ accepted (read_off result steps)) }
 {
-    shown(reduction::preview(
-        groups,
-        types,
-        script,
-        written_length as usize,
-        0,
-    ))
+    shown(reduction::preview(groups, types, script, written_length as usize, 0))
 }
 
 // A move's end and record count, with the number of steps after it written apart, or the refusal, with nothing written.
@@ -155,10 +149,7 @@ fn moved(a: Result<Moved, Refusal>, steps: &mut [u8]) -> u64
         packing::put_steps(made.steps, steps);
     }
     packing::answer(a.map(|made| {
-        packing::end_and_count(
-            reduction::end_number(made.report.stop),
-            made.report.records,
-        )
+        packing::end_and_count(reduction::end_number(made.report.stop), made.report.records)
     }))
 }
 

@@ -1,4 +1,4 @@
-use Rattle.std.proofs.Common.{refl, sym, ap, ◌∙◌, [], arith, length}
+use Rattle.std.proofs.Common.{sym, [], arith, length}
 use Rattle.std.proofs.lemmas.Result.{err_from_is_err_and}
 use Rattle.reduction.proofs.Starts.{startable}
 use Rattle.reduction.proofs.Moves.{reports, move_refused, move_unlike, move_made, promised}

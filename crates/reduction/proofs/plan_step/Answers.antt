@@ -26,9 +26,9 @@ plan_at-requires c = record {
   groups = c.args.groups.now;
   types = c.args.types.now;
   sited = record {
-      start = c.requires;
-      site = found_site (found c.in-Redex.is (c.find.ensures _ (at_start _ (started c.requires).encoded)));
-    };
+    start = c.requires;
+    site = found_site (found c.in-Redex.is (c.find.ensures _ (at_start _ (started c.requires).encoded)));
+  };
 }
 
 pub returns-in-Value : goal.returns-in-Value
