@@ -123,8 +123,8 @@ static int check(const struct document *d)
    is none. The number of steps taken so far is kept in `steps`. */
 static size_t step(const struct document *d, const uint8_t *now, size_t length, uint8_t *next, uint8_t *steps)
 {
-    static const char *const ends[] = { "none, it is a value", "a term", "none: the reader may not", "none: wrong kind",
-                                        "none: too big" };
+    static const char *const ends[] = { "none, a value", "a new term", "none, the reader may not", "none, wrong kind",
+                                        "none, too big" };
     uint64_t shown = wigneld_preview(d->groups.bytes, d->groups.length, d->types.bytes, d->types.length, now, length,
                                      WIGNELD_RUN_BYTES);
     unsigned end = wigneld_step_end(shown);
@@ -134,7 +134,7 @@ static size_t step(const struct document *d, const uint8_t *now, size_t length, 
         show_refusal(d, shown);
         return 0;
     }
-    printf("next step: %s of %" PRIu32 " records\n", ends[end], wigneld_step_count(shown));
+    printf("next step: %s, %" PRIu32 " records\n", ends[end], wigneld_step_count(shown));
     if (end != WIGNELD_END_MOVED)
         return 0;
     made = wigneld_move(d->groups.bytes, d->groups.length, d->types.bytes, d->types.length, now, length, end,
