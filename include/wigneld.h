@@ -166,7 +166,7 @@ extern "C" {
 /*
  * The free stack that each function needs, whatever it is lent: the bytes between the caller's stack pointer, before the
  * arguments are put down, and the end of the stack. The deepest scripts, of depth 256 with types of 63 records, were seen to take
- * 81,920, 53,680 and 37,024 bytes; the numbers are these and at least a sixteenth more, in whole pages.
+ * 82,480, 61,920, 37,040, 61,744 and 61,808 bytes; the numbers are these and at least a sixteenth more, in whole pages.
  *
  * A thread's stack holds more than that: its own frames, and what the C library keeps there. With glibc
  * pthread_attr_setstacksize(&attributes, PTHREAD_STACK_MIN + WIGNELD_CHECK_STACK_BYTES) is enough for a thread that calls
