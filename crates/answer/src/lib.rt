@@ -44,6 +44,9 @@ pub enum Question {
     Preview = 35,
     Creators = 36,
     Profile = 39,
+    Lists = 40,
+    ReplacedOnce = 41,
+    AmendedType = 42,
 }
 
 impl Question {

@@ -60,7 +60,7 @@ later_types g t =
     (decided_then (q36_types g t) _ (decided_one (each_own 36 (type_count t) (ok36_type g t)))
     (decided_then (q11 t) (q12 t) (decided_one (each_own 11 (type_count t) (ok11 t))) (decided_one (each_own 12 (type_count t) (ok12 t))))))
 
-types_decided : (g t : Bytes) → Decided (of_groups g ++ of_types g t) (types_check g t)
+pub types_decided : (g t : Bytes) → Decided (of_groups g ++ of_types g t) (types_check g t)
 unfolding types_check
 types_decided g t = decided_then (groups_check g) _ (groups_decided g) (decided_then (q8 t) _ (decided_one (own_8 type_width t)) (later_types g t))
 

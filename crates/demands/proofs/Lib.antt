@@ -35,3 +35,4 @@ pub mod PlaceBytes
 pub mod RecordKinds
 pub mod Noninterference
 pub mod Preview
+pub mod InForce

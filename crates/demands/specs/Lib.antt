@@ -8,3 +8,4 @@ pub mod CommonTypes
 pub mod Profile
 pub mod Noninterference
 pub mod Preview
+pub mod InForce

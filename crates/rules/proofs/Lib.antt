@@ -33,4 +33,6 @@ pub mod CreatorExamples
 pub mod NumberExamples
 pub mod ProfileExamples
 pub mod PreviewExamples
+pub mod InForceExamples
+pub mod InForce
 pub mod Examples

@@ -15,6 +15,7 @@ pub mod Rewriting
 pub mod Reach
 pub mod Profile
 pub mod Preview
+pub mod InForce
 pub mod Words
 pub mod Report
 pub mod Cases
@@ -26,3 +27,4 @@ pub mod CreatorExamples
 pub mod NumberExamples
 pub mod ProfileExamples
 pub mod PreviewExamples
+pub mod InForceExamples

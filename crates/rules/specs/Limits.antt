@@ -45,9 +45,22 @@ word_limit = 7
 abbrev pub words_length : ℕ
 words_length = word_limit * word_width
 
--- the last question: 39, of the profile
+-- Item 14: "a 16-bit index per script", "records of 4 bytes", "a studio's list over 65,535 scripts", "or 65,535".
+abbrev pub listed_width : ℕ
+listed_width = 2
+
+abbrev pub entry_width : ℕ
+entry_width = 4
+
+abbrev pub listed_limit : ℕ
+listed_limit = 65535
+
+abbrev pub no_script : ℕ
+no_script = 65535
+
+-- the last question: 42, of an amendment's type
 abbrev pub last_question : ℕ
-last_question = 39
+last_question = 42
 
 -- Question 1's lengths, 378 and 96,768 bytes: a type for the answer, and a type for each level of a script for the work.
 abbrev pub answer_length : ℕ

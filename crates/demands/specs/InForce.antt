@@ -1,0 +1,66 @@
+-- Document 02, item 14: "From any script that an entry names first, the one in force is found by following replacements to the end, and
+-- its type is the same as or below the first's. Any other index has none."
+use Rattle.std.specs.Prelude.{◌≡◌, true, cond, ◌↔◌, List, [], ◌∷◌, ◌++◌, ℕ, zero, suc, ◌≤◌, ◌<◌, eqb}
+use Rattle.std.proofs.Math.Option.{Option, none, some}
+use Rattle.rules.specs.Answer.{Bytes, Octets, accepted, ◌>>◌, ask}
+use Rattle.rules.specs.Limits.{no_script}
+use Rattle.rules.specs.Comparison.{Comparison}
+use Rattle.rules.specs.InForce.{scripts, type_of, entries, first_number, replaced_number, q40_lengths, q25_scripts, ok40, ok41, ok42, same_or_below, lists_check, script_in_force, in_force, LeadsTo, NamedFirst, InForceFrom}
+use Rattle.rules.specs.Calls.{comparing}
+use Rattle.demands.specs.Questions.{Question, question, of_groups, of_types, Decides}
+
+-- the questions of entry e, of the first n entries, and of both lists
+abbrev pub of_entry : Bytes → Bytes → Bytes → Bytes → ℕ → List Question
+of_entry g t l a e = question 40 (ask 40 e (ok40 l a e)) ∷ question 41 (ask 41 e (ok41 a e)) ∷ question 42 (ask 42 e (ok42 g t l a e)) ∷ []
+
+unfoldable pub of_entries : Bytes → Bytes → Bytes → Bytes → ℕ → List Question
+of_entries g t l a zero = []
+of_entries g t l a (suc n) = of_entries g t l a n ++ of_entry g t l a n
+
+abbrev pub of_lists : Bytes → Bytes → Bytes → Bytes → List Question
+of_lists g t l a = question 40 (q40_lengths l a) ∷ question 25 (q25_scripts t l) ∷ of_entries g t l a (entries a)
+
+-- The look-up in one pass: it begins with the entry that names the script first, and an entry that replaces the newest script so far is
+-- the newest.
+abbrev pub turned : Bytes → ℕ → ℕ → Option ℕ → Option ℕ
+turned a i e none = cond (eqb (first_number a e) i) (some i) none
+turned a i e (some j) = cond (eqb (replaced_number a e) j) (some (first_number a e)) (some j)
+
+-- after n entries
+unfoldable pub newest : Bytes → ℕ → ℕ → Option ℕ
+newest a i zero = none
+newest a i (suc n) = turned a i n (newest a i n)
+
+abbrev pub or_no_script : Option ℕ → ℕ
+or_no_script none = no_script
+or_no_script (some j) = j
+
+-- Script i's type beside script j's in the call that compares two types.
+pub record SameOrBelow (g t l : Bytes) (i j : ℕ) : Type 0 where
+  pub answer : Comparison
+  pub compared : comparing g t (type_of l i) (type_of l j) ≡ accepted answer
+  pub usable : same_or_below answer ≡ true
+
+-- Of lists that pass, and any index.
+pub record FindsInForce (g t l a : Bytes) (i : ℕ) : Type 0 where
+  -- following ends, and in fewer replacements than there are entries
+  pub ends : NamedFirst a i → (j : ℕ) × InForceFrom a i j
+  pub short : (n j : ℕ) → NamedFirst a i → LeadsTo a i n j → n < entries a
+  -- the answer is its end, and there is no other
+  pub found : (j : ℕ) → NamedFirst a i → (in_force g t l a i ≡ accepted j) ↔ InForceFrom a i j
+  -- any other index has none, and only those
+  pub none_when : (in_force g t l a i ≡ accepted no_script) ↔ (NamedFirst a i → ⊥)
+  -- the pass finds what following finds
+  pub pass_finds : or_no_script (newest a i (entries a)) ≡ script_in_force a i
+  -- both are scripts of the list, and "its type is the same as or below the first's"
+  pub in_list : (j : ℕ) → InForceFrom a i j → (i < scripts l) × (j < scripts l)
+  pub type_below : (j : ℕ) → InForceFrom a i j → SameOrBelow g t l j i
+
+pub record Amendments : Type 0 where
+  -- any bytes and any lengths get an answer: yes, or the first no in the document's order
+  pub asks : (g t l a : Bytes) (i : ℕ) → Decides (of_groups g ++ of_types g t ++ of_lists g t l a) (in_force g t l a i)
+  -- "An index of 65,535 checks the lists alone."
+  pub alone : (g t l a : Bytes) → in_force g t l a no_script ≡ ◌>>◌ (lists_check g t l a) (accepted no_script)
+  -- a list of amendments that passes has no more entries than there are scripts
+  pub few : (g t l a : Bytes) → lists_check g t l a ≡ accepted tt → entries a ≤ scripts l
+  pub finds : (g t l a : Bytes) (i : ℕ) → Octets g → lists_check g t l a ≡ accepted tt → FindsInForce g t l a i

@@ -1,0 +1,163 @@
+-- Lists of scripts and of amendments: what the entries that pass say, and how many there can be.
+use Rattle.std.proofs.Common.{◌≡◌, refl, sym, ap, ◌∙◌, Bool, true, false, cond, not, ◌&&◌, ◌||◌, ℕ, zero, suc, ◌≤◌, ◌<◌, arith, eqb, ltb, eqb-true, eq-eqb, ne_eqb, ltb-true, leb-true, List, [], ◌∷◌, length}
+use Rattle.std.proofs.Math.Bool.{false≢true}
+use Rattle.std.proofs.Math.Decide.{ℕ_discrete}
+use Rattle.std.specs.List.{AllByRecursion, IsDistinct, list_any}
+use Rattle.std.proofs.lemmas.Map.Steps.{length-le_from_distinct_below}
+use Rattle.calculus.specs.Security.{Security}
+use Rattle.calculus.specs.Types.{Ty}
+use Rattle.calculus.specs.Subtyping.{subtype}
+use Rattle.calculus.specs.Subtyping as directions
+use Rattle.rules.specs.Answer.{Bytes, Answer, accepted, refused, ◌>>◌, ask}
+use Rattle.rules.specs.Limits.{listed_limit, no_script}
+use Rattle.rules.specs.Comparison.{Comparison, same, below, neither, equal_types, comparison}
+use Rattle.rules.specs.InForce.{scripts, first_number, replaced_number, among, listed, replaced, ok40, ok41, ok42, same_or_below, scripts_compared, entry_check, entries_check}
+use Rattle.rules.proofs.Asked.{ask_true, and_then}
+
+or_true : (b : Bool) {c : Bool} → c ≡ true → b || c ≡ true
+or_true true h = refl
+or_true false h = h
+
+-- Is a number among the first n of a column?
+module _ (column : ℕ → ℕ) where
+  pub among_these : (n i e : ℕ) → e < n → column e ≡ i → among column n i ≡ true
+  unfolding among
+  among_these zero i e l h = absurd (omega arith)
+  among_these (suc n) i e l h =
+      elim (ℕ_discrete e n) [
+        | yes p ↦ rw (eq-eqb (column n) i (ap column (sym p) ∙ h), among)
+        | no d ↦ or_true (eqb (column n) i) (among_these n i e (omega arith) h)
+      ]
+
+  -- the one that is it
+  pub record At (n i : ℕ) : Type 0 where
+    pub entry : ℕ
+    pub there : entry < n
+    pub is : column entry ≡ i
+
+  pub among_at : (n i : ℕ) → among column n i ≡ true → At n i
+  unfolding among
+  among_at zero i h = absurd (false≢true h)
+  among_at (suc n) i h = by (eqb (column n) i) refl (among_at n i)
+    where
+      by : (b : Bool) → eqb (column n) i ≡ b → (among column n i ≡ true → At n i) → At (suc n) i
+      by true p ih = record { entry = n; there = omega arith; is = eqb-true (column n) i p }
+      by false p ih =
+          let x = ih (rw (p, among) at h) in
+          let l = x.there in
+          record { entry = x.entry; there = omega arith; is = x.is }
+
+  pub not_among : (n i e : ℕ) → among column n i ≡ false → e < n → column e ≡ i → ⊥
+  not_among n i e h l p = false≢true (sym h ∙ among_these n i e l p)
+
+  pub none_among : (n i : ℕ) → ((e : ℕ) → e < n → column e ≡ i → ⊥) → among column n i ≡ false
+  none_among n i h = by (among column n i) refl
+    where
+      by : (b : Bool) → among column n i ≡ b → among column n i ≡ false
+      by true p = let x = among_at n i p in absurd (h x.entry x.there x.is)
+      by false p = p
+
+  -- Numbers below a limit of which no two are equal are no more than the limit.
+  abbrev taken : ℕ → List ℕ
+  taken zero = []
+  taken (suc n) = column n ∷ taken n
+
+  taken_length : (n : ℕ) → length (taken n) ≡ n
+  taken_length zero = refl
+  taken_length (suc n) = ap suc (taken_length n)
+
+  apart : (n q : ℕ) → among column n q ≡ false → AllByRecursion (λ y. eqb q y ≡ false) (taken n)
+  apart zero q h = tt
+  apart (suc n) q h = (ne_eqb q (column n) (λ e. not_among (suc n) q n h (omega arith) (sym e)), apart n q (none_among n q (λ e l p. not_among (suc n) q e h (omega arith) p)))
+
+  distinct : (n : ℕ) → ((e : ℕ) → e < n → among column e (column e) ≡ false) → IsDistinct eqb (taken n)
+  unfolding IsDistinct
+  distinct zero h = tt
+  distinct (suc n) h = (apart n (column n) (h n (omega arith)), distinct n (λ e l. h e (omega arith)))
+
+  taken_below : (n limit q : ℕ) → ((e : ℕ) → e < n → column e < limit) → list_any (eqb q) (taken n) ≡ true → q < limit
+  taken_below zero limit q h p = absurd (false≢true p)
+  taken_below (suc n) limit q h p = by (eqb q (column n)) refl (taken_below n limit q (λ e l. h e (omega arith)))
+    where
+      by : (b : Bool) → eqb q (column n) ≡ b → (list_any (eqb q) (taken n) ≡ true → q < limit) → q < limit
+      by true e ih = omega (arith, eqb-true q (column n) e, h n (omega arith))
+      by false e ih = ih (rw e at p)
+
+  pub no_more : (n limit : ℕ) → ((e : ℕ) → e < n → column e < limit) → ((e : ℕ) → e < n → among column e (column e) ≡ false) → n ≤ limit
+  no_more n limit h d = omega (arith, taken_length n, length-le_from_distinct_below (taken n) limit (distinct n d) (λ q p. taken_below n limit q h p))
+
+-- "neither same nor below" is not at or below by table 2's test.
+pub usable_is : (S : Security) (s t : Ty) → same_or_below (comparison S s t) ≡ subtype S directions.below s t
+usable_is S s t = by (subtype S directions.below s t) (equal_types s t)
+  where
+    by : (b c : Bool) → same_or_below (cond b (cond c same below) neither) ≡ b
+    by true true = refl
+    by true false = refl
+    by false c = refl
+
+-- What an entry that passes says.
+pub record EntryPasses (g t l a : Bytes) (e : ℕ) : Type 0 where
+  pub inside : first_number a e < scripts l
+  pub new : listed a e (first_number a e) ≡ false
+  pub older : (replaced_number a e ≡ no_script → ⊥) → (replaced_number a e < scripts l) × (listed a e (replaced_number a e) ≡ true)
+  pub once : (replaced_number a e ≡ no_script → ⊥) → replaced a e (replaced_number a e) ≡ false
+  pub lower : (replaced_number a e ≡ no_script → ⊥) → same_or_below (scripts_compared g t l (first_number a e) (replaced_number a e)) ≡ true
+
+both : (a b : Bool) → a && b ≡ true → (a ≡ true) × (b ≡ true)
+both true b e = (refl, e)
+both false b e = absurd (false≢true e)
+
+not_true : (b : Bool) → not b ≡ true → b ≡ false
+not_true true h = absurd (false≢true h)
+not_true false h = refl
+
+-- where it replaces one
+replacing : (n : ℕ) (b : Bool) → eqb n no_script || b ≡ true → (n ≡ no_script → ⊥) → b ≡ true
+replacing n b h d = rw (ne_eqb n no_script d) at h
+
+module _ (g t l a : Bytes) where
+  pub entry_passes : (e : ℕ) → entry_check g t l a e ≡ accepted tt → EntryPasses g t l a e
+  unfolding entry_check ok40 ok41 ok42
+  entry_passes e h =
+      let first = first_number a e in
+      let old = replaced_number a e in
+      let p = and_then (ask 40 e (ok40 l a e)) (◌>>◌ (ask 41 e (ok41 a e)) (ask 42 e (ok42 g t l a e))) h in
+      let q = and_then (ask 41 e (ok41 a e)) (ask 42 e (ok42 g t l a e)) p.1 in
+      let of_40 = both (ltb first (scripts l)) (not (listed a e first) && (eqb old no_script || ltb old (scripts l) && listed a e old)) (ask_true 40 e (ok40 l a e) p.0) in
+      let of_first = both (not (listed a e first)) (eqb old no_script || ltb old (scripts l) && listed a e old) of_40.1 in
+      let of_41 = ask_true 41 e (ok41 a e) q.0 in
+      let of_42 = ask_true 42 e (ok42 g t l a e) q.1 in
+      record {
+        inside = ltb-true first (scripts l) of_40.0;
+        new = not_true (listed a e first) of_first.0;
+        older = λ d.
+            let x = both (ltb old (scripts l)) (listed a e old) (replacing old (ltb old (scripts l) && listed a e old) of_first.1 d) in
+            (ltb-true old (scripts l) x.0, x.1);
+        once = λ d. not_true (replaced a e old) (replacing old (not (replaced a e old)) of_41 d);
+        lower = λ d. replacing old (same_or_below (scripts_compared g t l first old)) of_42 d;
+      }
+
+  -- all of the first n pass
+  pub all_pass : (n e : ℕ) → entries_check g t l a n ≡ accepted tt → e < n → EntryPasses g t l a e
+  unfolding entries_check
+  all_pass zero e h m = absurd (omega arith)
+  all_pass (suc n) e h m =
+      let p = and_then (entries_check g t l a n) (entry_check g t l a n) h in
+      elim (ℕ_discrete e n) [
+        | yes q ↦ entry_passes e (ap (entry_check g t l a) q ∙ p.1)
+        | no d ↦ all_pass n e p.0 (omega arith)
+      ]
+
+  -- and then they are no more than the scripts
+  pub few_entries : (n : ℕ) → entries_check g t l a n ≡ accepted tt → n ≤ scripts l
+  few_entries n h = no_more (first_number a) n (scripts l) (λ e m. (all_pass n e h m).inside) (λ e m. (all_pass n e h m).new)
+
+  -- A refusal stops the pass: it is that of the entry, which is one of them, and those before it pass.
+  pub stopped_at : (n e : ℕ) {q p : ℕ} → e < n → entries_check g t l a e ≡ accepted tt → entry_check g t l a e ≡ refused q p → entries_check g t l a n ≡ refused q p
+  unfolding entries_check
+  stopped_at zero e m h k = absurd (omega arith)
+  stopped_at (suc n) e m h k =
+      elim (ℕ_discrete e n) [
+        | yes r ↦ rw (sym (ap (entries_check g t l a) r) ∙ h) (sym (ap (entry_check g t l a) r) ∙ k)
+        | no d ↦ rw (stopped_at n e (omega arith) h k) refl
+      ]
