@@ -21,7 +21,7 @@ use Rattle.rules.specs.Groups.{properties_of}
 use Rattle.rules.specs.Types.{type_count, type_at}
 use Rattle.rules.specs.Comparison.{Comparison, comparison}
 use Rattle.rules.specs.Calls.{types_check, comparing}
-use Rattle.rules.specs.InForce.{scripts, type_of, entries, first_number, replaced_number, among, listed, q40_lengths, ok25, q25_scripts, ok40, ok41, ok42, same_or_below, scripts_compared, entry_check, entries_check, lists_check, replacement, following, script_in_force, in_force, LeadsTo, stays, replaced_by, NamedFirst, InForceFrom}
+use Rattle.rules.specs.InForce.{script_count, type_of, entry_count, first_number, replaced_number, among, listed, q40_lengths, ok25, q25_scripts, ok40, ok41, ok42, same_or_below, scripts_compared, entry_check, entries_check, lists_check, replacement, following, script_in_force, in_force, LeadsTo, stays, replaced_by, NamedFirst, InForceFrom}
 use Rattle.rules.proofs.Asked.{ask_true, and_then, regroup}
 use Rattle.rules.proofs.Search.{from_all, found, each_all}
 use Rattle.rules.proofs.InForce.{among_these, among_at, not_among, none_among, usable_is, EntryPasses, all_pass, few_entries}
@@ -46,53 +46,53 @@ unfolding of_entries entries_check
 entries_decided g t l a zero = decided_yes tt
 entries_decided g t l a (suc n) = decided_then (entries_check g t l a n) (entry_check g t l a n) (entries_decided g t l a n) (entry_decided g t l a n)
 
-lists_decided : (g t l a : Bytes) → Decided (of_lists g t l a) (◌>>◌ (q40_lengths l a) (◌>>◌ (q25_scripts t l) (entries_check g t l a (entries a))))
+lists_decided : (g t l a : Bytes) → Decided (of_lists g t l a) (◌>>◌ (q40_lengths l a) (◌>>◌ (q25_scripts t l) (entries_check g t l a (entry_count a))))
 lists_decided g t l a =
-    decided_then (q40_lengths l a) _ (decided_one (ask_own 40 0 (eqb (length l % listed_width) 0 && (leb (scripts l) listed_limit && eqb (length a % entry_width) 0))))
-    (decided_then (q25_scripts t l) (entries_check g t l a (entries a)) (decided_one (each_own 25 (scripts l) (ok25 t l))) (entries_decided g t l a (entries a)))
+    decided_then (q40_lengths l a) _ (decided_one (ask_own 40 0 (eqb (length l % listed_width) 0 && (leb (script_count l) listed_limit && eqb (length a % entry_width) 0))))
+    (decided_then (q25_scripts t l) (entries_check g t l a (entry_count a)) (decided_one (each_own 25 (script_count l) (ok25 t l))) (entries_decided g t l a (entry_count a)))
 
 -- ---- lists that pass
 
 pub record ListsPass (g t l a : Bytes) : Type 0 where
   pub tables_pass : types_check g t ≡ accepted tt
-  pub limited : scripts l ≤ listed_limit
-  pub typed : (i : ℕ) → i < scripts l → type_of l i < type_count t
-  pub entries_pass : entries_check g t l a (entries a) ≡ accepted tt
+  pub limited : script_count l ≤ listed_limit
+  pub typed : (i : ℕ) → i < script_count l → type_of l i < type_count t
+  pub entries_pass : entries_check g t l a (entry_count a) ≡ accepted tt
 
 pub lists_pass : (g t l a : Bytes) → lists_check g t l a ≡ accepted tt → ListsPass g t l a
 unfolding lists_check ok25
 lists_pass g t l a h =
-    let p = and_then (types_check g t) (◌>>◌ (q40_lengths l a) (◌>>◌ (q25_scripts t l) (entries_check g t l a (entries a)))) h in
-    let q = and_then (q40_lengths l a) (◌>>◌ (q25_scripts t l) (entries_check g t l a (entries a))) p.1 in
-    let r = and_then (q25_scripts t l) (entries_check g t l a (entries a)) q.1 in
-    let lengths = both (eqb (length l % listed_width) 0) (leb (scripts l) listed_limit && eqb (length a % entry_width) 0) (ask_true 40 0 _ q.0) in
-    let limit = both (leb (scripts l) listed_limit) (eqb (length a % entry_width) 0) lengths.1 in
+    let p = and_then (types_check g t) (◌>>◌ (q40_lengths l a) (◌>>◌ (q25_scripts t l) (entries_check g t l a (entry_count a)))) h in
+    let q = and_then (q40_lengths l a) (◌>>◌ (q25_scripts t l) (entries_check g t l a (entry_count a))) p.1 in
+    let r = and_then (q25_scripts t l) (entries_check g t l a (entry_count a)) q.1 in
+    let lengths = both (eqb (length l % listed_width) 0) (leb (script_count l) listed_limit && eqb (length a % entry_width) 0) (ask_true 40 0 _ q.0) in
+    let limit = both (leb (script_count l) listed_limit) (eqb (length a % entry_width) 0) lengths.1 in
     record {
       tables_pass = p.0;
-      limited = leb-true (scripts l) listed_limit limit.0;
-      typed = λ i m. ltb-true (type_of l i) (type_count t) (each_all 25 (scripts l) (ok25 t l) r.0 i m);
+      limited = leb-true (script_count l) listed_limit limit.0;
+      typed = λ i m. ltb-true (type_of l i) (type_count t) (each_all 25 (script_count l) (ok25 t l) r.0 i m);
       entries_pass = r.1;
     }
 
 module _ (g t l a : Bytes) (P : ListsPass g t l a) where
   abbrev n : ℕ
-  n = entries a
+  n = entry_count a
 
   passes : (e : ℕ) → e < n → EntryPasses g t l a e
   passes e m = all_pass g t l a n e P.entries_pass m
 
   -- every first number is a script of the list, and so not 65,535
-  first_there : (e : ℕ) → e < n → first_number a e < scripts l
-  first_there e m = (passes e m).inside
+  first_there : (e : ℕ) → e < n → first_number a e < script_count l
+  first_there e m = (passes e m).in_order.inside
 
-  some_script : (i : ℕ) → i < scripts l → i ≡ no_script → ⊥
+  some_script : (i : ℕ) → i < script_count l → i ≡ no_script → ⊥
   some_script i m p = omega (arith, P.limited)
 
   -- no script is listed twice
   one_entry : (e e' : ℕ) → e < n → e' < n → first_number a e ≡ first_number a e' → e' ≤ e
   one_entry e e' m m' p =
       elim (dec_lt e e') [
-        | yes k ↦ absurd (not_among (first_number a) e' (first_number a e') e (passes e' m').new k p)
+        | yes k ↦ absurd (not_among (first_number a) e' (first_number a e') e (passes e' m').in_order.new k p)
         | no k ↦ omega arith
       ]
 
@@ -100,7 +100,7 @@ module _ (g t l a : Bytes) (P : ListsPass g t l a) where
   later : (e e' : ℕ) → e < n → e' < n → replaced_number a e' ≡ first_number a e → e < e'
   later e e' m m' p =
       let k = first_there e m in
-      let x = among_at (first_number a) e' (replaced_number a e') ((passes e' m').older (λ z. some_script (first_number a e) k (sym p ∙ z))).1 in
+      let x = among_at (first_number a) e' (replaced_number a e') ((passes e' m').in_order.older (λ z. some_script (first_number a e) k (sym p ∙ z))).1 in
       let there = x.there in
       omega (arith, one_entry x.entry e (omega arith) m (x.is ∙ p))
 
@@ -173,7 +173,7 @@ module _ (g t l a : Bytes) (P : ListsPass g t l a) where
   few_steps e i r j m z (replaced_by e' m' p d x) = omega (arith, later e e' m m' (p ∙ sym z), few_steps e' (first_number a e') _ j m' refl x)
 
   -- the end is a script of the list
-  end_there : (i r j : ℕ) → i < scripts l → LeadsTo a i r j → j < scripts l
+  end_there : (i r j : ℕ) → i < script_count l → LeadsTo a i r j → j < script_count l
   end_there i r j m stays = m
   end_there i r j m (replaced_by e m' p d x) = end_there (first_number a e) _ j (first_there e m') x
 
@@ -202,7 +202,7 @@ module _ (g t l a : Bytes) (P : ListsPass g t l a) where
         subtype_transitive (properties_laws X.lattice) (type j) (type (first_number a e)) (type i) (goes_down x)
         (subst (λ (y : ℕ). So (subtype S directions.below (type (first_number a e)) (type y))) p step)
 
-    same_or_below_of : (i j : ℕ) → i < scripts l → InForceFrom a i j → SameOrBelow g t l j i
+    same_or_below_of : (i j : ℕ) → i < script_count l → InForceFrom a i j → SameOrBelow g t l j i
     unfolding comparing
     same_or_below_of i j m x =
         let m' = end_there i x.replacements j m x.leads in
@@ -280,7 +280,7 @@ module _ (g t l a : Bytes) (P : ListsPass g t l a) where
 
   -- ---- any index
 
-  in_range : (i : ℕ) → NamedFirst a i → i < scripts l
+  in_range : (i : ℕ) → NamedFirst a i → i < script_count l
   in_range i x = omega (arith, first_there x.0 x.1, x.2)
 
   named_first : (i : ℕ) → Dec (NamedFirst a i)
@@ -289,6 +289,18 @@ module _ (g t l a : Bytes) (P : ListsPass g t l a) where
       by : (b : Bool) → listed a n i ≡ b → Dec (NamedFirst a i)
       by true p = let x = among_at (first_number a) n i p in yes (x.entry, x.there, x.is)
       by false p = no (λ x. not_among (first_number a) n i x.0 p x.1 x.2)
+
+  -- what is answered is a script of the list or 65,535
+  pub answer_small : (i : ℕ) → script_in_force a i ≤ no_script
+  answer_small i =
+      elim (named_first i) [
+        | yes x ↦ let y = named_ends i x in omega (arith, in_force_of_named i x, end_there i y.replacements (following a n i) (in_range i x) y.leads, P.limited)
+        | no d ↦ omega (arith, in_force_of_other i d)
+      ]
+
+  -- an index past the list has none
+  pub far_has_none : (i : ℕ) → script_count l ≤ i → script_in_force a i ≡ no_script
+  far_has_none i h = in_force_of_other i (λ x. omega (arith, in_range i x))
 
   module _ (yes_lists : lists_check g t l a ≡ accepted tt) where
     answers : (i : ℕ) → in_force g t l a i ≡ accepted (script_in_force a i)
@@ -335,13 +347,13 @@ alone g t l a = by (lists_check g t l a) refl
 asks_all : (g t l a : Bytes) (i : ℕ) → Decided (of_groups g ++ of_types g t ++ of_lists g t l a) (in_force g t l a i)
 unfolding in_force lists_check
 asks_all g t l a i =
-    rw (regroup (types_check g t) (◌>>◌ (q40_lengths l a) (◌>>◌ (q25_scripts t l) (entries_check g t l a (entries a)))) (accepted (script_in_force a i)))
+    rw (regroup (types_check g t) (◌>>◌ (q40_lengths l a) (◌>>◌ (q25_scripts t l) (entries_check g t l a (entry_count a)))) (accepted (script_in_force a i)))
     (decided_then (types_check g t) _ (types_decided g t) (rw (← append-nil (of_lists g t l a)) (decided_then _ (accepted (script_in_force a i)) (lists_decided g t l a) (decided_yes (script_in_force a i)))))
 
 pub amendments : Amendments
 amendments = record {
   asks = λ g t l a i. decides (asks_all g t l a i);
   alone = alone;
-  few = λ g t l a h. few_entries g t l a (entries a) (lists_pass g t l a h).entries_pass;
+  few = λ g t l a h. few_entries g t l a (entry_count a) (lists_pass g t l a h).entries_pass;
   finds = λ g t l a i o h. finds_in_force g t l a (lists_pass g t l a h) h o i;
 }

@@ -5,7 +5,7 @@ use Rattle.std.proofs.Math.Option.{Option, none, some}
 use Rattle.rules.specs.Answer.{Bytes, Octets, accepted, ◌>>◌, ask}
 use Rattle.rules.specs.Limits.{no_script}
 use Rattle.rules.specs.Comparison.{Comparison}
-use Rattle.rules.specs.InForce.{scripts, type_of, entries, first_number, replaced_number, q40_lengths, q25_scripts, ok40, ok41, ok42, same_or_below, lists_check, script_in_force, in_force, LeadsTo, NamedFirst, InForceFrom}
+use Rattle.rules.specs.InForce.{script_count, type_of, entry_count, first_number, replaced_number, q40_lengths, q25_scripts, ok40, ok41, ok42, same_or_below, lists_check, script_in_force, in_force, LeadsTo, NamedFirst, InForceFrom}
 use Rattle.rules.specs.Calls.{comparing}
 use Rattle.demands.specs.Questions.{Question, question, of_groups, of_types, Decides}
 
@@ -18,7 +18,7 @@ of_entries g t l a zero = []
 of_entries g t l a (suc n) = of_entries g t l a n ++ of_entry g t l a n
 
 abbrev pub of_lists : Bytes → Bytes → Bytes → Bytes → List Question
-of_lists g t l a = question 40 (q40_lengths l a) ∷ question 25 (q25_scripts t l) ∷ of_entries g t l a (entries a)
+of_lists g t l a = question 40 (q40_lengths l a) ∷ question 25 (q25_scripts t l) ∷ of_entries g t l a (entry_count a)
 
 -- The look-up in one pass: it begins with the entry that names the script first, and an entry that replaces the newest script so far is
 -- the newest.
@@ -45,15 +45,15 @@ pub record SameOrBelow (g t l : Bytes) (i j : ℕ) : Type 0 where
 pub record FindsInForce (g t l a : Bytes) (i : ℕ) : Type 0 where
   -- following ends, and in fewer replacements than there are entries
   pub ends : NamedFirst a i → (j : ℕ) × InForceFrom a i j
-  pub short : (n j : ℕ) → NamedFirst a i → LeadsTo a i n j → n < entries a
+  pub short : (n j : ℕ) → NamedFirst a i → LeadsTo a i n j → n < entry_count a
   -- the answer is its end, and there is no other
   pub found : (j : ℕ) → NamedFirst a i → (in_force g t l a i ≡ accepted j) ↔ InForceFrom a i j
   -- any other index has none, and only those
   pub none_when : (in_force g t l a i ≡ accepted no_script) ↔ (NamedFirst a i → ⊥)
   -- the pass finds what following finds
-  pub pass_finds : or_no_script (newest a i (entries a)) ≡ script_in_force a i
+  pub pass_finds : or_no_script (newest a i (entry_count a)) ≡ script_in_force a i
   -- both are scripts of the list, and "its type is the same as or below the first's"
-  pub in_list : (j : ℕ) → InForceFrom a i j → (i < scripts l) × (j < scripts l)
+  pub in_list : (j : ℕ) → InForceFrom a i j → (i < script_count l) × (j < script_count l)
   pub type_below : (j : ℕ) → InForceFrom a i j → SameOrBelow g t l j i
 
 pub record Amendments : Type 0 where
@@ -62,5 +62,5 @@ pub record Amendments : Type 0 where
   -- "An index of 65,535 checks the lists alone."
   pub alone : (g t l a : Bytes) → in_force g t l a no_script ≡ ◌>>◌ (lists_check g t l a) (accepted no_script)
   -- a list of amendments that passes has no more entries than there are scripts
-  pub few : (g t l a : Bytes) → lists_check g t l a ≡ accepted tt → entries a ≤ scripts l
+  pub few : (g t l a : Bytes) → lists_check g t l a ≡ accepted tt → entry_count a ≤ script_count l
   pub finds : (g t l a : Bytes) (i : ℕ) → Octets g → lists_check g t l a ≡ accepted tt → FindsInForce g t l a i

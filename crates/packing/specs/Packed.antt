@@ -1,7 +1,7 @@
 -- An exported answer: one number of 64 bits, and a run's steps as bytes.
 use Rattle.std.specs.Prelude.{cond, [], ◌∷◌, ℕ, zero, suc, ◌+◌, ◌*◌, ◌/◌, ◌%◌, ◌≤◌, ◌<◌, eqb, length, take}
 use Rattle.rules.specs.Answer.{Bytes, Answer, accepted, refused}
-use Rattle.rules.specs.Limits.{script_limit, last_question}
+use Rattle.rules.specs.Limits.{script_limit, listed_limit, last_question}
 use Rattle.rules.specs.Run.{Ran}
 use Rattle.rules.specs.Comparison.{Comparison, comparison_number}
 use Rattle.rules.specs.Calls.{StepReport, Report, fill_front}
@@ -29,6 +29,11 @@ pub data Holds : Answer ℕ → Type 0 where
 pub data Bounded {A : Type 0} : Answer A → Type 0 where
   bounded_yes : {a : A} → Bounded (accepted a)
   bounded_no : {q p : ℕ} → 1 ≤ q → q ≤ last_question → p ≤ script_limit → Bounded (refused q p)
+
+-- The same of the lists of scripts and of amendments, whose places go up to 65,535.
+pub data BoundedByLists {A : Type 0} : Answer A → Type 0 where
+  lists_yes : {a : A} → BoundedByLists (accepted a)
+  lists_no : {q p : ℕ} → 1 ≤ q → q ≤ last_question → p ≤ listed_limit → BoundedByLists (refused q p)
 
 -- a report whose record count, or a refusal whose place, is at most a script's: one number holds either
 pub data Counted {A : Type 0} (count : A → ℕ) : Answer A → Type 0 where

@@ -1,5 +1,5 @@
 -- Lists of scripts and of amendments: what the entries that pass say, and how many there can be.
-use Rattle.std.proofs.Common.{◌≡◌, refl, sym, ap, ◌∙◌, Bool, true, false, cond, not, ◌&&◌, ◌||◌, ℕ, zero, suc, ◌≤◌, ◌<◌, arith, eqb, ltb, eqb-true, eq-eqb, ne_eqb, ltb-true, leb-true, List, [], ◌∷◌, length}
+use Rattle.std.proofs.Common.{◌≡◌, refl, sym, ap, ◌∙◌, Bool, true, false, cond, not, ◌&&◌, ◌||◌, ℕ, zero, suc, ◌+◌, ◌≤◌, ◌<◌, arith, add-one, eqb, ltb, eqb-true, eq-eqb, ne_eqb, ltb-true, leb-true, List, [], ◌∷◌, length}
 use Rattle.std.proofs.Math.Bool.{false≢true}
 use Rattle.std.proofs.Math.Decide.{ℕ_discrete}
 use Rattle.std.specs.List.{AllByRecursion, IsDistinct, list_any}
@@ -11,7 +11,7 @@ use Rattle.calculus.specs.Subtyping as directions
 use Rattle.rules.specs.Answer.{Bytes, Answer, accepted, refused, ◌>>◌, ask}
 use Rattle.rules.specs.Limits.{listed_limit, no_script}
 use Rattle.rules.specs.Comparison.{Comparison, same, below, neither, equal_types, comparison}
-use Rattle.rules.specs.InForce.{scripts, first_number, replaced_number, among, listed, replaced, ok40, ok41, ok42, same_or_below, scripts_compared, entry_check, entries_check}
+use Rattle.rules.specs.InForce.{script_count, first_number, replaced_number, among, listed, replaced, ok40, ok41, ok42, same_or_below, scripts_compared, entry_check, entries_check}
 use Rattle.rules.proofs.Asked.{ask_true, and_then}
 
 or_true : (b : Bool) {c : Bool} → c ≡ true → b || c ≡ true
@@ -95,14 +95,6 @@ usable_is S s t = by (subtype S directions.below s t) (equal_types s t)
     by true false = refl
     by false c = refl
 
--- What an entry that passes says.
-pub record EntryPasses (g t l a : Bytes) (e : ℕ) : Type 0 where
-  pub inside : first_number a e < scripts l
-  pub new : listed a e (first_number a e) ≡ false
-  pub older : (replaced_number a e ≡ no_script → ⊥) → (replaced_number a e < scripts l) × (listed a e (replaced_number a e) ≡ true)
-  pub once : (replaced_number a e ≡ no_script → ⊥) → replaced a e (replaced_number a e) ≡ false
-  pub lower : (replaced_number a e ≡ no_script → ⊥) → same_or_below (scripts_compared g t l (first_number a e) (replaced_number a e)) ≡ true
-
 both : (a b : Bool) → a && b ≡ true → (a ≡ true) × (b ≡ true)
 both true b e = (refl, e)
 both false b e = absurd (false≢true e)
@@ -111,30 +103,48 @@ not_true : (b : Bool) → not b ≡ true → b ≡ false
 not_true true h = absurd (false≢true h)
 not_true false h = refl
 
--- where it replaces one
+-- where an entry replaces a script
 replacing : (n : ℕ) (b : Bool) → eqb n no_script || b ≡ true → (n ≡ no_script → ⊥) → b ≡ true
 replacing n b h d = rw (ne_eqb n no_script d) at h
 
+-- What an entry says that passes 40,
+pub record Ordered (l a : Bytes) (e : ℕ) : Type 0 where
+  pub inside : first_number a e < script_count l
+  pub new : listed a e (first_number a e) ≡ false
+  pub older : (replaced_number a e ≡ no_script → ⊥) → (replaced_number a e < script_count l) × (listed a e (replaced_number a e) ≡ true)
+
+pub ordered : (l a : Bytes) (e : ℕ) → ok40 l a e ≡ true → Ordered l a e
+unfolding ok40
+ordered l a e h =
+    let first = first_number a e in
+    let old = replaced_number a e in
+    let p = both (ltb first (script_count l)) (not (listed a e first) && (eqb old no_script || ltb old (script_count l) && listed a e old)) h in
+    let q = both (not (listed a e first)) (eqb old no_script || ltb old (script_count l) && listed a e old) p.1 in
+    record {
+      inside = ltb-true first (script_count l) p.0;
+      new = not_true (listed a e first) q.0;
+      older = λ d.
+          let x = both (ltb old (script_count l)) (listed a e old) (replacing old (ltb old (script_count l) && listed a e old) q.1 d) in
+          (ltb-true old (script_count l) x.0, x.1);
+    }
+
+-- and one that passes 41 and 42 too
+pub record EntryPasses (g t l a : Bytes) (e : ℕ) : Type 0 where
+  pub in_order : Ordered l a e
+  pub once : (replaced_number a e ≡ no_script → ⊥) → replaced a e (replaced_number a e) ≡ false
+  pub lower : (replaced_number a e ≡ no_script → ⊥) → same_or_below (scripts_compared g t l (first_number a e) (replaced_number a e)) ≡ true
+
 module _ (g t l a : Bytes) where
   pub entry_passes : (e : ℕ) → entry_check g t l a e ≡ accepted tt → EntryPasses g t l a e
-  unfolding entry_check ok40 ok41 ok42
+  unfolding entry_check ok41 ok42
   entry_passes e h =
-      let first = first_number a e in
       let old = replaced_number a e in
       let p = and_then (ask 40 e (ok40 l a e)) (◌>>◌ (ask 41 e (ok41 a e)) (ask 42 e (ok42 g t l a e))) h in
       let q = and_then (ask 41 e (ok41 a e)) (ask 42 e (ok42 g t l a e)) p.1 in
-      let of_40 = both (ltb first (scripts l)) (not (listed a e first) && (eqb old no_script || ltb old (scripts l) && listed a e old)) (ask_true 40 e (ok40 l a e) p.0) in
-      let of_first = both (not (listed a e first)) (eqb old no_script || ltb old (scripts l) && listed a e old) of_40.1 in
-      let of_41 = ask_true 41 e (ok41 a e) q.0 in
-      let of_42 = ask_true 42 e (ok42 g t l a e) q.1 in
       record {
-        inside = ltb-true first (scripts l) of_40.0;
-        new = not_true (listed a e first) of_first.0;
-        older = λ d.
-            let x = both (ltb old (scripts l)) (listed a e old) (replacing old (ltb old (scripts l) && listed a e old) of_first.1 d) in
-            (ltb-true old (scripts l) x.0, x.1);
-        once = λ d. not_true (replaced a e old) (replacing old (not (replaced a e old)) of_41 d);
-        lower = λ d. replacing old (same_or_below (scripts_compared g t l first old)) of_42 d;
+        in_order = ordered l a e (ask_true 40 e (ok40 l a e) p.0);
+        once = λ d. not_true (replaced a e old) (replacing old (not (replaced a e old)) (ask_true 41 e (ok41 a e) q.0) d);
+        lower = λ d. replacing old (same_or_below (scripts_compared g t l (first_number a e) old)) (ask_true 42 e (ok42 g t l a e) q.1) d;
       }
 
   -- all of the first n pass
@@ -148,9 +158,14 @@ module _ (g t l a : Bytes) where
         | no d ↦ all_pass n e p.0 (omega arith)
       ]
 
+  -- one more
+  pub one_passes : (n : ℕ) → entries_check g t l a n ≡ accepted tt → entry_check g t l a n ≡ accepted tt → entries_check g t l a (n + 1) ≡ accepted tt
+  unfolding entries_check
+  one_passes n h k = rw (add-one, h) k
+
   -- and then they are no more than the scripts
-  pub few_entries : (n : ℕ) → entries_check g t l a n ≡ accepted tt → n ≤ scripts l
-  few_entries n h = no_more (first_number a) n (scripts l) (λ e m. (all_pass n e h m).inside) (λ e m. (all_pass n e h m).new)
+  pub few_entries : (n : ℕ) → entries_check g t l a n ≡ accepted tt → n ≤ script_count l
+  few_entries n h = no_more (first_number a) n (script_count l) (λ e m. (all_pass n e h m).in_order.inside) (λ e m. (all_pass n e h m).in_order.new)
 
   -- A refusal stops the pass: it is that of the entry, which is one of them, and those before it pass.
   pub stopped_at : (n e : ℕ) {q p : ℕ} → e < n → entries_check g t l a e ≡ accepted tt → entry_check g t l a e ≡ refused q p → entries_check g t l a n ≡ refused q p

@@ -15,15 +15,15 @@ abbrev pub number_at : Bytes → ℕ → ℕ
 number_at b i = byte b i + 256 * byte b (i + 1)
 
 -- "A studio's list holds a 16-bit index per script, naming its type in a types table"
-abbrev pub scripts : Bytes → ℕ
-scripts l = length l / listed_width
+abbrev pub script_count : Bytes → ℕ
+script_count l = length l / listed_width
 
 abbrev pub type_of : Bytes → ℕ → ℕ
 type_of l i = number_at l (listed_width * i)
 
 -- "An amendment list holds records of 4 bytes: the index of a script in the studio's list, and of the one it replaces, or 65,535."
-abbrev pub entries : Bytes → ℕ
-entries a = length a / entry_width
+abbrev pub entry_count : Bytes → ℕ
+entry_count a = length a / entry_width
 
 abbrev pub first_number : Bytes → ℕ → ℕ
 first_number a e = number_at a (entry_width * e)
@@ -49,23 +49,23 @@ replaced a e i = among (replaced_number a) e i
 
 -- "then 40 at place 0 for either list not of whole records or a studio's list over 65,535 scripts"
 abbrev pub q40_lengths : Bytes → Bytes → Answer (Unit {0})
-q40_lengths l a = ask 40 0 (eqb (length l % listed_width) 0 && (leb (scripts l) listed_limit && eqb (length a % entry_width) 0))
+q40_lengths l a = ask 40 0 (eqb (length l % listed_width) 0 && (leb (script_count l) listed_limit && eqb (length a % entry_width) 0))
 
 -- "then 25 at the script's index": is its type in the table?
 unfoldable pub ok25 : Bytes → Bytes → ℕ → Bool
 ok25 t l i = ltb (type_of l i) (type_count t)
 
 abbrev pub q25_scripts : Bytes → Bytes → Answer (Unit {0})
-q25_scripts t l = each 25 (scripts l) (ok25 t l)
+q25_scripts t l = each 25 (script_count l) (ok25 t l)
 
 -- 40 of an entry: "an index past the list or first number listed before, or a replaced one not yet listed". 65,535 is past every list;
 -- as the replaced one it stands for none.
 unfoldable pub ok40 : Bytes → Bytes → ℕ → Bool
 unfolding among
 ok40 l a e =
-    ltb (first_number a e) (scripts l)
+    ltb (first_number a e) (script_count l)
     && (not (listed a e (first_number a e))
-    && (replaces_none a e || ltb (replaced_number a e) (scripts l) && listed a e (replaced_number a e)))
+    && (replaces_none a e || ltb (replaced_number a e) (script_count l) && listed a e (replaced_number a e)))
 
 -- 41: "one already replaced"
 unfoldable pub ok41 : Bytes → ℕ → Bool
@@ -107,11 +107,11 @@ lists_check g t l a = do
   types_check g t
   q40_lengths l a
   q25_scripts t l
-  entries_check g t l a (entries a)
+  entries_check g t l a (entry_count a)
 
 -- the entry that replaces script i, if there is one
 abbrev pub replacement : Bytes → ℕ → Option ℕ
-replacement a i = first_below (λ e. eqb (replaced_number a e) i) (entries a)
+replacement a i = first_below (λ e. eqb (replaced_number a e) i) (entry_count a)
 
 -- "found by following replacements to the end": at most n of them
 unfoldable pub following : Bytes → ℕ → ℕ → ℕ
@@ -123,7 +123,7 @@ following a (suc n) i = elim (replacement a i) [ none ↦ i | some e ↦ followi
 -- is followed twice.
 unfoldable pub script_in_force : Bytes → ℕ → ℕ
 unfolding among following
-script_in_force a i = cond (listed a (entries a) i) (following a (entries a) i) no_script
+script_in_force a i = cond (listed a (entry_count a) i) (following a (entry_count a) i) no_script
 
 -- the call: the lists' questions, and the script in force from an index; none is an answer
 unfoldable pub in_force : Bytes → Bytes → Bytes → Bytes → ℕ → Answer ℕ
@@ -135,15 +135,15 @@ in_force g t l a i = do
 -- The same as a relation: from script i, n replacements lead to script j.
 pub data LeadsTo (a : Bytes) : ℕ → ℕ → ℕ → Type 0 where
   stays : {i : ℕ} → LeadsTo a i 0 i
-  replaced_by : {i n j : ℕ} (e : ℕ) → e < entries a → replaced_number a e ≡ i → (i ≡ no_script → ⊥) → LeadsTo a (first_number a e) n j → LeadsTo a i (suc n) j
+  replaced_by : {i n j : ℕ} (e : ℕ) → e < entry_count a → replaced_number a e ≡ i → (i ≡ no_script → ⊥) → LeadsTo a (first_number a e) n j → LeadsTo a i (suc n) j
 
 -- an entry names script i first
 abbrev pub NamedFirst : Bytes → ℕ → Type 0
-NamedFirst a i = (e : ℕ) × (e < entries a) × (first_number a e ≡ i)
+NamedFirst a i = (e : ℕ) × (e < entry_count a) × (first_number a e ≡ i)
 
 -- script j is in force from script i: an entry names i first, and following replacements from there ends at j
 pub record InForceFrom (a : Bytes) (i j : ℕ) : Type 0 where
   pub named : NamedFirst a i
   pub replacements : ℕ
   pub leads : LeadsTo a i replacements j
-  pub last : (e : ℕ) → e < entries a → replaced_number a e ≡ j → ⊥
+  pub last : (e : ℕ) → e < entry_count a → replaced_number a e ≡ j → ⊥

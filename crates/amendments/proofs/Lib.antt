@@ -1,0 +1,4 @@
+pub mod Marked
+pub mod Entries
+pub mod Usable
+pub mod Looked

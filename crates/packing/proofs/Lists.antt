@@ -1,0 +1,93 @@
+-- Lists of scripts and of amendments: a refusal's place and the answer fit the exported number. An entry that is looked at comes after
+-- entries with different scripts, so its index is at most their number.
+use Rattle.std.proofs.Common.{Result, Ok, Err, IfErr, ◌<◌, sym, subst, ◌≡◌, refl, ap, Bool, true, false, cond, not, ◌&&◌, ℕ, zero, suc, ◌+◌, ◌%◌, ◌≤◌, arith, eqb, leb, leb-true, length}
+use Rattle.std.proofs.Math.Option.{Option, none, some}
+use Rattle.rules.specs.Answer.{Bytes, Answer, accepted, refused, ◌>>◌, ask, each, first_from}
+use Rattle.rules.specs.Limits.{listed_width, entry_width, listed_limit, no_script, last_question}
+use Rattle.rules.specs.Calls.{types_check}
+use Rattle.rules.specs.InForce.{script_count, entry_count, first_number, replaced_number, among, listed, ok25, ok40, ok41, ok42, q40_lengths, q25_scripts, entry_check, entries_check, lists_check, following, script_in_force, in_force}
+use Rattle.rules.proofs.Asked.{ask_true, and_then}
+use Rattle.rules.proofs.Search.{found}
+use Rattle.rules.proofs.InForce.{few_entries}
+use Rattle.demands.proofs.InForce.{lists_pass, answer_small}
+use Rattle.packing.specs.Packed.{half, Bounded, bounded_yes, bounded_no, BoundedByLists, lists_yes, lists_no, Holds, holds_yes, holds_no}
+use Rattle.packing.proofs.Bounds.{types_bounded}
+use Rattle.answer.specs.declared.Refusal.{Refusal}
+use Rattle.answer.specs.Numbers.{number}
+use Rattle.answer.specs.Said.{said}
+
+-- no place is too large to be packed
+pub place_small : {A : Type 0} (r : Result A Refusal) {a : Answer A} → said r ≡ a → BoundedByLists a → IfErr r (λ e. e.place < half)
+place_small {A = A} (Ok x) e b = tt
+place_small {A = A} (Err y) e b = go (subst BoundedByLists (sym e) b)
+  where
+    go : BoundedByLists {A = A} (refused (number y.question) y.place) → y.place < half
+    go (lists_no l m n) = omega arith
+
+then : {B : Type 0} (a : Answer (Unit {0})) (b : Answer B) → BoundedByLists a → (a ≡ accepted tt → BoundedByLists b) → BoundedByLists (◌>>◌ a b)
+then (accepted tt) b x f = f refl
+then (refused q p) b (lists_no l m n) f = lists_no l m n
+
+of_tables : (a : Answer (Unit {0})) → Bounded a → BoundedByLists a
+of_tables (accepted tt) x = lists_yes
+of_tables (refused q p) (bounded_no l m n) = lists_no l m (omega arith)
+
+asked : (q p : ℕ) (b : Bool) → 1 ≤ q → q ≤ last_question → p ≤ listed_limit → BoundedByLists (ask q p b)
+asked q p true l m n = lists_yes
+asked q p false l m n = lists_no l m n
+
+each_script : (q n : ℕ) (ok : ℕ → Bool) → 1 ≤ q → q ≤ last_question → n ≤ listed_limit → BoundedByLists (each q n ok)
+each_script q n ok l m b = go (first_from (λ i. not (ok i)) n 0) refl
+  where
+    go : (o : Option ℕ) → first_from (λ i. not (ok i)) n 0 ≡ o → BoundedByLists (each q n ok)
+    go none e = rw e lists_yes
+    go (some p) e = rw e (lists_no {p = p} l m (omega (arith, (found (λ i. not (ok i)) n 0 p e).high)))
+
+module _ (g t l a : Bytes) (few : script_count l ≤ listed_limit) where
+  entry_bounded : (e : ℕ) → e ≤ listed_limit → BoundedByLists (entry_check g t l a e)
+  unfolding entry_check
+  entry_bounded e m =
+      then (ask 40 e (ok40 l a e)) _ (asked 40 e (ok40 l a e) (omega arith) (omega arith) m) λ e40.
+      then (ask 41 e (ok41 a e)) _ (asked 41 e (ok41 a e) (omega arith) (omega arith) m) λ e41.
+      asked 42 e (ok42 g t l a e) (omega arith) (omega arith) m
+
+  entries_bounded : (n : ℕ) → BoundedByLists (entries_check g t l a n)
+  unfolding entries_check
+  entries_bounded zero = lists_yes
+  entries_bounded (suc n) =
+      then (entries_check g t l a n) _ (entries_bounded n) λ h. entry_bounded n (omega (arith, few_entries g t l a n h))
+
+at_40 : (l a : Bytes) → BoundedByLists (q40_lengths l a)
+at_40 l a =
+    asked 40 0 (eqb (length l % listed_width) 0 && (leb (script_count l) listed_limit && eqb (length a % entry_width) 0)) (omega arith) (omega arith) (omega arith)
+
+both : (a b : Bool) → a && b ≡ true → (a ≡ true) × (b ≡ true)
+both true b e = (refl, e)
+both false b e = let x : ◌≡◌ {A = ℕ} 0 1 = ap (λ (c : Bool). cond c 1 0) e in absurd (omega arith)
+
+few_scripts : (l a : Bytes) → q40_lengths l a ≡ accepted tt → script_count l ≤ listed_limit
+few_scripts l a h =
+    let lengths = both (eqb (length l % listed_width) 0) (leb (script_count l) listed_limit && eqb (length a % entry_width) 0) (ask_true 40 0 _ h) in
+    leb-true (script_count l) listed_limit (both (leb (script_count l) listed_limit) (eqb (length a % entry_width) 0) lengths.1).0
+
+pub lists_bounded : (g t l a : Bytes) → BoundedByLists (lists_check g t l a)
+unfolding lists_check
+lists_bounded g t l a =
+    then (types_check g t) _ (of_tables (types_check g t) (types_bounded g t)) λ e12.
+    then (q40_lengths l a) _ (at_40 l a) λ e40.
+    let few = few_scripts l a e40 in
+    then (q25_scripts t l) _ (each_script 25 (script_count l) (ok25 t l) (omega arith) (omega arith) few) λ e25.
+    entries_bounded g t l a few (entry_count a)
+
+pub in_force_bounded : (g t l a : Bytes) (i : ℕ) → BoundedByLists (in_force g t l a i)
+unfolding in_force
+in_force_bounded g t l a i = then (lists_check g t l a) _ (lists_bounded g t l a) λ h. lists_yes
+
+-- one number holds the answer: a script of the list, or 65,535
+pub in_force_holds : (g t l a : Bytes) (i : ℕ) → Holds (in_force g t l a i)
+unfolding in_force
+in_force_holds g t l a i = go (lists_check g t l a) refl (lists_bounded g t l a)
+  where
+    go : (x : Answer (Unit {0})) → lists_check g t l a ≡ x → BoundedByLists x → Holds (◌>>◌ x (accepted (script_in_force a i)))
+    go (accepted u) h b = holds_yes {n = script_in_force a i} (omega (arith, answer_small g t l a (lists_pass g t l a h) i))
+    go (refused q p) h (lists_no m k r) = holds_no {q = q} {p = p} m k (omega arith)
