@@ -10,9 +10,11 @@ ghost use Rattle.rules.specs.Callers.{write_callers, callers_written};
 ghost use Rattle.rules.specs.Calls.{comparing, type_records, work_after, answer_after};
 ghost use Rattle.rules.specs.Profile.{profile_checking};
 ghost use Rattle.rules.specs.Rewriting.{rewriting_types, rewriting_script, rewritten_records, rewritten_after};
+ghost use Rattle.rules.specs.InForce.{in_force};
+ghost use Rattle.answer.specs.Said.{said};
 ghost use Rattle.types_table.specs.Answered.{answered};
 ghost use Rattle.typing.specs.Judged.{JudgedInProfile};
-ghost use Rattle.packing.specs.Packed.{packed, unpacked, compared, Bounded};
+ghost use Rattle.packing.specs.Packed.{packed, unpacked, compared, Bounded, BoundedByLists};
 
 use answer::Refusal;
 use types_table::Comparison;
@@ -96,4 +98,28 @@ pub extern "C" fn wigneld_check_profile(
         answer.new) }
 {
     packing::answer(typing::profile_checking(groups, types, script, work, answer))
+}
+
+// A script's number, or the refusal.
+fn numbered(a: Result<u16, Refusal>) -> u64
+    requires { BoundedByLists (said a) }
+    ensures { result ≡ packed (said a) }
+{
+    packing::answer(a.map(usize::from))
+}
+
+// The script in force from an index of a studio's list, or NO_SCRIPT for none: questions 2 to 12, 40, 25, and 40 to 42 of each entry.
+#[tactic(auto, using(packing::proofs::Lists::in_force_bounded))]
+#[unsafe(no_mangle)]
+pub extern "C" fn wigneld_in_force(
+    groups: &[u8],
+    types: &[u8],
+    scripts: &[u8],
+    amendments: &[u8],
+    index: u64,
+) -> u64
+    ensures { result
+        ≡ packed (in_force groups.now types.now scripts.now amendments.now index) }
+{
+    numbered(amendments::in_force(groups, types, scripts, amendments, index))
 }
