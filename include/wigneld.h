@@ -22,7 +22,7 @@ extern "C" {
 #endif
 
 /* Raised whenever a constant, a prototype or an answer changes. */
-#define WIGNELD_VERSION 11
+#define WIGNELD_VERSION 12
 
 /* The form of rows and records. Raised whenever a width below changes, or what a byte of a record means: files of another form
    are to be rewritten before they are lent. No file says its form, so keep it beside them. Form 3 had no numbers, and its sheet
@@ -298,7 +298,7 @@ static inline uint32_t wigneld_step_count(uint64_t answer)
     return wigneld_run_count(answer);
 }
 
-/* What the place of a refusal counts. The last two are for calls that don't exist yet. */
+/* What the place of a refusal counts. The last two are of wigneld_in_force (wigneld_office.h), whose 25 is at a listed script. */
 #define WIGNELD_PLACE_NOTHING 0       /* the place is 0 and says nothing */
 #define WIGNELD_PLACE_ROW 1           /* a group, by its row */
 #define WIGNELD_PLACE_TYPE_RECORD 2   /* a record of the types table */
@@ -322,6 +322,8 @@ static inline unsigned wigneld_place_kind(unsigned question)
         return WIGNELD_PLACE_EITHER_RECORD;
     case 33: case 34:
         return WIGNELD_PLACE_WORD;
+    case 40: case 41: case 42:
+        return WIGNELD_PLACE_ENTRY;
     default:
         return WIGNELD_PLACE_NOTHING;
     }
@@ -345,9 +347,9 @@ static inline unsigned wigneld_place_kind_over(unsigned question, const uint8_t 
                : WIGNELD_PLACE_SCRIPT_RECORD;
 }
 
-/* The last question there is. 28 to 30, 37 and 38 are none yet; 32 to 34 are the report program's, of its file of words, and 39 is
-   wigneld_check_profile's (wigneld_office.h). */
-#define WIGNELD_LAST_QUESTION 39
+/* The last question there is. 28 to 30, 37 and 38 are none yet; 32 to 34 are the report program's, of its file of words, and 39 to 42
+   the office's: wigneld_check_profile's, and of lists of scripts (wigneld_office.h). */
+#define WIGNELD_LAST_QUESTION 42
 
 /* A question in a few words: what is not so, when it is the one that an answer names. */
 static inline const char *wigneld_asked(unsigned question)
@@ -394,6 +396,9 @@ static inline const char *wigneld_asked(unsigned question)
         none,                                                              /* 37 */
         none,                                                              /* 38 */
         "the script has no recursion, so that it always finishes",          /* 39, place: the first */
+        "the lists are whole, an entry's script new and its old one listed", /* 40, place 0 also for the lengths */
+        "a script is replaced by one entry only",                          /* 41 */
+        "a script's type is at or below that of the one it replaces",      /* 42 */
     };
 
     return question <= WIGNELD_LAST_QUESTION ? words[question] : none;

@@ -1,6 +1,6 @@
 /*
- * Wigneld for the office: the comparison of two types of a types table, the check of scripts that always finish, and the rewriting
- * of files from before this form, for C99 and C++ on x86-64 Linux.
+ * Wigneld for the office: the comparison of two types of a types table, the check of scripts that always finish, the script in force
+ * of an amended list, and the rewriting of files from before this form, for C99 and C++ on x86-64 Linux.
  *
  * Tables and scripts, and how a refusal is read, are as in wigneld.h. Every function here is total too: any bytes of any length get
  * an answer. Nothing is allocated, kept or printed, and nothing is written but what is lent for it, so calls from several threads are
@@ -23,9 +23,11 @@ extern "C" {
 
 /* The free stack that each function needs, whatever it is lent, as wigneld.h means it. For wigneld_compare two types of 63
    records, as deep as they can be, were seen to take 4,224 bytes; the number is this and at least a sixteenth more.
+   wigneld_in_force keeps two sets of 65,536 scripts, a bit for each, and was seen to take IN_FORCE_SEEN bytes.
    wigneld_write_callers goes over its script once and needs next to none. The other two hold a whole table, or a table and a script,
    in the new form while they ask, and were seen to take 24,896 and 110,832 bytes. */
 #define WIGNELD_COMPARE_STACK_BYTES 5632
+#define WIGNELD_IN_FORCE_STACK_BYTES 24576
 #define WIGNELD_WRITE_CALLERS_STACK_BYTES 512
 #define WIGNELD_REWRITE_TYPES_STACK_BYTES 28672
 #define WIGNELD_REWRITE_SCRIPT_STACK_BYTES 118784
@@ -60,6 +62,59 @@ static inline unsigned wigneld_comparison(uint64_t answer)
 uint64_t wigneld_check_profile(const uint8_t *groups, size_t groups_length, const uint8_t *types, size_t types_length,
                                const uint8_t *script, size_t script_length, uint8_t *work, size_t work_length, uint8_t *answer,
                                size_t answer_length);
+
+/*
+ * Which script is in force. A studio keeps two lists, neither with a header. Its list of scripts has for each script the index of its type
+ * in the types table, a number of WIGNELD_LISTED_BYTES bytes, lowest byte first; a script is named by its index, counted from 0. The
+ * list of amendments, which only grows, has entries of two such numbers: the script that the entry lists, and the listed script that it
+ * replaces, or WIGNELD_NO_SCRIPT for none.
+ */
+#define WIGNELD_LISTED_BYTES 2
+#define WIGNELD_ENTRY_BYTES 4
+#define WIGNELD_ENTRY_AT_REPLACED 2
+#define WIGNELD_MOST_LISTED_SCRIPTS 65535
+#define WIGNELD_NO_SCRIPT 65535
+
+/* The longest lists that are not refused: no script is listed twice. */
+#define WIGNELD_SCRIPTS_LONGEST_BYTES (WIGNELD_MOST_LISTED_SCRIPTS * WIGNELD_LISTED_BYTES)
+#define WIGNELD_AMENDMENTS_LONGEST_BYTES (WIGNELD_MOST_LISTED_SCRIPTS * WIGNELD_ENTRY_BYTES)
+
+/*
+ * The script in force from a script: questions 2 to 12; 40 at place 0, whether both lists have whole records and the first at most
+ * WIGNELD_MOST_LISTED_SCRIPTS of them; 25 of every listed script, whose index is the place; and then of one entry after another, whose
+ * index is the place,
+ *
+ *     40    it lists a script of the list that no entry before it lists, and replaces none or one that an entry before it lists
+ *     41    no entry before it replaces the same script
+ *     42    the type of the script that it lists is the same as that of the one it replaces, or below it
+ *
+ * Accepted: from a script that an entry lists, the last of the scripts that replace it one after another, which has a type at or below
+ * its own; any other index, one past the list too, has WIGNELD_NO_SCRIPT. So WIGNELD_NO_SCRIPT as the index checks the lists alone.
+ * Nothing is written. The cost grows with the lengths of the lists, not with their product. wigneld_script_in_force reads the answer.
+ */
+uint64_t wigneld_in_force(const uint8_t *groups, size_t groups_length, const uint8_t *types, size_t types_length,
+                          const uint8_t *scripts, size_t scripts_length, const uint8_t *amendments, size_t amendments_length,
+                          uint64_t index);
+
+#define WIGNELD_IN_FORCE_REFUSED 65536 /* nothing was looked up: the call was refused. No list has such a script */
+
+/* The script in force, WIGNELD_NO_SCRIPT where there is none, WIGNELD_IN_FORCE_REFUSED where the call was refused. */
+static inline uint32_t wigneld_script_in_force(uint64_t answer)
+{
+    return wigneld_question(answer) != 0 ? WIGNELD_IN_FORCE_REFUSED : (uint32_t)answer;
+}
+
+/* What the place counts where wigneld_in_force refuses lists of these lengths by this question. */
+static inline unsigned wigneld_lists_place_kind(unsigned question, size_t scripts_length, size_t amendments_length)
+{
+    if (question == 25)
+        return WIGNELD_PLACE_LISTED_SCRIPT;
+    if (question == 40
+        && (scripts_length % WIGNELD_LISTED_BYTES != 0 || scripts_length > WIGNELD_SCRIPTS_LONGEST_BYTES
+            || amendments_length % WIGNELD_ENTRY_BYTES != 0))
+        return WIGNELD_PLACE_NOTHING;
+    return wigneld_place_kind(question);
+}
 
 /*
  * Files from before this form. Their types have records of 4 bytes (kind, r, ir, 0) and their scripts records of 6 (kind, r, ir, 0,

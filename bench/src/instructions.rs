@@ -25,13 +25,19 @@ const TUNABLES: &str =
     "glibc.cpu.x86_rep_movsb_threshold=100000000:glibc.cpu.x86_rep_stosb_threshold=100000000";
 
 fn instructions(shape: &Shape, size: usize, who: Implementation) -> u64 {
+    let words = [ONCE, shape.call.name(), shape.name, &size.to_string(), who.name()];
+    counted("measured_call", &words)
+}
+
+/// What this program collects within a function of this name when it is given these words.
+pub fn counted(within: &str, words: &[&str]) -> u64 {
     let own = std::env::current_exe().expect("this program's path");
     let ran = Command::new("valgrind")
         .args(["--tool=callgrind", "--callgrind-out-file=/dev/null"])
-        .arg("--toggle-collect=measured_call")
+        .arg(format!("--toggle-collect={within}"))
         .env("GLIBC_TUNABLES", TUNABLES)
         .arg(own)
-        .args([ONCE, shape.call.name(), shape.name, &size.to_string(), who.name()])
+        .args(words)
         .output()
         .expect("valgrind on this machine");
     let said = String::from_utf8_lossy(&ran.stderr);

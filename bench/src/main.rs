@@ -1,10 +1,12 @@
 //! Check, run, step and sheet at several sizes, in one run: Markdown tables on the standard output
-//! and a plot in the file named by the first argument (`performance.svg` without one).
+//! and a plot in the file named by the first argument (`performance.svg` without one). Then the check
+//! of a studio's lists, up to the longest; `--lists` measures these alone.
 //! `--instructions` counts instructions instead, which no other load of the machine changes, and
 //! `--answers` only compares what the implementations answer.
 
 mod calls;
 mod instructions;
+mod lists;
 mod plot;
 mod shapes;
 mod tables;
@@ -19,8 +21,13 @@ fn main() {
     // Trees are walked by recursion.
     with_large_stack(move || match words.first().map(String::as_str) {
         Some("--answers") => times::compare(),
-        Some("--instructions") => instructions::table(),
+        Some("--lists") => lists::times(),
+        Some("--instructions") => {
+            instructions::table();
+            lists::table();
+        }
         Some(instructions::ONCE) => instructions::once(&words[1..]),
+        Some(lists::ONCE) => lists::once(&words[1..]),
         file => measure(file.unwrap_or("performance.svg")),
     });
 }
@@ -29,6 +36,7 @@ fn measure(file: &str) {
     let rows = tables::rows();
     tables::times(&rows);
     tables::copies(&rows);
+    lists::times();
     match std::fs::write(file, plot::svg(&tables::panels(&rows))) {
         Ok(()) => eprintln!("plot written to {file}"),
         Err(error) => eprintln!("no plot: {file}: {error}"),

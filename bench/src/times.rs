@@ -9,7 +9,7 @@ use wigneld_tests::limits::SCRIPT_BYTES;
 
 use crate::calls::{in_words, measured_call, Call, Lent, IMPLEMENTATIONS};
 use crate::shapes::SHAPES;
-use crate::SIZES;
+use crate::{lists, SIZES};
 
 /// The repetitions of one figure together fill about this time.
 const PATIENCE: Duration = Duration::from_millis(200);
@@ -82,6 +82,7 @@ pub fn compare() {
             alike += 1;
         }
     }
+    alike += lists::compare();
     println!("{alike} calls answered alike by {} implementations", IMPLEMENTATIONS.len());
 }
 
@@ -94,7 +95,7 @@ fn at_a_time(body: &mut dyn FnMut()) -> u128 {
 }
 
 /// The middle time of each turn-taker in microseconds.
-fn middle_times(mut turns: Vec<Box<dyn FnMut() + '_>>) -> Vec<f64> {
+pub fn middle_times(mut turns: Vec<Box<dyn FnMut() + '_>>) -> Vec<f64> {
     let counts: Vec<u128> = turns.iter_mut().map(|body| at_a_time(body)).collect();
     let mut times: Vec<Vec<f64>> = vec![Vec::new(); turns.len()];
     let start = Instant::now();

@@ -709,15 +709,15 @@ static void every_refusal(void)
 /* What each question's place counts, and that each has its words. */
 static void places(void)
 {
-    /* - nothing, g a row, t a type record, s a script record, e either, w a word; by number from 0. */
-    static const char counted[] = "---gggg--tttt-sssssssssss------s-ww-e--s";
+    /* - nothing, g a row, t a type record, s a script record, e either, w a word, a an entry; by number from 0. */
+    static const char counted[] = "---gggg--tttt-sssssssssss------s-ww-e--saaa";
     unsigned question;
 
     HOLD(sizeof counted - 1 == WIGNELD_LAST_QUESTION + 1);
     for (question = 0; question <= WIGNELD_LAST_QUESTION; question++) {
         unsigned kind = wigneld_place_kind(question);
 
-        HOLD(kind <= WIGNELD_PLACE_WORD && counted[question] == "-gtsew"[kind]);
+        HOLD(kind <= WIGNELD_PLACE_ENTRY && counted[question] == "-gtsew a"[kind]);
         HOLD(kind == WIGNELD_PLACE_EITHER_RECORD || wigneld_place_kind_over(question, NULL, 0, NULL, 0) == kind);
         HOLD((strcmp(wigneld_asked(question), "no such question") == 0)
              == ((question >= 28 && question <= 30) || question == 37 || question == 38));

@@ -1,6 +1,7 @@
 /*
- * A program of the office, written from the header alone, in what C99 and C++ share: it compares types, reads every kind of
- * answer, checks scripts for a screen, and rewrites tables and scripts of forms 1 and 2. Exits with 0 when all is as the header says.
+ * A program of the office, written from the header alone, in what C99 and C++ share: it compares types, looks up scripts in force,
+ * reads every kind of answer, checks scripts for a screen, and rewrites tables and scripts of forms 1 and 2. Exits with 0 when all is
+ * as the header says.
  */
 #include <string.h>
 
@@ -119,10 +120,114 @@ static void readings(void)
 
     for (question = 1; question <= WIGNELD_LAST_QUESTION; question++)
         for (place = 0; place < 4; place++)
-            HOLD(wigneld_comparison((uint64_t)question << 32 | place) == WIGNELD_COMPARE_REFUSED);
+            HOLD(wigneld_comparison((uint64_t)question << 32 | place) == WIGNELD_COMPARE_REFUSED
+                 && wigneld_script_in_force((uint64_t)question << 32 | place) == WIGNELD_IN_FORCE_REFUSED);
     HOLD(wigneld_comparison(0) == WIGNELD_COMPARE_NEITHER);
     HOLD(wigneld_comparison(1) == WIGNELD_COMPARE_BELOW);
     HOLD(wigneld_comparison(2) == WIGNELD_COMPARE_SAME);
+}
+
+/* Scripts with lines of these types: two that the lender made, one that anybody may have, one more closed, and one that nobody lists. */
+enum { SWORN_LINE, SWORN_LINE_AGAIN, OPEN_LINE, CLOSED_LINE, SPARE_LINE, LINES };
+
+static const uint8_t lines[LINES * WIGNELD_LISTED_BYTES] = {
+    SWORN, 0, SWORN, 0, OPEN_TO_OPEN + 1, 0, CLOSED_TO_OPEN + 1, 0, OPEN_TO_OPEN, 0,
+};
+
+/* The closed line is amended by the open one, that by a sworn one, and that by another. */
+static const uint8_t amended[] = {
+    CLOSED_LINE, 0, 255, 255, OPEN_LINE, 0, CLOSED_LINE, 0, SWORN_LINE_AGAIN, 0, OPEN_LINE, 0, SWORN_LINE, 0, SWORN_LINE_AGAIN, 0,
+};
+
+static uint64_t look_up(const uint8_t *scripts, size_t scripts_length, const uint8_t *entries, size_t entries_length, uint64_t index)
+{
+    return wigneld_in_force(groups, sizeof groups, types, sizeof types, scripts, scripts_length, entries, entries_length, index);
+}
+
+static uint32_t in_force(size_t entries, uint64_t index)
+{
+    return wigneld_script_in_force(look_up(lines, sizeof lines, amended, entries * WIGNELD_ENTRY_BYTES, index));
+}
+
+/* The list of amendments grows, and what is in force with it. */
+static void looked_up(void)
+{
+    static const uint64_t past[] = { LINES, 256, 65535, 65536 + CLOSED_LINE, ((uint64_t)1 << 32) + CLOSED_LINE, UINT64_MAX };
+    static const uint32_t newest[] = { WIGNELD_NO_SCRIPT, CLOSED_LINE, OPEN_LINE, SWORN_LINE_AGAIN, SWORN_LINE };
+    size_t entries, i;
+
+    for (entries = 0; entries < sizeof newest / sizeof newest[0]; entries++) {
+        HOLD(in_force(entries, CLOSED_LINE) == newest[entries]);
+        HOLD(in_force(entries, OPEN_LINE) == (entries >= 2 ? newest[entries] : WIGNELD_NO_SCRIPT));
+        HOLD(in_force(entries, SWORN_LINE) == (entries == 4 ? (uint32_t)SWORN_LINE : WIGNELD_NO_SCRIPT));
+        HOLD(in_force(entries, SPARE_LINE) == WIGNELD_NO_SCRIPT);
+        for (i = 0; i < sizeof past / sizeof past[0]; i++)
+            HOLD(in_force(entries, past[i]) == WIGNELD_NO_SCRIPT);
+    }
+    HOLD(wigneld_script_in_force(look_up(NULL, 0, NULL, 0, 0)) == WIGNELD_NO_SCRIPT);
+}
+
+/* A refused look-up, and what its place counts. */
+static void not_looked_up(uint64_t answer, unsigned question, uint32_t place)
+{
+    HOLD(wigneld_question(answer) == question && wigneld_place(answer) == place);
+    HOLD(wigneld_script_in_force(answer) == WIGNELD_IN_FORCE_REFUSED);
+}
+
+/* The lines, with these two numbers in entry `entry`. */
+static void entry_with(size_t entry, unsigned line, unsigned old, unsigned question)
+{
+    uint8_t entries[sizeof amended];
+    uint8_t *at = entries + entry * WIGNELD_ENTRY_BYTES;
+
+    memcpy(entries, amended, sizeof entries);
+    at[0] = (uint8_t)(line & 255);
+    at[1] = (uint8_t)(line >> 8);
+    at[WIGNELD_ENTRY_AT_REPLACED] = (uint8_t)(old & 255);
+    at[WIGNELD_ENTRY_AT_REPLACED + 1] = (uint8_t)(old >> 8);
+    not_looked_up(look_up(lines, sizeof lines, entries, sizeof entries, CLOSED_LINE), question, (uint32_t)entry);
+    HOLD(wigneld_lists_place_kind(question, sizeof lines, sizeof entries) == WIGNELD_PLACE_ENTRY);
+}
+
+static void lists_refused(void)
+{
+    static uint8_t many[WIGNELD_SCRIPTS_LONGEST_BYTES + WIGNELD_LISTED_BYTES];
+    uint8_t scripts[sizeof lines];
+    size_t length;
+
+    for (length = 0; length < sizeof amended; length++) {
+        uint64_t answer = look_up(lines, sizeof lines, amended, length, WIGNELD_NO_SCRIPT);
+
+        if (length % WIGNELD_ENTRY_BYTES == 0)
+            HOLD(wigneld_script_in_force(answer) == WIGNELD_NO_SCRIPT);
+        else {
+            not_looked_up(answer, 40, 0);
+            HOLD(wigneld_lists_place_kind(40, sizeof lines, length) == WIGNELD_PLACE_NOTHING);
+        }
+    }
+    not_looked_up(look_up(lines, sizeof lines - 1, amended, sizeof amended, 0), 40, 0);
+    HOLD(wigneld_lists_place_kind(40, sizeof lines - 1, sizeof amended) == WIGNELD_PLACE_NOTHING);
+    /* As many as there can be, all of type 0, and one more. */
+    HOLD(wigneld_script_in_force(look_up(many, WIGNELD_SCRIPTS_LONGEST_BYTES, NULL, 0, 0)) == WIGNELD_NO_SCRIPT);
+    not_looked_up(look_up(many, sizeof many, NULL, 0, 0), 40, 0);
+    HOLD(wigneld_lists_place_kind(40, sizeof many, 0) == WIGNELD_PLACE_NOTHING);
+
+    memcpy(scripts, lines, sizeof scripts);
+    scripts[CLOSED_LINE * WIGNELD_LISTED_BYTES] = RECORDS;
+    not_looked_up(look_up(scripts, sizeof scripts, amended, sizeof amended, 0), 25, CLOSED_LINE);
+    HOLD(wigneld_lists_place_kind(25, sizeof scripts, sizeof amended) == WIGNELD_PLACE_LISTED_SCRIPT);
+
+    entry_with(0, LINES, WIGNELD_NO_SCRIPT, 40);
+    entry_with(1, WIGNELD_NO_SCRIPT, CLOSED_LINE, 40);
+    entry_with(1, CLOSED_LINE, CLOSED_LINE, 40);
+    entry_with(1, OPEN_LINE, SWORN_LINE, 40);
+    entry_with(1, OPEN_LINE, OPEN_LINE, 40);
+    entry_with(1, OPEN_LINE, LINES, 40);
+    entry_with(2, SWORN_LINE_AGAIN, CLOSED_LINE, 41);
+    entry_with(2, SPARE_LINE, OPEN_LINE, 42);
+
+    not_looked_up(wigneld_in_force(NULL, 0, types, sizeof types, NULL, 0, NULL, 0, 0), 2, 0);
+    not_looked_up(wigneld_in_force(groups, sizeof groups, NULL, 0, NULL, 0, NULL, 0, 0), 8, 0);
 }
 
 /* The lender's function from an open unit to a unit of the lender's, with records of the older width. */
@@ -421,6 +526,8 @@ int main(void)
     answers();
     refusals();
     readings();
+    looked_up();
+    lists_refused();
     rewritten();
     left_as_they_are();
     rewriting_refused();

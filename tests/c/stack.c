@@ -68,6 +68,20 @@ static void put_types(void)
     put_old(old_types, WIGNELD_OLD_TYPE_RECORD_BYTES, types, WIGNELD_TYPE_RECORD_BYTES, COMBS * RECORDS_OF_A_COMB);
 }
 
+/* A list of two scripts of one type, of which the second replaces the first. */
+static uint8_t listed[2 * WIGNELD_LISTED_BYTES];
+static const uint8_t amendments[2 * WIGNELD_ENTRY_BYTES] = { 0, 0, 255, 255, 1, 0, 0, 0 };
+
+static void put_listed(unsigned type)
+{
+    size_t i;
+
+    for (i = 0; i < sizeof listed; i += WIGNELD_LISTED_BYTES) {
+        listed[i] = (uint8_t)(type & 255);
+        listed[i + 1] = (uint8_t)(type >> 8);
+    }
+}
+
 /* A script while it is built: its records, and the count of units that are owed after the innermost ones. */
 
 struct script {
@@ -274,15 +288,16 @@ static void sheet_script(struct script *s, enum way way)
 
 /* The calls, in buffers that stand apart from the stack. */
 
-enum call { CHECK, RUN, SHEET, PREVIEW, MOVE, COMPARE, WRITE_CALLERS, REWRITE_SCRIPT, REWRITE_TYPES, CHECK_PROFILE, CALLS };
+enum call { CHECK, RUN, SHEET, PREVIEW, MOVE, COMPARE, IN_FORCE, WRITE_CALLERS, REWRITE_SCRIPT, REWRITE_TYPES, CHECK_PROFILE, CALLS };
 
 static const char *const names[CALLS] = { "wigneld_check", "wigneld_run", "wigneld_sheet", "wigneld_preview", "wigneld_move",
-                                          "wigneld_compare", "wigneld_write_callers", "wigneld_rewrite_script",
-                                          "wigneld_rewrite_types", "wigneld_check_profile" };
+                                          "wigneld_compare", "wigneld_in_force", "wigneld_write_callers",
+                                          "wigneld_rewrite_script", "wigneld_rewrite_types", "wigneld_check_profile" };
 static const size_t promised[CALLS] = { WIGNELD_CHECK_STACK_BYTES, WIGNELD_RUN_STACK_BYTES, WIGNELD_SHEET_STACK_BYTES,
                                         WIGNELD_PREVIEW_STACK_BYTES, WIGNELD_MOVE_STACK_BYTES, WIGNELD_COMPARE_STACK_BYTES,
-                                        WIGNELD_WRITE_CALLERS_STACK_BYTES, WIGNELD_REWRITE_SCRIPT_STACK_BYTES,
-                                        WIGNELD_REWRITE_TYPES_STACK_BYTES, WIGNELD_CHECK_PROFILE_STACK_BYTES };
+                                        WIGNELD_IN_FORCE_STACK_BYTES, WIGNELD_WRITE_CALLERS_STACK_BYTES,
+                                        WIGNELD_REWRITE_SCRIPT_STACK_BYTES, WIGNELD_REWRITE_TYPES_STACK_BYTES,
+                                        WIGNELD_CHECK_PROFILE_STACK_BYTES };
 
 /* No promise up to this is too high: it is less than a caller's own frames are apart. */
 enum { NEXT_TO_NONE = 512 };
@@ -340,6 +355,10 @@ __attribute__((noinline)) static void make_call(struct job *job)
     case COMPARE:
         job->answer = wigneld_compare(groups, sizeof groups, types, sizeof types, job->script->type, job->script->type);
         break;
+    case IN_FORCE:
+        job->answer = wigneld_in_force(groups, sizeof groups, types, sizeof types, listed, sizeof listed, amendments,
+                                       sizeof amendments, 0);
+        break;
     case WRITE_CALLERS:
         job->answer = wigneld_write_callers(old_types, sizeof old_types, old_script, old_length);
         break;
@@ -378,6 +397,7 @@ static void *in_thread(void *given)
     /* And the preview of a move, which goes as deep as the move itself. */
     if (job->call == MOVE)
         shown = preview(job->script);
+    put_listed(job->script->type);
     if (job->wanted == 0)
         make_call_below(job, 0);
     else /* an array is aligned to 16 bytes: rather less free stack than more */
@@ -502,6 +522,7 @@ static int script_of(enum call call, unsigned number, struct script *s)
         sheet_script(s, values[number]);
         return 1;
     case COMPARE:
+    case IN_FORCE:
         /* A type beside itself: only related types are walked to their end. */
         if (number >= COMBS)
             return 0;
@@ -561,6 +582,8 @@ static unsigned hold(enum call call)
             fail("a move is not what its preview showed");
         if (call == COMPARE && wigneld_comparison(answer) != WIGNELD_COMPARE_SAME)
             fail("a type is not the same as itself");
+        if (call == IN_FORCE && wigneld_script_in_force(answer) != 1)
+            fail("a script is not replaced by one of its own type");
         if (call == WRITE_CALLERS && answer != recursions(&s))
             fail("a recursion was not rewritten");
         if ((call == REWRITE_SCRIPT && answer != s.count) || (call == REWRITE_TYPES && answer != COMBS * RECORDS_OF_A_COMB))

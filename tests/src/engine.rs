@@ -60,6 +60,13 @@ mod raw {
             work: *mut u8, work_length: usize,
             answer: *mut u8, answer_length: usize,
         ) -> u64;
+        pub fn wigneld_in_force(
+            groups: *const u8, groups_length: usize,
+            types: *const u8, types_length: usize,
+            scripts: *const u8, scripts_length: usize,
+            amendments: *const u8, amendments_length: usize,
+            index: u64,
+        ) -> u64;
         pub fn wigneld_write_callers(
             types: *const u8, types_length: usize,
             script: *mut u8, script_length: usize,
@@ -246,6 +253,22 @@ pub fn compare(groups: &[u8], types: &[u8], first: u64, second: u64) -> u64 {
     }
 }
 
+pub fn in_force(groups: &[u8], types: &[u8], scripts: &[u8], amendments: &[u8], index: u64) -> u64 {
+    unsafe {
+        raw::wigneld_in_force(
+            groups.as_ptr(),
+            groups.len(),
+            types.as_ptr(),
+            types.len(),
+            scripts.as_ptr(),
+            scripts.len(),
+            amendments.as_ptr(),
+            amendments.len(),
+            index,
+        )
+    }
+}
+
 pub fn write_callers(types: &[u8], script: &mut [u8]) -> u64 {
     unsafe {
         raw::wigneld_write_callers(types.as_ptr(), types.len(), script.as_mut_ptr(), script.len())
@@ -341,6 +364,11 @@ pub fn packed_nothing(answer: &Answer<()>) -> u64 {
 /// Comparison: 0 neither, 1 below, 2 same.
 pub fn packed_comparison(answer: &Answer<Comparison>) -> u64 {
     packed(answer, |&comparison| comparison as u64)
+}
+
+/// The script in force: its index, or 65,535.
+pub fn packed_script(answer: &Answer<u16>) -> u64 {
+    packed(answer, |&script| script.into())
 }
 
 /// Check, sheet and the rewriting calls: the record count.

@@ -7,7 +7,7 @@ use std::rc::Rc;
 use crate::cases::Inputs;
 use crate::groups::{Group, Groups};
 use crate::limits::{
-    MOST_DEPTH, MOST_GROUPS, MOST_TABLE_RECORDS, MOST_TYPE_RECORDS, OLD_SCRIPT_BYTES,
+    MOST_DEPTH, MOST_GROUPS, MOST_TABLE_RECORDS, MOST_TYPE_RECORDS, NO_SCRIPT, OLD_SCRIPT_BYTES,
     OLD_TYPE_BYTES, OWN_TYPE, SCRIPT_BYTES, TYPE_BYTES, WORDS_BYTES, WORD_BYTES,
 };
 use crate::preview::Preview;
@@ -1478,4 +1478,97 @@ pub fn words_table(rng: &mut Rng) -> Vec<u8> {
         _ => {}
     }
     table
+}
+
+// ---------------------------------------------------------------------------------------------
+// Lists of scripts and of their amendments
+
+/// 16-bit numbers, lowest byte first.
+pub fn write_numbers(numbers: &[u16]) -> Vec<u8> {
+    numbers.iter().flat_map(|number| number.to_le_bytes()).collect()
+}
+
+/// A studio's list and the list of its amendments, both as numbers: a script's is its type's index, an entry's are the script
+/// that it names first and the one that it replaces, or 65,535.
+#[derive(Debug, Clone)]
+pub struct Lists {
+    pub scripts: Vec<u16>,
+    pub amendments: Vec<[u16; 2]>,
+}
+
+impl Lists {
+    pub fn write(&self) -> (Vec<u8>, Vec<u8>) {
+        (write_numbers(&self.scripts), write_numbers(&self.amendments.concat()))
+    }
+}
+
+/// Lists that pass, of at most so many scripts. Few types are named, so that many are related.
+pub fn random_lists(rng: &mut Rng, tables: &Tables, most: usize) -> Lists {
+    let named: Vec<u16> =
+        (0..rng.between(1, 4)).map(|_| rng.below(tables.types.count()) as u16).collect();
+    let count = rng.below(most + 1);
+    let scripts: Vec<u16> = (0..count).map(|_| *rng.pick(&named)).collect();
+    let at = |script: u16| tables.types.at(scripts[usize::from(script)].into());
+    let mut unlisted: Vec<u16> = (0..count as u16).collect();
+    let mut newest: Vec<u16> = Vec::new();
+    let mut amendments = Vec::new();
+    for _ in 0..rng.below(count + 1) {
+        let first = unlisted.swap_remove(rng.below(unlisted.len()));
+        let open: Vec<usize> = (0..newest.len())
+            .filter(|&place| at_or_below(tables.security(), &at(first), &at(newest[place])))
+            .collect();
+        let old = if open.is_empty() || rng.one_in(3) {
+            NO_SCRIPT
+        } else {
+            newest.swap_remove(*rng.pick(&open))
+        };
+        newest.push(first);
+        amendments.push([first, old]);
+    }
+    Lists { scripts, amendments }
+}
+
+/// A number for an entry: one of the list, another entry's, none, or just past the list.
+fn listed_number(rng: &mut Rng, lists: &Lists) -> u16 {
+    let count = lists.scripts.len();
+    match rng.below(6) {
+        0 => NO_SCRIPT,
+        1 => count as u16,
+        2 if !lists.amendments.is_empty() => {
+            let entry = rng.below(lists.amendments.len());
+            lists.amendments[entry][rng.below(2)]
+        }
+        _ => rng.below(count.max(1)) as u16,
+    }
+}
+
+/// The same lists with one thing changed that a question may be about.
+pub fn near_miss_lists(rng: &mut Rng, tables: &Tables, lists: &Lists) -> Lists {
+    let mut changed = lists.clone();
+    let entries = changed.amendments.len();
+    match rng.below(6) {
+        0 if !changed.scripts.is_empty() => {
+            let script = rng.below(changed.scripts.len());
+            changed.scripts[script] = rng.below(tables.types.count() + 2) as u16;
+        }
+        1 if entries > 1 => {
+            let (one, other) = (rng.below(entries), rng.below(entries));
+            changed.amendments.swap(one, other);
+        }
+        2 if entries > 0 => {
+            changed.amendments.remove(rng.below(entries));
+        }
+        3 => {
+            let entry = [listed_number(rng, lists), listed_number(rng, lists)];
+            changed.amendments.insert(rng.below(entries + 1), entry);
+        }
+        _ if entries > 0 => {
+            let entry = rng.below(entries);
+            changed.amendments[entry][rng.below(2)] = listed_number(rng, lists);
+        }
+        _ => {
+            changed.scripts.pop();
+        }
+    }
+    changed
 }

@@ -14,6 +14,7 @@ pub mod engine;
 pub mod folders;
 pub mod generate;
 pub mod groups;
+pub mod in_force;
 pub mod limits;
 pub mod preview;
 pub mod refusal;

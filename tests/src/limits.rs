@@ -37,6 +37,14 @@ pub const WORK_BYTES: usize = MOST_DEPTH * ANSWER_BYTES;
 pub const WORD_BYTES: usize = 12;
 pub const WORDS_BYTES: usize = 7 * WORD_BYTES;
 
+/// Document 02, item 14: "a 16-bit index per script", "records of 4 bytes".
+pub const LISTED_BYTES: usize = 2;
+pub const ENTRY_BYTES: usize = 4;
+/// "a studio's list over 65,535 scripts"
+pub const MOST_LISTED_SCRIPTS: usize = 65_535;
+/// "or 65,535": in the place of a script's index, none.
+pub const NO_SCRIPT: u16 = 65_535;
+
 /// Report program: two run buffers of 65,536 bytes.
 pub const REPORT_RUN_BYTES: usize = MOST_SCRIPT_RECORDS * SCRIPT_BYTES;
 /// Report program: "a buffer of 8,192 sheet records".
@@ -44,8 +52,9 @@ pub const REPORT_SHEET_BYTES: usize = MOST_SCRIPT_RECORDS * SHEET_BYTES;
 /// Report program and cases: "budget 1,000".
 pub const REPORT_BUDGET: u64 = 1000;
 
-/// The highest question of a call: 1 to 27, and of document 02 31 (item 3), 35 (item 9), 36 (item 10) and 39 (item 12).
-pub const LAST_QUESTION: usize = 39;
+/// The highest question of a call: 1 to 27, and of document 02 31 (item 3), 35 (item 9), 36 (item 10), 39 (item 12) and 40 to 42
+/// (item 14).
+pub const LAST_QUESTION: usize = 42;
 
 /// Questions 8 and 13: whole records of this width, 1 to `most`?
 pub fn are_whole(length: usize, width: usize, most: usize) -> bool {

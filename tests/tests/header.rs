@@ -146,7 +146,7 @@ const LIMITS: [(&str, usize, &str); 20] = [
     ("STEPS_BYTES", u64::BITS as usize / 8, ""),
     ("GROUPS_LONGEST_BYTES", MOST_GROUPS * ROW_BYTES, ""),
     ("TYPES_LONGEST_BYTES", MOST_TABLE_RECORDS * TYPE_BYTES, ""),
-    ("LAST_QUESTION", LAST_QUESTION, "answer::Question::Profile"),
+    ("LAST_QUESTION", LAST_QUESTION, "answer::Question::AmendedType"),
     ("OWN_TYPE", OWN_TYPE as usize, "records::OWN_TYPE"),
     ("MOST_NUMBER", u16::MAX as usize, ""),
 ];
@@ -240,12 +240,23 @@ const OTHERS: [&str; 8] = [
 ];
 
 /// The office's: header, second implementation, engine; and those that are held elsewhere.
+const LISTS: [(&str, usize, &str); 8] = [
+    ("LISTED_BYTES", LISTED_BYTES, "amendments::LISTED_WIDTH"),
+    ("ENTRY_BYTES", ENTRY_BYTES, "amendments::ENTRY_WIDTH"),
+    ("ENTRY_AT_REPLACED", 2, "amendments::REPLACED"),
+    ("MOST_LISTED_SCRIPTS", MOST_LISTED_SCRIPTS, "amendments::LISTED_LIMIT"),
+    ("NO_SCRIPT", NO_SCRIPT as usize, "amendments::NO_SCRIPT"),
+    ("SCRIPTS_LONGEST_BYTES", MOST_LISTED_SCRIPTS * LISTED_BYTES, ""),
+    ("AMENDMENTS_LONGEST_BYTES", MOST_LISTED_SCRIPTS * ENTRY_BYTES, ""),
+    ("IN_FORCE_REFUSED", NO_SCRIPT as usize + 1, ""),
+];
 const OLD_WIDTHS: [(&str, usize, &str); 2] = [
     ("OLD_TYPE_RECORD_BYTES", OLD_TYPE_BYTES, "rewriting::OLD_TYPE_WIDTH"),
     ("OLD_SCRIPT_RECORD_BYTES", OLD_SCRIPT_BYTES, "rewriting::OLD_SCRIPT_WIDTH"),
 ];
 const OFFICE_OTHERS: [&str; 9] = [
     "COMPARE_STACK_BYTES",
+    "IN_FORCE_STACK_BYTES",
     "WRITE_CALLERS_STACK_BYTES",
     "REWRITE_SCRIPT_STACK_BYTES",
     "REWRITE_TYPES_STACK_BYTES",
@@ -294,7 +305,9 @@ fn every_constant_is_the_engines() {
         }
     }
     holds_all("wigneld", &all, &OTHERS);
-    holds_all("wigneld_office", &owned(&OLD_WIDTHS), &OFFICE_OTHERS);
+    let mut offices = owned(&LISTS);
+    offices.extend(owned(&OLD_WIDTHS));
+    holds_all("wigneld_office", &offices, &OFFICE_OTHERS);
 }
 
 #[test]

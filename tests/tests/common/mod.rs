@@ -47,6 +47,23 @@ pub fn compare(groups: &[u8], types: &[u8], i: u64, j: u64) -> Answer<Comparison
     answer
 }
 
+/// A studio's tables, its list of scripts and the list of its amendments.
+#[derive(Debug, Clone)]
+pub struct Studio {
+    pub groups: Vec<u8>,
+    pub types: Vec<u8>,
+    pub scripts: Vec<u8>,
+    pub amendments: Vec<u8>,
+}
+
+pub fn in_force(studio: &Studio, index: u64) -> Answer<u16> {
+    let Studio { groups, types, scripts, amendments } = studio;
+    let answer = calls::in_force(groups, types, scripts, amendments, index);
+    #[cfg(feature = "engine")]
+    compared::in_force(studio, index, &answer);
+    answer
+}
+
 pub fn subterm(script: &[u8], index: u64) -> &[u8] {
     let part = calls::subterm(script, index);
     #[cfg(feature = "engine")]
@@ -313,7 +330,7 @@ mod compared {
     use super::*;
     use wigneld_tests::engine::{
         self, packed_comparison, packed_count, packed_move, packed_nothing, packed_preview,
-        packed_run, packed_step,
+        packed_run, packed_script, packed_step,
     };
     use wigneld_tests::steps::End;
 
@@ -414,6 +431,18 @@ mod compared {
         answers(found, packed_comparison(expected), "comparison");
         same(one.take("groups"), groups, "groups are only read");
         same(two.take("types"), types, "types are only read");
+    }
+
+    pub fn in_force(studio: &Studio, index: u64, expected: &Answer<u16>) {
+        let given = [&studio.groups, &studio.types, &studio.scripts, &studio.amendments];
+        let mut lent = given.map(|bytes| Guarded::new(bytes));
+        let [groups, types, scripts, amendments] = &mut lent;
+        let found =
+            engine::in_force(groups.lend(), types.lend(), scripts.lend(), amendments.lend(), index);
+        answers(found, packed_script(expected), "the script in force");
+        for (after, before) in lent.iter().zip(given) {
+            same(after.take("a list or a table"), before, "lists and tables are only read");
+        }
     }
 
     pub fn subterm(script: &[u8], index: u64, expected: &[u8]) {
