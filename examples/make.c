@@ -1,5 +1,6 @@
 /*
- * Writes the example folders' files groups, types and script, and words where a studio has its own:
+ * Writes the example folders' files groups, types and script, words where a studio has its own, and scripts and amendments where one
+ * amends its scripts:
  *
  *     ./archives wigneld_office
  *     cc -std=c99 -Iinclude -o make examples/make.c target/staticlib/libwigneld_office.a && ./make examples
@@ -156,6 +157,39 @@ static void bench_script(void)
         pair(ANYONE); /* the entry: sound, with an adhesive of our own */
             choice(0, ANYONE, STATE);
             choice(1, BENCH, REMARK);
+}
+
+/* The bench's scripts for its page, by what they give: 0 is the state line, 1 to 3 are the remark line and what became of it, and 4 is
+   a state line for the bench alone, which was never put to use. */
+enum { STATE_LINE, REMARK_LINE, SHORT_REMARK_LINE, PUBLIC_REMARK_LINE, SPARE_LINE, NO_LINE = WIGNELD_NO_SCRIPT };
+
+static void two_bytes(unsigned n)
+{
+    byte(n & 255);
+    byte(n >> 8);
+}
+
+static void bench_scripts(void)
+{
+    two_bytes(STATE);
+    two_bytes(REMARK);
+    two_bytes(REMARK);
+    two_bytes(STATE); /* the remark is told to anyone: below what the bench alone may read */
+    two_bytes(REMARK);
+}
+
+static void amendment(unsigned line, unsigned replaced)
+{
+    two_bytes(line);
+    two_bytes(replaced);
+}
+
+static void bench_amendments(void)
+{
+    amendment(STATE_LINE, NO_LINE);
+    amendment(REMARK_LINE, NO_LINE);
+    amendment(SHORT_REMARK_LINE, REMARK_LINE);
+    amendment(PUBLIC_REMARK_LINE, SHORT_REMARK_LINE);
 }
 
 /* ---- two lines of a page, whose types are found */
@@ -591,6 +625,10 @@ int main(int count, char **words)
         return 2;
     }
     rewritten(words[1], "bench-record", 1, bench_types, bench_script);
+    put(&bytes, bench_scripts);
+    save(words[1], "bench-record", "scripts", &bytes);
+    put(&bytes, bench_amendments);
+    save(words[1], "bench-record", "amendments", &bytes);
     rewritten(words[1], "page-lines", 2, bench_types, lines_script);
     rewritten(words[1], "loan-sheet", 1, loan_types, loan_script);
     rewritten(words[1], "loan-leak", 1, loan_types, leak_script);

@@ -23,7 +23,7 @@ extern "C" {
 
 /* The free stack that each function needs, whatever it is lent, as wigneld.h means it. For wigneld_compare two types of 63
    records, as deep as they can be, were seen to take 4,224 bytes; the number is this and at least a sixteenth more.
-   wigneld_in_force keeps two sets of 65,536 scripts, a bit for each, and was seen to take IN_FORCE_SEEN bytes.
+   wigneld_in_force keeps two sets of 65,536 scripts, a bit for each, and was seen to take 21,248 bytes.
    wigneld_write_callers goes over its script once and needs next to none. The other two hold a whole table, or a table and a script,
    in the new form while they ask, and were seen to take 24,896 and 110,832 bytes. */
 #define WIGNELD_COMPARE_STACK_BYTES 5632

@@ -1,6 +1,7 @@
 //! Check, run, step and sheet at several sizes, in one run: Markdown tables on the standard output
 //! and a plot in the file named by the first argument (`performance.svg` without one). Then the check
-//! of a studio's lists, up to the longest; `--lists` measures these alone.
+//! of a studio's lists, up to the longest; `--lists` measures these alone,
+//! and `--lists-instructions` counts their instructions.
 //! `--instructions` counts instructions instead, which no other load of the machine changes, and
 //! `--answers` only compares what the implementations answer.
 
@@ -22,6 +23,7 @@ fn main() {
     with_large_stack(move || match words.first().map(String::as_str) {
         Some("--answers") => times::compare(),
         Some("--lists") => lists::times(),
+        Some("--lists-instructions") => lists::table(),
         Some("--instructions") => {
             instructions::table();
             lists::table();
