@@ -1,5 +1,5 @@
 -- An entry beside the sets of what was named before it.
-use Rattle.std.proofs.Common.{◌≡◌, refl, sym, ap, ap₂, ◌∙◌, Bool, true, false, not, ◌&&◌, ◌||◌, ℕ, suc, ◌+◌, ◌<◌, arith, add-one, eqb, ltb}
+use Rattle.std.proofs.Common.{◌≡◌, refl, sym, ap₂, ◌∙◌, Bool, true, false, not, ◌&&◌, ◌||◌, ℕ, ◌+◌, ◌<◌, arith, add-one, eqb, ltb}
 use Rattle.rules.specs.Answer.{Bytes}
 use Rattle.rules.specs.Limits.{no_script}
 use Rattle.rules.specs.InForce.{script_count, first_number, replaced_number, among, ok40, ok41}

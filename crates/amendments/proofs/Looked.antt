@@ -1,6 +1,6 @@
 -- What the pass finds, as the call answers it.
 use Rattle.std.proofs.Common.{◌≡◌, refl, sym, ap, ◌∙◌, ℕ, ◌≤◌, arith, Option, Some, None, unwrap_or}
-use Rattle.rules.specs.Answer.{Bytes, accepted, ◌>>◌}
+use Rattle.rules.specs.Answer.{Bytes, accepted}
 use Rattle.rules.specs.Limits.{listed_limit, no_script}
 use Rattle.rules.specs.InForce.{entry_count, lists_check, script_in_force, in_force}
 use Rattle.demands.specs.InForce.{newest, or_no_script}

@@ -1,13 +1,12 @@
 -- A set as bits: the empty one, and one with a number more.
-use Rattle.std.proofs.Common.{◌≡◌, refl, sym, ap, ◌∙◌, Bool, true, false, ◌||◌, ℕ, ◌+◌, ◌*◌, ◌/◌, ◌%◌, ◌^◌, ◌<◌, arith, eqb, eq-eqb, ne_eqb, length, get_or, set, replicate, bit_or, w8}
+use Rattle.std.proofs.Common.{◌≡◌, refl, sym, ap, ◌∙◌, Bool, false, ◌||◌, ℕ, ◌*◌, ◌/◌, ◌%◌, ◌^◌, ◌<◌, arith, eqb, eq-eqb, ne_eqb, length, set, replicate, bit_or, w8}
 use Rattle.std.proofs.Math.Decide.{ℕ_discrete}
 use Rattle.std.proofs.lemmas.List.{get_or-replicate, get_or-set_same, get_or-set_other}
 use Rattle.std.proofs.lemmas.Nat.Bits.{bit_at_set_same, bit_at_set_other}
 use Rattle.rules.specs.Answer.{Bytes, byte}
 use Rattle.rules.specs.Groups.{bit}
-use Rattle.rules.specs.InForce.{among}
 use Rattle.lattice.proofs.Words.{bit_of_zero}
-use Rattle.amendments.specs.Marked.{number_limit, marked, Marks}
+use Rattle.amendments.specs.Marked.{number_limit, marked}
 
 pub none_marked : (i : ℕ) → i < number_limit → marked (replicate 8192 0) i ≡ false
 none_marked i l = ap (λ (b : ℕ). bit b (i % 8)) (get_or-replicate 8192 (i / 8) 0 0 (omega arith)) ∙ bit_of_zero (i % 8)

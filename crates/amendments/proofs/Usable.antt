@@ -1,12 +1,12 @@
 -- Question 42: both types stand in the table, so the walk may start at them.
-use Rattle.std.proofs.Common.{◌≡◌, refl, sym, ap, subst, ◌∙◌, Bool, true, false, ◌||◌, ℕ, ◌*◌, ◌≤◌, ◌<◌, arith, eqb, eqb-true, eq-eqb, ne_eqb, ltb-true, length, drop}
+use Rattle.std.proofs.Common.{◌≡◌, refl, sym, subst, ◌∙◌, Bool, true, ℕ, ◌*◌, ◌≤◌, ◌<◌, arith, eq-eqb, ne_eqb, ltb-true, length, drop}
 use Rattle.calculus.specs.Subtyping.{subtype}
 use Rattle.calculus.specs.Subtyping as directions
 use Rattle.rules.specs.Answer.{Bytes}
 use Rattle.rules.specs.Limits.{type_width, no_script}
 use Rattle.rules.specs.Groups.{properties_of}
 use Rattle.rules.specs.Types.{type_count, type_at}
-use Rattle.rules.specs.InForce.{script_count, type_of, first_number, replaced_number, ok25, ok42}
+use Rattle.rules.specs.InForce.{script_count, type_of, ok25, ok42}
 use Rattle.rules.proofs.Search.{each_all}
 use Rattle.rules.proofs.InForce.{usable_is}
 use Rattle.types.specs.Held.{Held, Starts}

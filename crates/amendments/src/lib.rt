@@ -5,7 +5,7 @@
 
 ghost use Rattle.std.specs.Prelude.{◌≡◌, ℕ, false, ◌||◌, ◌+◌, ◌<◌, eqb, length};
 ghost use Rattle.rules.specs.Answer.{Bytes};
-ghost use Rattle.rules.specs.InForce.{number_at, script_count, type_of, entry_count, first_number, replaced_number};
+ghost use Rattle.rules.specs.InForce.{number_at, script_count, type_of, entry_count};
 ghost use Rattle.rules.specs.InForce.{q40_lengths, q25_scripts, ok40, ok41, ok42};
 ghost use Rattle.rules.specs.InForce.{entry_check, entries_check, lists_check, in_force};
 ghost use Rattle.demands.specs.InForce.{turned, newest};

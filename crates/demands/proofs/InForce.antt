@@ -1,12 +1,12 @@
 -- The script in force: following ends, the pass finds its end, and types only go down on the way.
 use mathlib.Core.Path.{◌≡◌, refl, sym, ap, subst, ◌∙◌}
 use mathlib.Core.Bool.{Bool, true, false, cond, ◌&&◌, So, false≢true}
-use mathlib.Core.List.{List, [], ◌++◌, append-nil}
+use mathlib.Core.List.{◌++◌, append-nil}
 use mathlib.Core.Option.{Option, none, some}
 use Prim.Native.Nat.{ℕ, zero, suc, ◌+◌, ◌%◌, ◌≤◌, ◌<◌}
 use native.Mathlib.Omega.{arith}
 use Rattle.std.proofs.Math.Decide.{ℕ_discrete, dec_lt}
-use borrow.Author.Tests.{eqb-true, eq-eqb, ne_eqb, leb-true, ltb-true, lt-ltb}
+use borrow.Author.Tests.{eqb-true, eq-eqb, leb-true, ltb-true, lt-ltb}
 use lib.Dec.{eqb, leb}
 use lib.ListN.{length}
 use Rattle.calculus.specs.Security.{Security}
@@ -15,17 +15,16 @@ use Rattle.calculus.specs.Subtyping.{subtype}
 use Rattle.calculus.specs.Subtyping as directions
 use Rattle.calculus.proofs.Properties.{properties_laws}
 use Rattle.calculus.proofs.Subtyping.{subtype_complete, subtype_reflexive, subtype_transitive}
-use Rattle.rules.specs.Answer.{Bytes, Octets, Answer, accepted, refused, ◌>>◌, ask, first_from}
+use Rattle.rules.specs.Answer.{Bytes, Octets, Answer, accepted, refused, ◌>>◌, ask}
 use Rattle.rules.specs.Limits.{listed_width, entry_width, listed_limit, no_script}
 use Rattle.rules.specs.Groups.{properties_of}
 use Rattle.rules.specs.Types.{type_count, type_at}
-use Rattle.rules.specs.Comparison.{Comparison, comparison}
 use Rattle.rules.specs.Calls.{types_check, comparing}
-use Rattle.rules.specs.InForce.{script_count, type_of, entry_count, first_number, replaced_number, among, listed, q40_lengths, ok25, q25_scripts, ok40, ok41, ok42, same_or_below, scripts_compared, entry_check, entries_check, lists_check, replacement, following, script_in_force, in_force, LeadsTo, stays, replaced_by, NamedFirst, InForceFrom}
+use Rattle.rules.specs.InForce.{script_count, type_of, entry_count, first_number, replaced_number, listed, q40_lengths, ok25, q25_scripts, ok40, ok41, ok42, scripts_compared, entry_check, entries_check, lists_check, replacement, following, script_in_force, in_force, LeadsTo, stays, replaced_by, NamedFirst, InForceFrom}
 use Rattle.rules.proofs.Asked.{ask_true, and_then, regroup}
 use Rattle.rules.proofs.Search.{from_all, found, each_all}
 use Rattle.rules.proofs.InForce.{among_these, among_at, not_among, none_among, usable_is, EntryPasses, all_pass, few_entries}
-use Rattle.demands.specs.Questions.{question, of_groups, of_types}
+use Rattle.demands.specs.Questions.{of_groups, of_types}
 use Rattle.demands.specs.InForce.{of_entry, of_entries, of_lists, turned, newest, or_no_script, SameOrBelow, FindsInForce, Amendments}
 use Rattle.demands.proofs.Answers.{accepted_inj, both, go_on, asks}
 use Rattle.demands.proofs.Deciding.{Decided, decides, ask_own, each_own, decided_one, decided_then, decided_yes}

@@ -1,16 +1,16 @@
 -- Lists of scripts and of amendments: a refusal's place and the answer fit the exported number. An entry that is looked at comes after
 -- entries with different scripts, so its index is at most their number.
-use Rattle.std.proofs.Common.{Result, Ok, Err, IfErr, ◌<◌, sym, subst, ◌≡◌, refl, ap, Bool, true, false, cond, not, ◌&&◌, ℕ, zero, suc, ◌+◌, ◌%◌, ◌≤◌, arith, eqb, leb, leb-true, length}
+use Rattle.std.proofs.Common.{Result, Ok, Err, IfErr, ◌<◌, sym, subst, ◌≡◌, refl, ap, Bool, true, false, cond, not, ◌&&◌, ℕ, zero, suc, ◌%◌, ◌≤◌, arith, eqb, leb, leb-true, length}
 use Rattle.std.proofs.Math.Option.{Option, none, some}
 use Rattle.rules.specs.Answer.{Bytes, Answer, accepted, refused, ◌>>◌, ask, each, first_from}
-use Rattle.rules.specs.Limits.{listed_width, entry_width, listed_limit, no_script, last_question}
+use Rattle.rules.specs.Limits.{listed_width, entry_width, listed_limit, last_question}
 use Rattle.rules.specs.Calls.{types_check}
-use Rattle.rules.specs.InForce.{script_count, entry_count, first_number, replaced_number, among, listed, ok25, ok40, ok41, ok42, q40_lengths, q25_scripts, entry_check, entries_check, lists_check, following, script_in_force, in_force}
-use Rattle.rules.proofs.Asked.{ask_true, and_then}
+use Rattle.rules.specs.InForce.{script_count, entry_count, ok25, ok40, ok41, ok42, q40_lengths, q25_scripts, entry_check, entries_check, lists_check, script_in_force, in_force}
+use Rattle.rules.proofs.Asked.{ask_true}
 use Rattle.rules.proofs.Search.{found}
 use Rattle.rules.proofs.InForce.{few_entries}
 use Rattle.demands.proofs.InForce.{lists_pass, answer_small}
-use Rattle.packing.specs.Packed.{half, Bounded, bounded_yes, bounded_no, BoundedByLists, lists_yes, lists_no, Holds, holds_yes, holds_no}
+use Rattle.packing.specs.Packed.{half, Bounded, bounded_no, BoundedByLists, lists_yes, lists_no, Holds, holds_yes, holds_no}
 use Rattle.packing.proofs.Bounds.{types_bounded}
 use Rattle.answer.specs.declared.Refusal.{Refusal}
 use Rattle.answer.specs.Numbers.{number}

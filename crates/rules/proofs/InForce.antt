@@ -1,5 +1,5 @@
 -- Lists of scripts and of amendments: what the entries that pass say, and how many there can be.
-use Rattle.std.proofs.Common.{◌≡◌, refl, sym, ap, ◌∙◌, Bool, true, false, cond, not, ◌&&◌, ◌||◌, ℕ, zero, suc, ◌+◌, ◌≤◌, ◌<◌, arith, add-one, eqb, ltb, eqb-true, eq-eqb, ne_eqb, ltb-true, leb-true, List, [], ◌∷◌, length}
+use Rattle.std.proofs.Common.{◌≡◌, refl, sym, ap, ◌∙◌, Bool, true, false, cond, not, ◌&&◌, ◌||◌, ℕ, zero, suc, ◌+◌, ◌≤◌, ◌<◌, arith, add-one, eqb, ltb, eqb-true, eq-eqb, ne_eqb, ltb-true, List, [], ◌∷◌, length}
 use Rattle.std.proofs.Math.Bool.{false≢true}
 use Rattle.std.proofs.Math.Decide.{ℕ_discrete}
 use Rattle.std.specs.List.{AllByRecursion, IsDistinct, list_any}
@@ -8,9 +8,9 @@ use Rattle.calculus.specs.Security.{Security}
 use Rattle.calculus.specs.Types.{Ty}
 use Rattle.calculus.specs.Subtyping.{subtype}
 use Rattle.calculus.specs.Subtyping as directions
-use Rattle.rules.specs.Answer.{Bytes, Answer, accepted, refused, ◌>>◌, ask}
-use Rattle.rules.specs.Limits.{listed_limit, no_script}
-use Rattle.rules.specs.Comparison.{Comparison, same, below, neither, equal_types, comparison}
+use Rattle.rules.specs.Answer.{Bytes, accepted, refused, ◌>>◌, ask}
+use Rattle.rules.specs.Limits.{no_script}
+use Rattle.rules.specs.Comparison.{same, below, neither, equal_types, comparison}
 use Rattle.rules.specs.InForce.{script_count, first_number, replaced_number, among, listed, replaced, ok40, ok41, ok42, same_or_below, scripts_compared, entry_check, entries_check}
 use Rattle.rules.proofs.Asked.{ask_true, and_then}
 

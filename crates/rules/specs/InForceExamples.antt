@@ -2,7 +2,7 @@
 use Rattle.std.specs.Prelude.{◌≡◌, List, [], ◌∷◌, ◌++◌, ℕ, ◌/◌, ◌%◌}
 use Rattle.rules.specs.Answer.{Bytes, Answer, accepted, refused}
 use Rattle.rules.specs.Cases.{ty, groups}
-use Rattle.rules.specs.InForce.{in_force, following}
+use Rattle.rules.specs.InForce.{in_force}
 
 -- 16-bit numbers
 unfoldable pub numbers : List ℕ → Bytes

@@ -1,4 +1,5 @@
-use Rattle.std.proofs.Common.{ap, ◌∙◌}
+use Rattle.std.proofs.Common.{rules, ap, ◌∙◌}
+use Rattle.types.specs.Held.{Starts}
 use Rattle.rules.specs.InForce.{type_of}
 use Rattle.amendments.proofs.Usable.{part_there, script_held, script_starts, replaces_no_other, compared_types}
 use Rattle.amendments.proofs.is_usable.Goals as goal
@@ -17,12 +18,12 @@ part_from-upper-requires c =
     (c.type_of-replaced.ensures ∙ ap (type_of c.args.scripts.now) c.from-2.ensures)
 
 pub is_subtype-requires : goal.is_subtype-requires
-is_subtype-requires c = (
-  script_starts c.args.groups.now c.args.types.now c.args.scripts.now c.requires.0 c.args.entry.first _ c.requires.1.first
-      (c.type_of-first.ensures ∙ ap (type_of c.args.scripts.now) c.from.ensures) c.part_from-lower.ensures,
-  script_starts c.args.groups.now c.args.types.now c.args.scripts.now c.requires.0 c.args.entry.replaced _ (c.requires.1.replaced c.if-entry-eq-NO_SCRIPT.false)
-      (c.type_of-replaced.ensures ∙ ap (type_of c.args.scripts.now) c.from-2.ensures) c.part_from-upper.ensures,
-)
+is_subtype-requires c =
+    let lower : Starts c.part_from-lower.result.now = script_starts c.args.groups.now c.args.types.now c.args.scripts.now c.requires.0 c.args.entry.first _ c.requires.1.first
+    (c.type_of-first.ensures ∙ ap (type_of c.args.scripts.now) c.from.ensures) c.part_from-lower.ensures in
+    let upper : Starts c.part_from-upper.result.now = script_starts c.args.groups.now c.args.types.now c.args.scripts.now c.requires.0 c.args.entry.replaced _ (c.requires.1.replaced c.if-entry-eq-NO_SCRIPT.false)
+    (c.type_of-replaced.ensures ∙ ap (type_of c.args.scripts.now) c.from-2.ensures) c.part_from-upper.ensures in
+    (search rules, search rules)
 
 pub returns : goal.returns
 returns c a e is =

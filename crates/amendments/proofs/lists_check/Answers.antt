@@ -1,5 +1,4 @@
 -- The questions in order: a refusal is the answer, and after a yes the next is asked.
-use Rattle.std.proofs.Common.{sym, ◌∙◌}
 use Rattle.rules.specs.Answer.{◌>>◌}
 use Rattle.rules.specs.Calls.{types_check}
 use Rattle.rules.specs.InForce.{entry_count, q40_lengths, q25_scripts, entries_check, lists_check}
