@@ -254,7 +254,7 @@ const OLD_WIDTHS: [(&str, usize, &str); 2] = [
     ("OLD_TYPE_RECORD_BYTES", OLD_TYPE_BYTES, "rewriting::OLD_TYPE_WIDTH"),
     ("OLD_SCRIPT_RECORD_BYTES", OLD_SCRIPT_BYTES, "rewriting::OLD_SCRIPT_WIDTH"),
 ];
-const OFFICE_OTHERS: [&str; 9] = [
+const OFFICE_OTHERS: [&str; 10] = [
     "COMPARE_STACK_BYTES",
     "IN_FORCE_STACK_BYTES",
     "WRITE_CALLERS_STACK_BYTES",
