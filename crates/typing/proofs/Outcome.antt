@@ -126,12 +126,35 @@ reported x work work' answer answer' {call} {verdict} same h =
       writes = λ type a. h.2 ∙ ap (λ (o : Answer Ty). answer_after o answer) (same ∙ a);
     }
 
-module _ (g t s work answer : Bytes) (G : Octets g) (O : Octets s) (x : Result ℕ Refusal) (work' answer' : Bytes) where
-  pub judged : Outcome (checked g t s work answer) x work work' answer answer' → work_length ≤ length work → answer_length ≤ length answer
-      → Judged g t s answer (said x) answer'
-  judged h l m = record { demand = second_demand g t s G O; reports = reported x work work' answer answer' (longer_same g t s (length work) (length answer) l m) h }
+-- What a check ensures: its answer and both buffers, and with buffers as long as question 1 asks that it reports what it promises.
+abbrev Ensures : (call : Answer Ty) (x : Result ℕ Refusal) (work work' answer answer' : Bytes) → (Answer ℕ → Bytes → Type 0) → Type 0
+Ensures call x work work' answer answer' Promised =
+    (said x ≡ type_records call)
+    × (work' ≡ work_after call work)
+    × (answer' ≡ answer_after call answer)
+    × (work_length ≤ length work → answer_length ≤ length answer → Promised (said x) answer')
 
-  pub judged_in_profile : Outcome (profiled g t s work answer) x work work' answer answer' → work_length ≤ length work → answer_length ≤ length answer
-      → JudgedInProfile g t s answer (said x) answer'
-  judged_in_profile h l m =
-      record { promise = page_scripts g t s G O; reports = reported x work work' answer answer' (longer_in_profile g t s (length work) (length answer) l m) h }
+module _ (g t s work answer : Bytes) (G : Octets g) (O : Octets s) (x : Result ℕ Refusal) (work' answer' : Bytes) where
+  pub judged : Outcome (checked g t s work answer) x work work' answer answer'
+      → Ensures (checked g t s work answer) x work work' answer answer' (Judged g t s answer)
+  judged h = (
+    h.0,
+    h.1,
+    h.2,
+    λ l m. record {
+      demand = second_demand g t s G O;
+      reports = reported x work work' answer answer' (longer_same g t s (length work) (length answer) l m) h;
+    },
+  )
+
+  pub judged_in_profile : Outcome (profiled g t s work answer) x work work' answer answer'
+      → Ensures (profiled g t s work answer) x work work' answer answer' (JudgedInProfile g t s answer)
+  judged_in_profile h = (
+    h.0,
+    h.1,
+    h.2,
+    λ l m. record {
+      promise = page_scripts g t s G O;
+      reports = reported x work work' answer answer' (longer_in_profile g t s (length work) (length answer) l m) h;
+    },
+  )

@@ -1,36 +1,22 @@
 -- Question 1, 2 to 19, and typing.
-use Rattle.std.proofs.Common.{◌≡◌, ◌≤◌, ℕ, Result, length, arith}
-use Rattle.rules.specs.Answer.{Bytes, Octets}
-use Rattle.rules.specs.Limits.{work_length, answer_length}
-use Rattle.rules.specs.Calls.{type_records, answer_after, work_after}
-use Rattle.answer.specs.Said.{said}
-use Rattle.answer.specs.declared.Refusal.{Refusal}
-use Rattle.typing.specs.Judged.{Judged}
-use Rattle.typing.proofs.Outcome.{Outcome, checked, checked_goes_on, short, script_refused, asked_19, as_typed, judged}
+use Rattle.std.proofs.Common.{arith}
+use Rattle.typing.proofs.Outcome.{checked_goes_on, short, script_refused, asked_19, as_typed, judged}
 use Rattle.typing.proofs.checking.Goals as goal
-
--- the whole answer, from its first three parts
-full : (G T P W A : Bytes) → Octets G → Octets P → (x : Result ℕ Refusal) (work' answer' : Bytes) → Outcome (checked G T P W A) x W work' A answer'
-    → (said x ≡ type_records (checked G T P W A))
-    × (work' ≡ work_after (checked G T P W A) W)
-    × (answer' ≡ answer_after (checked G T P W A) A)
-    × (work_length ≤ length W → answer_length ≤ length A → Judged G T P A (said x) answer')
-full G T P W A g s x work' answer' h = (h.0, h.1, h.2, judged G T P W A g s x work' answer' h)
 
 pub returns-in_err-question_1 : goal.returns-in_err-question_1
 returns-in_err-question_1 c =
     let a = c.args in
-    full a.groups.now a.types.now a.script.now a.work.now a.answer.now (λ k. omega (arith, c.type_inv.groups k)) (λ k. omega (arith, c.type_inv.script k)) c.from_residual.result _ _
+    judged a.groups.now a.types.now a.script.now a.work.now a.answer.now (λ k. omega (arith, c.type_inv.groups k)) (λ k. omega (arith, c.type_inv.script k)) c.from_residual.result _ _
     (short a.groups.now a.types.now a.script.now a.work.now a.answer.now _ _ (checked_goes_on a.groups.now a.types.now a.script.now a.work.now a.answer.now) _ _ c.in_err-question_1.ensures c.from_residual.ensures.1)
 
 pub returns-in_err-script_check : goal.returns-in_err-script_check
 returns-in_err-script_check c =
     let a = c.args in
-    full a.groups.now a.types.now a.script.now a.work.now a.answer.now (λ k. omega (arith, c.type_inv.groups k)) (λ k. omega (arith, c.type_inv.script k)) c.from_residual-in_err-script_check.result _ _
+    judged a.groups.now a.types.now a.script.now a.work.now a.answer.now (λ k. omega (arith, c.type_inv.groups k)) (λ k. omega (arith, c.type_inv.script k)) c.from_residual-in_err-script_check.result _ _
     (script_refused a.groups.now a.types.now a.script.now a.work.now a.answer.now _ _ (checked_goes_on a.groups.now a.types.now a.script.now a.work.now a.answer.now) c.in_ok-question_1.ensures _ _ c.in_err-script_check.ensures c.from_residual-in_err-script_check.ensures.1)
 
 pub returns : goal.returns
 returns c =
     let a = c.args in
-    full a.groups.now a.types.now a.script.now a.work.now a.answer.now (λ k. omega (arith, c.type_inv.groups k)) (λ k. omega (arith, c.type_inv.script k)) c.give_type.result _ _
+    judged a.groups.now a.types.now a.script.now a.work.now a.answer.now (λ k. omega (arith, c.type_inv.groups k)) (λ k. omega (arith, c.type_inv.script k)) c.give_type.result _ _
     (as_typed c.give_type.result a.work.now c.give_type.new.work a.answer.now c.give_type.new.answer (asked_19 a.groups.now a.types.now a.script.now a.work.now a.answer.now _ _ (checked_goes_on a.groups.now a.types.now a.script.now a.work.now a.answer.now) c.in_ok-question_1.ensures c.in_ok-script_check.ensures) c.give_type.ensures)
