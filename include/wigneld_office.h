@@ -10,7 +10,7 @@
  *  - each pointer has as many bytes behind it as the length after it says; NULL only with length 0;
  *  - a buffer that a call writes to (work, answer, script of wigneld_write_callers, rewritten) overlaps none of the call's other slices;
  *  - nobody else writes any of them while the call runs;
- *  - the stack has room (WIGNELD_COMPARE_STACK_BYTES and the four after it).
+ *  - the stack has room (WIGNELD_COMPARE_STACK_BYTES and the five after it).
  */
 #ifndef WIGNELD_OFFICE_H
 #define WIGNELD_OFFICE_H
@@ -22,10 +22,11 @@ extern "C" {
 #endif
 
 /* The free stack that each function needs, whatever it is lent, as wigneld.h means it. For wigneld_compare two types of 63
-   records, as deep as they can be, were seen to take 4,224 bytes; the number is this and at least a sixteenth more.
+   records, as deep as they can be, were seen to take 4,752 bytes; the number is this and at least a sixteenth more.
    wigneld_in_force keeps two sets of 65,536 scripts, a bit for each, and was seen to take 21,248 bytes.
-   wigneld_write_callers goes over its script once and needs next to none. The other two hold a whole table, or a table and a script,
-   in the new form while they ask, and were seen to take 24,896 and 110,832 bytes. */
+   wigneld_write_callers goes over its script once and needs next to none. The two that rewrite hold a whole table, or a table and a
+   script, in the new form while they ask, and were seen to take 25,024 and 111,040 bytes. wigneld_check_profile goes as deep as
+   wigneld_check: 82,464 bytes. */
 #define WIGNELD_COMPARE_STACK_BYTES 5632
 #define WIGNELD_IN_FORCE_STACK_BYTES 24576
 #define WIGNELD_WRITE_CALLERS_STACK_BYTES 512

@@ -109,15 +109,26 @@ mod raw {
 // Every function below hands over pointers and lengths of slices that live for the call, the lent
 // ones mutable and apart from all others; that is all the C side asks.
 
-pub fn check(
-    groups: &[u8],
-    types: &[u8],
-    script: &[u8],
-    work: &mut [u8],
-    answer: &mut [u8],
+type RawCheck = unsafe extern "C" fn(
+    *const u8,
+    usize,
+    *const u8,
+    usize,
+    *const u8,
+    usize,
+    *mut u8,
+    usize,
+    *mut u8,
+    usize,
+) -> u64;
+
+fn checked(
+    check: RawCheck,
+    [groups, types, script]: [&[u8]; 3],
+    [work, answer]: [&mut [u8]; 2],
 ) -> u64 {
     unsafe {
-        raw::wigneld_check(
+        check(
             groups.as_ptr(),
             groups.len(),
             types.as_ptr(),
@@ -132,6 +143,16 @@ pub fn check(
     }
 }
 
+pub fn check(
+    groups: &[u8],
+    types: &[u8],
+    script: &[u8],
+    work: &mut [u8],
+    answer: &mut [u8],
+) -> u64 {
+    checked(raw::wigneld_check, [groups, types, script], [work, answer])
+}
+
 pub fn check_profile(
     groups: &[u8],
     types: &[u8],
@@ -139,20 +160,7 @@ pub fn check_profile(
     work: &mut [u8],
     answer: &mut [u8],
 ) -> u64 {
-    unsafe {
-        raw::wigneld_check_profile(
-            groups.as_ptr(),
-            groups.len(),
-            types.as_ptr(),
-            types.len(),
-            script.as_ptr(),
-            script.len(),
-            work.as_mut_ptr(),
-            work.len(),
-            answer.as_mut_ptr(),
-            answer.len(),
-        )
-    }
+    checked(raw::wigneld_check_profile, [groups, types, script], [work, answer])
 }
 
 pub fn run(

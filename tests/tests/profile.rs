@@ -95,7 +95,8 @@ fn the_profile_check_is_checking_but_for_39() {
         if rng.one_in(3) {
             inputs.script = near_miss(rng, &world.tables, &inputs.script);
         }
-        let [profile, plain] = both(&inputs, WORK_BYTES + rng.below(9), ANSWER_BYTES + rng.below(9));
+        let [profile, plain] =
+            both(&inputs, WORK_BYTES + rng.below(9), ANSWER_BYTES + rng.below(9));
         let early = plain.0.err().is_some_and(|no| !no.is_of_typing());
         match first_recursion(&inputs) {
             Some(place) if !early => {
@@ -134,5 +135,8 @@ fn accepted_scripts_in_the_profile_finish() {
         limits += usize::from(report.end == End::TooBig);
         longest = longest.max(report.steps);
     });
-    assert!(!enough || (values > 0 && longest > 1), "{values} values, {limits} limits, {longest} steps");
+    assert!(
+        !enough || (values > 0 && longest > 1),
+        "{values} values, {limits} limits, {longest} steps"
+    );
 }

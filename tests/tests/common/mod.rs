@@ -119,18 +119,30 @@ pub fn rewrite_script_with(old: &Inputs, rewritten: Vec<u8>) -> (Answer<u32>, Ve
     (result, after)
 }
 
-/// Checking with these buffers: the answer, and what the buffers hold afterwards.
+type Check = fn(&[u8], &[u8], &[u8], &mut [u8], &mut [u8]) -> Answer<u32>;
+
+/// A check with these buffers: the answer, and what the buffers hold afterwards.
+fn checked(
+    check: Check,
+    inputs: &Inputs,
+    mut work: Vec<u8>,
+    mut answer: Vec<u8>,
+) -> (Answer<u32>, Vec<u8>, Vec<u8>) {
+    let Inputs { groups, types, script } = inputs;
+    let result = check(groups, types, script, &mut work, &mut answer);
+    (result, work, answer)
+}
+
+/// Checking with these buffers.
 pub fn check_with(
     inputs: &Inputs,
     work: Vec<u8>,
     answer: Vec<u8>,
 ) -> (Answer<u32>, Vec<u8>, Vec<u8>) {
-    let Inputs { groups, types, script } = inputs;
-    let (mut work_after, mut answer_after) = (work.clone(), answer.clone());
-    let result = calls::check(groups, types, script, &mut work_after, &mut answer_after);
+    let after = checked(calls::check, inputs, work.clone(), answer.clone());
     #[cfg(feature = "engine")]
-    compared::check(inputs, [&work, &answer], &result, [&work_after, &answer_after]);
-    (result, work_after, answer_after)
+    compared::check(inputs, [&work, &answer], &after.0, [&after.1, &after.2]);
+    after
 }
 
 /// The profile check with these buffers.
@@ -139,12 +151,10 @@ pub fn check_profile_with(
     work: Vec<u8>,
     answer: Vec<u8>,
 ) -> (Answer<u32>, Vec<u8>, Vec<u8>) {
-    let Inputs { groups, types, script } = inputs;
-    let (mut work_after, mut answer_after) = (work.clone(), answer.clone());
-    let result = calls::check_profile(groups, types, script, &mut work_after, &mut answer_after);
+    let after = checked(calls::check_profile, inputs, work.clone(), answer.clone());
     #[cfg(feature = "engine")]
-    compared::check_profile(inputs, [&work, &answer], &result, [&work_after, &answer_after]);
-    (result, work_after, answer_after)
+    compared::check_profile(inputs, [&work, &answer], &after.0, [&after.1, &after.2]);
+    after
 }
 
 /// A run with these buffers.
