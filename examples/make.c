@@ -5,8 +5,9 @@
  *     ./archives wigneld_office
  *     cc -std=c99 -Iinclude -o make examples/make.c target/staticlib/libwigneld_office.a && ./make examples
  *
- * A script is written in its own order, each record followed by its operands; the indent below follows the operands. All but the
- * last three examples were saved in an older form (WIGNELD_FORMAT): they are written as they were and rewritten by the engine's own calls.
+ * A script is written in its own order, each record followed by its operands; the indent below follows the operands. All but
+ * whose-hands, drying-days and gallery-screen were saved in an older form (WIGNELD_FORMAT) or by the old office program: they are
+ * written as they were and rewritten or imported by the engine's own calls.
  * A second folder, if one is named, gets an example as it was saved in form 1.
  */
 #include <stdint.h>
@@ -16,7 +17,7 @@
 #include "wigneld_office.h"
 
 #if WIGNELD_FORMAT != 4
-#error "the last three examples are written in form 4"
+#error "whose-hands, drying-days and gallery-screen are written in form 4"
 #endif
 
 /* Who reads: anyone; the bench, where objects are treated; the lender's office; the registrar, who may read what either may. */
@@ -353,6 +354,113 @@ static void panel_script(void) { panel(REGISTRAR); }
 /* In form 1 a rule called itself as whoever may read its type, and had 0 there. */
 static void first_panel_script(void) { panel(0); }
 
+/* ---- the drying panel as the old office program saved it, with names */
+
+/* Its names were numbers of 16 bits, 0 among them. A name may stand within another's reach, as IT does: the nearest is meant. */
+enum { BIT_READ = 0, IT = 1, RULE = 256 };
+
+static void names(unsigned first, unsigned second)
+{
+    byte(first & 255);
+    byte(first >> 8);
+    byte(second & 255);
+    byte(second >> 8);
+}
+
+static void nameless(unsigned kind, unsigned r, unsigned ir, unsigned number)
+{
+    record(kind, r, ir, number);
+    names(0, 0);
+}
+
+static void named_variable(unsigned name)
+{
+    record(0, 0, 0, 0);
+    names(name, 0);
+}
+
+static void named_function(unsigned who, unsigned parameter, unsigned name)
+{
+    record(2, who, who, parameter);
+    names(name, 0);
+}
+
+/* A case of one of two, with nothing in it: what it holds gets a name, which nobody uses. */
+static void read_bit(unsigned reader, unsigned result)
+{
+    record(9, reader, 0, result);
+    names(BIT_READ, BIT_READ);
+}
+
+/* Nobody wrote who a rule calls itself as. */
+static void named_recursion(unsigned function, unsigned name)
+{
+    record(11, 0, 0, function);
+    names(name, 0);
+}
+
+static void nameless_choice(unsigned second, unsigned who, unsigned type_index)
+{
+    nameless(4 + second, who, who, type_index);
+    nameless(1, who, who, 0);
+}
+
+static void nameless_number(unsigned value, unsigned who, unsigned bit)
+{
+    nameless(3, who, who, 0);
+        nameless_choice(value / 2, who, bit);
+        nameless_choice(value % 2, who, bit);
+}
+
+static void nameless_other_side(void)
+{
+    nameless_choice(1, BENCH, SIDE);
+    nameless_choice(0, BENCH, SIDE);
+}
+
+/* Inside the rule IT is the days, outside of it the entry. */
+static void named_rule(void)
+{
+    named_recursion(TURNING, RULE);
+        named_function(BENCH, DAYS, IT);
+            read_bit(BENCH, SIDE); /* is the low bit 0? */
+                nameless(8, BENCH, 0, 0);
+                    named_variable(IT);
+                read_bit(BENCH, SIDE); /* and the high bit too? */
+                    nameless(7, BENCH, 0, 0);
+                        named_variable(IT);
+                    nameless_choice(0, BENCH, SIDE); /* no day: face up */
+                    read_bit(BENCH, SIDE); /* two days: one less is 1 */
+                        nameless(6, BENCH, 0, 0);
+                            named_variable(RULE);
+                            nameless_number(1, BENCH, SIDE);
+                        nameless_other_side();
+                read_bit(BENCH, SIDE); /* one day or three: one less has the low bit 0 */
+                    nameless(6, BENCH, 0, 0);
+                        named_variable(RULE);
+                        nameless(3, BENCH, BENCH, 0);
+                            nameless(7, BENCH, 0, 0);
+                                named_variable(IT);
+                            nameless_choice(0, BENCH, SIDE);
+                    nameless_other_side();
+}
+
+static void named_panel_script(void)
+{
+    nameless(6, ANYONE, 0, 0);
+        named_function(ANYONE, PANEL_ENTRY, IT);
+            nameless(3, ANYONE, ANYONE, 0);
+                nameless(7, ANYONE, 0, 0); /* drying or not */
+                    named_variable(IT);
+                nameless(6, BENCH, 0, 0); /* the bench asks which side is up in the end */
+                    named_rule();
+                    nameless(8, ANYONE, 0, 0);
+                        named_variable(IT);
+        nameless(3, ANYONE, ANYONE, 0); /* the entry: drying, for 3 days */
+            nameless_choice(0, ANYONE, DRYING);
+            nameless_number(3, BENCH, SIDE);
+}
+
 /* ---- a page in a studio's own words */
 
 static void page_types(void)
@@ -616,6 +724,25 @@ static void rewritten(const char *folder, const char *name, int form, void (*typ
     save(folder, name, "script", &new_s);
 }
 
+/* A folder with these files, whose script is of the old office program, beside it what it is imported as. */
+static void imported(const char *folder, const char *name, void (*types)(void), void (*office)(void))
+{
+    static struct bytes g, t, o, new_t, s;
+
+    put(&g, groups);
+    put(&t, types);
+    put(&o, office);
+    new_t.length = filled(wigneld_rewrite_types(g.at, g.length, t.at, t.length, new_t.at, sizeof new_t.at),
+                          WIGNELD_TYPE_RECORD_BYTES);
+    save(folder, name, "office", &o);
+    wigneld_write_office_callers(new_t.at, new_t.length, o.at, o.length);
+    s.length = filled(wigneld_import(g.at, g.length, new_t.at, new_t.length, o.at, o.length, s.at, sizeof s.at),
+                      WIGNELD_SCRIPT_RECORD_BYTES);
+    save(folder, name, "groups", &g);
+    save(folder, name, "types", &new_t);
+    save(folder, name, "script", &s);
+}
+
 int main(int count, char **words)
 {
     static struct bytes bytes;
@@ -633,6 +760,7 @@ int main(int count, char **words)
     rewritten(words[1], "loan-sheet", 1, loan_types, loan_script);
     rewritten(words[1], "loan-leak", 1, loan_types, leak_script);
     rewritten(words[1], "drying-panel", 2, panel_types, panel_script);
+    imported(words[1], "old-panel", panel_types, named_panel_script);
     rewritten(words[1], "own-words", 2, page_types, page_script);
     put(&bytes, own_words);
     save(words[1], "own-words", "words", &bytes);

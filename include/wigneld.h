@@ -22,7 +22,7 @@ extern "C" {
 #endif
 
 /* Raised whenever a constant, a prototype or an answer changes. */
-#define WIGNELD_VERSION 12
+#define WIGNELD_VERSION 13
 
 /* The form of rows and records. Raised whenever a width below changes, or what a byte of a record means: files of another form
    are to be rewritten before they are lent. No file says its form, so keep it beside them. Form 3 had no numbers, and its sheet
@@ -316,7 +316,8 @@ static inline unsigned wigneld_place_kind(unsigned question)
         return WIGNELD_PLACE_ROW;
     case 9: case 10: case 11: case 12:
         return WIGNELD_PLACE_TYPE_RECORD;
-    case 14: case 15: case 16: case 17: case 18: case 19: case 20: case 21: case 22: case 23: case 24: case 31: case 39:
+    case 14: case 15: case 16: case 17: case 18: case 19: case 20: case 21: case 22: case 23: case 24: case 29:
+    case 30: case 31: case 39:
         return WIGNELD_PLACE_SCRIPT_RECORD;
     case 36:
         return WIGNELD_PLACE_EITHER_RECORD;
@@ -347,8 +348,8 @@ static inline unsigned wigneld_place_kind_over(unsigned question, const uint8_t 
                : WIGNELD_PLACE_SCRIPT_RECORD;
 }
 
-/* The last question there is. 28 to 30, 37 and 38 are none yet; 32 to 34 are the report program's, of its file of words, and 39 to 42
-   the office's: wigneld_check_profile's, and of lists of scripts (wigneld_office.h). */
+/* The last question there is. 37 and 38 are none yet; 28 to 30 are those of import and export (wigneld_office.h), 32 to 34 the report
+   program's, of its file of words, and 39 to 42 the office's: wigneld_check_profile's, and of lists of scripts. */
 #define WIGNELD_LAST_QUESTION 42
 
 /* A question in a few words: what is not so, when it is the one that an answer names. */
@@ -384,9 +385,9 @@ static inline const char *wigneld_asked(unsigned question)
         "the index or the group is in its table",                          /* 25, place: 1 for the second of two */
         "the script is a value",                                           /* 26 */
         "the answer fits its buffer",                                      /* 27 */
-        none,                                                              /* 28 */
-        none,                                                              /* 29 */
-        none,                                                              /* 30 */
+        "the old office script has whole records, 1 to 6,000",             /* 28, of an export: the script has no more than 6,000 */
+        "a name that isn't used is 0, and a variable's number",            /* 29 */
+        "a name has a binder",                                             /* 30 */
         "the branches of a case that finds its type have a common one",    /* 31 */
         "the table of words has 84 bytes",                                 /* 32 */
         "a word is 1 to 12 letters a to z and then zero bytes",            /* 33 */

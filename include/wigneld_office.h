@@ -1,6 +1,7 @@
 /*
  * Wigneld for the office: the comparison of two types of a types table, the check of scripts that always finish, the script in force
- * of an amended list, and the rewriting of files from before this form, for C99 and C++ on x86-64 Linux.
+ * of an amended list, the rewriting of files from before this form, and the import and export of the old office program's scripts,
+ * for C99 and C++ on x86-64 Linux.
  *
  * Tables and scripts, and how a refusal is read, are as in wigneld.h. Every function here is total too: any bytes of any length get
  * an answer. Nothing is allocated, kept or printed, and nothing is written but what is lent for it, so calls from several threads are
@@ -8,9 +9,10 @@
  *
  * What the caller owes, since no check can see it from inside:
  *  - each pointer has as many bytes behind it as the length after it says; NULL only with length 0;
- *  - a buffer that a call writes to (work, answer, script of wigneld_write_callers, rewritten) overlaps none of the call's other slices;
+ *  - a buffer that a call writes to (work, answer, script of wigneld_write_callers, rewritten, script of wigneld_import, old of
+ *    wigneld_export and wigneld_write_office_callers) overlaps none of the call's other slices;
  *  - nobody else writes any of them while the call runs;
- *  - the stack has room (WIGNELD_COMPARE_STACK_BYTES and the five after it).
+ *  - the stack has room (WIGNELD_COMPARE_STACK_BYTES and the eight after it).
  */
 #ifndef WIGNELD_OFFICE_H
 #define WIGNELD_OFFICE_H
@@ -26,13 +28,17 @@ extern "C" {
    wigneld_in_force keeps two sets of 65,536 scripts, a bit for each, and was seen to take 21,248 bytes.
    wigneld_write_callers goes over its script once and needs next to none. The two that rewrite hold a whole table, or a table and a
    script, in the new form while they ask, and were seen to take 25,024 and 111,040 bytes. wigneld_check_profile goes as deep as
-   wigneld_check: 82,464 bytes. */
+   wigneld_check: 82,464 bytes. wigneld_import holds a script without its names and the imported one, and goes as deep as the script:
+   129,440 bytes. wigneld_export goes as deep and holds none: 20,768. wigneld_write_office_callers is as wigneld_write_callers. */
 #define WIGNELD_COMPARE_STACK_BYTES 5632
 #define WIGNELD_IN_FORCE_STACK_BYTES 24576
 #define WIGNELD_WRITE_CALLERS_STACK_BYTES 512
 #define WIGNELD_REWRITE_TYPES_STACK_BYTES 28672
 #define WIGNELD_REWRITE_SCRIPT_STACK_BYTES 118784
 #define WIGNELD_CHECK_PROFILE_STACK_BYTES 90112
+#define WIGNELD_IMPORT_STACK_BYTES 139264
+#define WIGNELD_EXPORT_STACK_BYTES 24576
+#define WIGNELD_WRITE_OFFICE_CALLERS_STACK_BYTES 512
 
 /*
  * Compares two types of one table, each named by the index of its first record: questions 2 to 12 and 25, whose place is 0 for the
@@ -162,6 +168,53 @@ uint64_t wigneld_rewrite_script(const uint8_t *groups, size_t groups_length, con
  */
 uint64_t wigneld_rewrite_types(const uint8_t *groups, size_t groups_length, const uint8_t *types, size_t types_length,
                                uint8_t *rewritten, size_t rewritten_length);
+
+/*
+ * Scripts of the old office program. Their records have 10 bytes: the first six of a script record, and then two names, each of 16
+ * bits, lowest byte first; they have no creators. Types and groups are of this form. A variable has its name in the first and number
+ * 0; a function and a recursion name what they bind in the first, a case the binder of its first branch in the first and that of its
+ * second branch in the second. A variable means the nearest binder of its name. 0 is a name like any other; what a kind doesn't use
+ * is 0.
+ *
+ *     byte          0      1   2    3   4                            5   6                                7   8              9
+ *     old record    kind   r   ir   0   number, lowest byte first        first name, lowest byte first        second name
+ */
+#define WIGNELD_OFFICE_RECORD_BYTES 10
+#define WIGNELD_OFFICE_AT_FIRST_NAME 6
+#define WIGNELD_OFFICE_AT_SECOND_NAME 8
+#define WIGNELD_MOST_OFFICE_RECORDS 6000
+#define WIGNELD_OFFICE_LONGEST_BYTES (WIGNELD_MOST_OFFICE_RECORDS * WIGNELD_OFFICE_RECORD_BYTES)
+
+/*
+ * Imports an old script into form 4: questions 2 to 12; 28, whether it has 1 to 6,000 whole records; 14 to 18 of the records' first
+ * six bytes; 29 of all records, whether what isn't used is 0, a variable's number too; 30 of all records, whether a variable's name has
+ * a binder; and 27, whether `script` has room for as many records of form 4. Accepted: the record count, which wigneld_count reads. The
+ * front of `script` then holds the records, each variable with its number and all with group 0 as c and ic; later bytes are kept. A
+ * refusal writes nothing. What is imported passes questions 2 to 19.
+ *
+ * In an old script the recursions have 0 in byte 1. To be run as it was it gets its callers first, by wigneld_write_office_callers:
+ * import then answers as it would have, and the imported script differs in those bytes alone.
+ */
+uint64_t wigneld_import(const uint8_t *groups, size_t groups_length, const uint8_t *types, size_t types_length,
+                        const uint8_t *old, size_t old_length, uint8_t *script, size_t script_length);
+
+/*
+ * Exports a script to the old form: questions 2 to 19, then 28, whether it has at most 6,000 records, and 27, whether `old` has room for
+ * as many old records. Accepted: the record count. The front of `old` then holds the records, each binder named by its count of
+ * binders outside it; later bytes are kept. A refusal writes nothing.
+ *
+ * The old form has no creators: c and ic are dropped. Importing what was exported gives back the script, byte for byte, just where they
+ * were group 0 in every record.
+ */
+uint64_t wigneld_export(const uint8_t *groups, size_t groups_length, const uint8_t *types, size_t types_length,
+                        const uint8_t *script, size_t script_length, uint8_t *old, size_t old_length);
+
+/*
+ * wigneld_write_callers for an old office script, in place: each whole record of kind recursion whose number is below types_length / 6
+ * gets byte 1 of that type record as its own byte 1; every other byte stays. Nothing is asked; the answer is the count of records
+ * written, as it is.
+ */
+uint64_t wigneld_write_office_callers(const uint8_t *types, size_t types_length, uint8_t *old, size_t old_length);
 
 #ifdef __cplusplus
 }

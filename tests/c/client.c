@@ -710,7 +710,7 @@ static void every_refusal(void)
 static void places(void)
 {
     /* - nothing, g a row, t a type record, s a script record, e either, w a word, a an entry; by number from 0. */
-    static const char counted[] = "---gggg--tttt-sssssssssss------s-ww-e--saaa";
+    static const char counted[] = "---gggg--tttt-sssssssssss----sss-ww-e--saaa";
     unsigned question;
 
     HOLD(sizeof counted - 1 == WIGNELD_LAST_QUESTION + 1);
@@ -719,8 +719,7 @@ static void places(void)
 
         HOLD(kind <= WIGNELD_PLACE_ENTRY && counted[question] == "-gtsew a"[kind]);
         HOLD(kind == WIGNELD_PLACE_EITHER_RECORD || wigneld_place_kind_over(question, NULL, 0, NULL, 0) == kind);
-        HOLD((strcmp(wigneld_asked(question), "no such question") == 0)
-             == ((question >= 28 && question <= 30) || question == 37 || question == 38));
+        HOLD((strcmp(wigneld_asked(question), "no such question") == 0) == (question == 37 || question == 38));
     }
     HOLD(strcmp(wigneld_asked(WIGNELD_LAST_QUESTION + 1), "no such question") == 0);
     HOLD(wigneld_place_kind(WIGNELD_LAST_QUESTION + 1) == WIGNELD_PLACE_NOTHING);

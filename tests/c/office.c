@@ -1,7 +1,7 @@
 /*
  * A program of the office, written from the header alone, in what C99 and C++ share: it compares types, looks up scripts in force,
- * reads every kind of answer, checks scripts for a screen, and rewrites tables and scripts of forms 1 and 2. Exits with 0 when all is
- * as the header says.
+ * reads every kind of answer, checks scripts for a screen, rewrites tables and scripts of forms 1 and 2, and imports and exports
+ * scripts of the old office program. Exits with 0 when all is as the header says.
  */
 #include <string.h>
 
@@ -510,6 +510,119 @@ static void screens(void)
     HOLD(all(found + sizeof unit_of_type, sizeof found - sizeof unit_of_type, OLD));
 }
 
+/* A record of the old office program. */
+static void old_record(uint8_t *at, unsigned kind, unsigned group, unsigned number, unsigned first, unsigned second)
+{
+    memset(at, 0, WIGNELD_OFFICE_RECORD_BYTES);
+    at[WIGNELD_AT_KIND] = (uint8_t)kind;
+    at[WIGNELD_AT_READERS] = (uint8_t)group;
+    at[WIGNELD_AT_NUMBER] = (uint8_t)(number & 0xff);
+    at[WIGNELD_AT_NUMBER + 1] = (uint8_t)(number >> 8);
+    at[WIGNELD_OFFICE_AT_FIRST_NAME] = (uint8_t)(first & 0xff);
+    at[WIGNELD_OFFICE_AT_FIRST_NAME + 1] = (uint8_t)(first >> 8);
+    at[WIGNELD_OFFICE_AT_SECOND_NAME] = (uint8_t)(second & 0xff);
+    at[WIGNELD_OFFICE_AT_SECOND_NAME + 1] = (uint8_t)(second >> 8);
+}
+
+/* A function of a function of a pair of the outer name and the inner one, both the same or not. */
+enum { PAIRED = 5, OUTER = 0, INNER = 1, LEFT = 3, RIGHT = 4, FROM_UNIT = 1 };
+
+static void paired(uint8_t *old, unsigned outer, unsigned inner, unsigned left, unsigned right)
+{
+    old_record(old, WIGNELD_KIND_FUNCTION, 0, FROM_UNIT, outer, 0);
+    old_record(old + INNER * WIGNELD_OFFICE_RECORD_BYTES, WIGNELD_KIND_FUNCTION, 0, FROM_UNIT, inner, 0);
+    old_record(old + 2 * WIGNELD_OFFICE_RECORD_BYTES, WIGNELD_KIND_PAIR, 0, 0, 0, 0);
+    old_record(old + LEFT * WIGNELD_OFFICE_RECORD_BYTES, WIGNELD_KIND_VARIABLE, 0, 0, left, 0);
+    old_record(old + RIGHT * WIGNELD_OFFICE_RECORD_BYTES, WIGNELD_KIND_VARIABLE, 0, 0, right, 0);
+}
+
+static uint64_t import(const uint8_t *old, size_t length, size_t room)
+{
+    memset(new_script, OLD, sizeof new_script);
+    return wigneld_import(groups, sizeof groups, types, sizeof types, old, length, new_script, room);
+}
+
+/* Whether these numbers were found, and nothing was written past the records. */
+static int means(const uint8_t *old, unsigned left, unsigned right)
+{
+    const uint8_t *variables = new_script + LEFT * WIGNELD_SCRIPT_RECORD_BYTES;
+
+    return import(old, PAIRED * WIGNELD_OFFICE_RECORD_BYTES, sizeof new_script) == PAIRED
+           && variables[WIGNELD_AT_NUMBER] == left && variables[WIGNELD_SCRIPT_RECORD_BYTES + WIGNELD_AT_NUMBER] == right
+           && all(new_script + PAIRED * WIGNELD_SCRIPT_RECORD_BYTES, sizeof new_script - PAIRED * WIGNELD_SCRIPT_RECORD_BYTES, OLD);
+}
+
+static void imported(void)
+{
+    uint8_t old[PAIRED * WIGNELD_OFFICE_RECORD_BYTES];
+    const size_t room = PAIRED * WIGNELD_SCRIPT_RECORD_BYTES;
+
+    paired(old, 7, 8, 7, 8);
+    HOLD(means(old, 1, 0));
+    paired(old, 7, 7, 7, 7);
+    HOLD(means(old, 0, 0));
+    paired(old, 0, 256, 256, 0);
+    HOLD(means(old, 0, 1));
+    HOLD(import(old, sizeof old, room) == PAIRED);
+    memset(new_types, OLD, sizeof new_types);
+    keeps(import(old, sizeof old, room - 1), 27, 0);
+    keeps(import(old, 0, room), 28, 0);
+    keeps(import(old, sizeof old - 1, room), 28, 0);
+    keeps(import(old, sizeof old - WIGNELD_OFFICE_RECORD_BYTES, room), 17, PAIRED - 1);
+    paired(old, 7, 8, 9, 8);
+    keeps(import(old, sizeof old, 0), 30, LEFT);
+    paired(old, 7, 8, 9, 8);
+    old[RIGHT * WIGNELD_OFFICE_RECORD_BYTES + WIGNELD_OFFICE_AT_SECOND_NAME] = 1;
+    keeps(import(old, sizeof old, 0), 29, RIGHT);
+    paired(old, 7, 8, 7, 8);
+    old[LEFT * WIGNELD_OFFICE_RECORD_BYTES + WIGNELD_AT_NUMBER] = 1;
+    keeps(import(old, sizeof old, 0), 29, LEFT);
+    keeps(wigneld_import(NULL, 0, NULL, 0, NULL, 0, NULL, 0), 2, 0);
+    keeps(wigneld_import(groups, sizeof groups, types, sizeof types, NULL, 0, NULL, 0), 28, 0);
+}
+
+/* Back and forth, with the names that an export gives; and creators, which it drops. */
+static void exported(void)
+{
+    uint8_t old[PAIRED * WIGNELD_OFFICE_RECORD_BYTES], script[PAIRED * WIGNELD_SCRIPT_RECORD_BYTES];
+    uint8_t again[sizeof old + 1], named[sizeof old];
+    uint64_t answer;
+
+    paired(old, 70, 80, 80, 70);
+    paired(named, 0, 1, 1, 0);
+    HOLD(import(old, sizeof old, sizeof new_script) == PAIRED);
+    memcpy(script, new_script, sizeof script);
+    memset(again, OLD, sizeof again);
+    HOLD(wigneld_export(groups, sizeof groups, types, sizeof types, script, sizeof script, again, sizeof again) == PAIRED);
+    HOLD(memcmp(again, named, sizeof named) == 0 && again[sizeof named] == OLD);
+    HOLD(import(again, sizeof named, sizeof new_script) == PAIRED && memcmp(new_script, script, sizeof script) == 0);
+    memset(again, OLD, sizeof again);
+    answer = wigneld_export(groups, sizeof groups, types, sizeof types, script, sizeof script, again, sizeof old - 1);
+    HOLD(wigneld_question(answer) == 27 && wigneld_place(answer) == 0 && all(again, sizeof again, OLD));
+    answer = wigneld_export(groups, sizeof groups, types, sizeof types, script, sizeof script - WIGNELD_SCRIPT_RECORD_BYTES, again,
+                            sizeof again);
+    HOLD(wigneld_question(answer) == 17 && wigneld_place(answer) == PAIRED - 1 && all(again, sizeof again, OLD));
+    script[WIGNELD_SCRIPT_AT_CREATORS] = 1;
+    HOLD(wigneld_export(groups, sizeof groups, types, sizeof types, script, sizeof script, again, sizeof again) == PAIRED);
+    HOLD(memcmp(again, named, sizeof named) == 0);
+}
+
+/* A recursion of the old office program: 0 in byte 1 until the callers are written. */
+static void office_callers(void)
+{
+    uint8_t old[2 * WIGNELD_OFFICE_RECORD_BYTES + 1], expected[sizeof old];
+    static const uint8_t lenders[] = { 0, 0, 0, 0, 0, 0, 3, 1, 0, 0, 0, 0, 0, 0, 0, 0, 0, 0, 0, 0, 0, 0, 0, 0 };
+
+    memset(old, OLD, sizeof old);
+    old_record(old, WIGNELD_KIND_RECURSION, 0, 1, 7, 0);
+    old_record(old + WIGNELD_OFFICE_RECORD_BYTES, WIGNELD_KIND_RECURSION, 0, 4, 7, 0);
+    memcpy(expected, old, sizeof old);
+    expected[WIGNELD_AT_READERS] = 1;
+    HOLD(wigneld_write_office_callers(lenders, sizeof lenders, old, sizeof old) == 1 && memcmp(old, expected, sizeof old) == 0);
+    HOLD(wigneld_write_office_callers(NULL, 0, old, sizeof old) == 0 && memcmp(old, expected, sizeof old) == 0);
+    HOLD(wigneld_write_office_callers(lenders, sizeof lenders, NULL, 0) == 0);
+}
+
 /* The editor's archive serves the same program. */
 static void beside_the_editor(void)
 {
@@ -533,6 +646,9 @@ int main(void)
     rewriting_refused();
     longest();
     screens();
+    imported();
+    exported();
+    office_callers();
     beside_the_editor();
     return told();
 }

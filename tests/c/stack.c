@@ -37,6 +37,9 @@ static uint8_t types[COMBS * RECORDS_OF_A_COMB * WIGNELD_TYPE_RECORD_BYTES];
 static uint8_t old_types[COMBS * RECORDS_OF_A_COMB * WIGNELD_OLD_TYPE_RECORD_BYTES];
 static uint8_t old_script[WIGNELD_MOST_SCRIPT_RECORDS * WIGNELD_OLD_SCRIPT_RECORD_BYTES];
 
+/* The script of a call as the old office program has it. */
+static uint8_t office_script[WIGNELD_OFFICE_LONGEST_BYTES];
+
 /* Records without their creators. */
 static void put_old(uint8_t *to, size_t old_width, const uint8_t *from, size_t width, size_t count)
 {
@@ -288,16 +291,21 @@ static void sheet_script(struct script *s, enum way way)
 
 /* The calls, in buffers that stand apart from the stack. */
 
-enum call { CHECK, RUN, SHEET, PREVIEW, MOVE, COMPARE, IN_FORCE, WRITE_CALLERS, REWRITE_SCRIPT, REWRITE_TYPES, CHECK_PROFILE, CALLS };
+enum call {
+    CHECK, RUN, SHEET, PREVIEW, MOVE, COMPARE, IN_FORCE, WRITE_CALLERS, REWRITE_SCRIPT, REWRITE_TYPES, CHECK_PROFILE, IMPORT, EXPORT,
+    WRITE_OFFICE_CALLERS, CALLS
+};
 
 static const char *const names[CALLS] = { "wigneld_check", "wigneld_run", "wigneld_sheet", "wigneld_preview", "wigneld_move",
                                           "wigneld_compare", "wigneld_in_force", "wigneld_write_callers",
-                                          "wigneld_rewrite_script", "wigneld_rewrite_types", "wigneld_check_profile" };
+                                          "wigneld_rewrite_script", "wigneld_rewrite_types", "wigneld_check_profile",
+                                          "wigneld_import", "wigneld_export", "wigneld_write_office_callers" };
 static const size_t promised[CALLS] = { WIGNELD_CHECK_STACK_BYTES, WIGNELD_RUN_STACK_BYTES, WIGNELD_SHEET_STACK_BYTES,
                                         WIGNELD_PREVIEW_STACK_BYTES, WIGNELD_MOVE_STACK_BYTES, WIGNELD_COMPARE_STACK_BYTES,
                                         WIGNELD_IN_FORCE_STACK_BYTES, WIGNELD_WRITE_CALLERS_STACK_BYTES,
                                         WIGNELD_REWRITE_SCRIPT_STACK_BYTES, WIGNELD_REWRITE_TYPES_STACK_BYTES,
-                                        WIGNELD_CHECK_PROFILE_STACK_BYTES };
+                                        WIGNELD_CHECK_PROFILE_STACK_BYTES, WIGNELD_IMPORT_STACK_BYTES,
+                                        WIGNELD_EXPORT_STACK_BYTES, WIGNELD_WRITE_OFFICE_CALLERS_STACK_BYTES };
 
 /* No promise up to this is too high: it is less than a caller's own frames are apart. */
 enum { NEXT_TO_NONE = 512 };
@@ -329,6 +337,7 @@ __attribute__((noinline)) static void make_call(struct job *job)
     const uint8_t *script = job->script->bytes;
     size_t length = job->script->count * WIGNELD_SCRIPT_RECORD_BYTES;
     size_t old_length = job->script->count * WIGNELD_OLD_SCRIPT_RECORD_BYTES;
+    size_t office_length = job->script->count * WIGNELD_OFFICE_RECORD_BYTES;
     uintptr_t here;
 
     /* Named as changed, rbx is saved before and not between this and the call. */
@@ -372,6 +381,15 @@ __attribute__((noinline)) static void make_call(struct job *job)
     case CHECK_PROFILE:
         job->answer = wigneld_check_profile(groups, sizeof groups, types, sizeof types, script, length, work, sizeof work, found,
                                             sizeof found);
+        break;
+    case IMPORT:
+        job->answer = wigneld_import(groups, sizeof groups, types, sizeof types, office_script, office_length, first, sizeof first);
+        break;
+    case EXPORT:
+        job->answer = wigneld_export(groups, sizeof groups, types, sizeof types, script, length, first, sizeof first);
+        break;
+    case WRITE_OFFICE_CALLERS:
+        job->answer = wigneld_write_office_callers(types, sizeof types, office_script, office_length);
         break;
     case CALLS: break;
     }
@@ -537,6 +555,14 @@ static int script_of(enum call call, unsigned number, struct script *s)
         return script_of(RUN, number, s);
     case REWRITE_TYPES: return number < 1;
     case CHECK_PROFILE: return script_of(CHECK, number, s);
+    case EXPORT:
+        return script_of(RUN, number, s);
+    case IMPORT:
+    case WRITE_OFFICE_CALLERS:
+        return script_of(call == IMPORT ? RUN : WRITE_CALLERS, number, s)
+               && wigneld_export(groups, sizeof groups, types, sizeof types, s->bytes, s->count * WIGNELD_SCRIPT_RECORD_BYTES,
+                                 office_script, sizeof office_script)
+                      == s->count;
     case CALLS: break;
     }
     return 0;
@@ -561,6 +587,8 @@ static unsigned hold(enum call call)
 
     for (number = 0; script_of(call, number, &s); number++)
         most = need(call, &s, most);
+    if (number == 0)
+        fail("no script to call with");
     printf("%s: %zu bytes of free stack, the header says %zu\n", names[call], most, promised[call]);
     if (promised[call] < most + most / 16)
         fail("the header's number has less than a sixteenth of margin");
@@ -584,9 +612,10 @@ static unsigned hold(enum call call)
             fail("a type is not the same as itself");
         if (call == IN_FORCE && wigneld_script_in_force(answer) != 1)
             fail("a script is not replaced by one of its own type");
-        if (call == WRITE_CALLERS && answer != recursions(&s))
+        if ((call == WRITE_CALLERS || call == WRITE_OFFICE_CALLERS) && answer != recursions(&s))
             fail("a recursion was not rewritten");
-        if ((call == REWRITE_SCRIPT && answer != s.count) || (call == REWRITE_TYPES && answer != COMBS * RECORDS_OF_A_COMB))
+        if (((call == REWRITE_SCRIPT || call == IMPORT || call == EXPORT) && answer != s.count)
+            || (call == REWRITE_TYPES && answer != COMBS * RECORDS_OF_A_COMB))
             fail("a record was not rewritten");
     }
     return number;

@@ -13,6 +13,7 @@ use crate::types::{self, read_tables, Comparison, Tables};
 use crate::typing::type_of;
 
 pub use crate::in_force::in_force;
+pub use crate::office::{export, import, write_office_callers};
 pub use crate::preview::{move_on, preview, MoveReport, Preview};
 pub use crate::rewriting::{rewrite_script, rewrite_types, write_callers};
 pub use crate::script::subterm;

@@ -83,6 +83,23 @@ mod raw {
             rewritten: *mut u8, rewritten_length: usize,
         ) -> u64;
 
+        pub fn wigneld_import(
+            groups: *const u8, groups_length: usize,
+            types: *const u8, types_length: usize,
+            old: *const u8, old_length: usize,
+            script: *mut u8, script_length: usize,
+        ) -> u64;
+        pub fn wigneld_export(
+            groups: *const u8, groups_length: usize,
+            types: *const u8, types_length: usize,
+            script: *const u8, script_length: usize,
+            old: *mut u8, old_length: usize,
+        ) -> u64;
+        pub fn wigneld_write_office_callers(
+            types: *const u8, types_length: usize,
+            old: *mut u8, old_length: usize,
+        ) -> u64;
+
         pub fn probe_bit(word: u32, h: u64) -> u64;
         pub fn probe_words_check(words: *const u8, words_length: usize) -> u64;
         pub fn probe_groups_check(groups: *const u8, groups_length: usize) -> u64;
@@ -311,6 +328,42 @@ pub fn rewrite_script(groups: &[u8], types: &[u8], script: &[u8], rewritten: &mu
     }
 }
 
+pub fn import(groups: &[u8], types: &[u8], old: &[u8], script: &mut [u8]) -> u64 {
+    unsafe {
+        raw::wigneld_import(
+            groups.as_ptr(),
+            groups.len(),
+            types.as_ptr(),
+            types.len(),
+            old.as_ptr(),
+            old.len(),
+            script.as_mut_ptr(),
+            script.len(),
+        )
+    }
+}
+
+pub fn export(groups: &[u8], types: &[u8], script: &[u8], old: &mut [u8]) -> u64 {
+    unsafe {
+        raw::wigneld_export(
+            groups.as_ptr(),
+            groups.len(),
+            types.as_ptr(),
+            types.len(),
+            script.as_ptr(),
+            script.len(),
+            old.as_mut_ptr(),
+            old.len(),
+        )
+    }
+}
+
+pub fn write_office_callers(types: &[u8], old: &mut [u8]) -> u64 {
+    unsafe {
+        raw::wigneld_write_office_callers(types.as_ptr(), types.len(), old.as_mut_ptr(), old.len())
+    }
+}
+
 pub fn bit(row: u32, h: u64) -> u64 {
     unsafe { raw::probe_bit(row, h) }
 }
@@ -379,7 +432,7 @@ pub fn packed_script(answer: &Answer<u16>) -> u64 {
     packed(answer, |&script| script.into())
 }
 
-/// Check, sheet and the rewriting calls: the record count.
+/// Check, sheet, the rewriting calls, import and export: the record count.
 pub fn packed_count(answer: &Answer<u32>) -> u64 {
     packed(answer, |&count| count.into())
 }

@@ -7,9 +7,10 @@ use std::rc::Rc;
 use crate::cases::Inputs;
 use crate::groups::{Group, Groups};
 use crate::limits::{
-    MOST_DEPTH, MOST_GROUPS, MOST_TABLE_RECORDS, MOST_TYPE_RECORDS, NO_SCRIPT, OLD_SCRIPT_BYTES,
-    OLD_TYPE_BYTES, OWN_TYPE, SCRIPT_BYTES, TYPE_BYTES, WORDS_BYTES, WORD_BYTES,
+    MOST_DEPTH, MOST_GROUPS, MOST_TABLE_RECORDS, MOST_TYPE_RECORDS, NO_SCRIPT, OFFICE_BYTES,
+    OLD_SCRIPT_BYTES, OLD_TYPE_BYTES, OWN_TYPE, SCRIPT_BYTES, TYPE_BYTES, WORDS_BYTES, WORD_BYTES,
 };
+use crate::office::OfficeRecord;
 use crate::preview::Preview;
 use crate::script::{
     names_c, names_ic, names_ir, names_number, names_r, operand_count, Record, Side, Term, OPERANDS,
@@ -1364,6 +1365,85 @@ pub fn handed_back(rng: &mut Rng, shown: Preview) -> Preview {
         _ => shown.steps,
     };
     given
+}
+
+/// A script as the old office program may have saved it: chance names, often the same ones again and often 0, so that binders hide one
+/// another; a variable has the name of its binder where no nearer one has it too, and some names are without a binder or stand where
+/// none is used. Creators are lost.
+pub fn office_script(rng: &mut Rng, term: &Term) -> Vec<u8> {
+    let few = rng.between(1, 6);
+    let mut bytes = Vec::new();
+    office_records(rng, term, few, &mut Vec::new(), &mut bytes);
+    bytes
+}
+
+/// A name of so few, or any.
+fn some_name(rng: &mut Rng, few: usize) -> u16 {
+    match rng.below(12) {
+        0 => 0,
+        1 => rng.word() as u16,
+        2 => 256 * rng.below(few) as u16,
+        _ => rng.below(few) as u16,
+    }
+}
+
+fn office_records(
+    rng: &mut Rng,
+    term: &Term,
+    few: usize,
+    names: &mut Vec<u16>,
+    bytes: &mut Vec<u8>,
+) {
+    let mut record = term.record();
+    let kind = record.kind;
+    let mut own = [0, 0];
+    if let Term::Variable(number) = term {
+        own[0] = names[names.len() - 1 - *number as usize];
+        record.number = 0;
+        if rng.one_in(60) {
+            own[0] = some_name(rng, few);
+        }
+    }
+    let binders: Vec<usize> = term.operands().iter().map(|(_, binders)| *binders).collect();
+    for (place, _) in binders.iter().filter(|&&binders| binders > 0).enumerate() {
+        // Mostly a name that no binder outside has, so that variables keep what they mean.
+        own[place] = if rng.one_in(3) {
+            some_name(rng, few)
+        } else {
+            (names.len() + 1000 * (1 + place)) as u16
+        };
+    }
+    if rng.one_in(300) {
+        own[rng.below(2)] = some_name(rng, few);
+    }
+    if kind == 0 && rng.one_in(150) {
+        record.number = rng.below(3) as u16;
+    }
+    let [first, second] = own;
+    bytes.extend(OfficeRecord { record, first, second }.write());
+    let mut place = 0;
+    for (operand, binders) in term.operands() {
+        if binders > 0 {
+            names.push(own[place]);
+            place += 1;
+        }
+        office_records(rng, operand, few, names, bytes);
+        names.truncate(names.len() - binders);
+    }
+}
+
+/// An old script with one field of one record changed.
+pub fn near_miss_office(rng: &mut Rng, old: &[u8]) -> Vec<u8> {
+    let mut old = old.to_vec();
+    let at = OFFICE_BYTES * rng.below(old.len() / OFFICE_BYTES);
+    let field = *rng.pick(&[0, 1, 2, 3, 4, 6, 6, 6, 8, 8]);
+    old[at + field] = match rng.below(4) {
+        0 => 0,
+        1 => rng.below(16) as u8,
+        2 => old[at + field].wrapping_add(1),
+        _ => old[rng.below(old.len())],
+    };
+    old
 }
 
 /// Bytes damaged in some way: a bit, a byte, a cut, an addition, or all of them by chance.

@@ -16,6 +16,7 @@ pub mod generate;
 pub mod groups;
 pub mod in_force;
 pub mod limits;
+pub mod office;
 pub mod preview;
 pub mod refusal;
 pub mod report;

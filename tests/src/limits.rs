@@ -18,6 +18,9 @@ pub const MOST_TYPE_RECORDS: usize = 63;
 pub const SCRIPT_BYTES: usize = 8;
 /// Scripts before it: "Records of 6 bytes". Only the rewriting calls know this width.
 pub const OLD_SCRIPT_BYTES: usize = 6;
+/// Scripts of the old office program: "records of 10 bytes", "at most 6,000 records".
+pub const OFFICE_BYTES: usize = 10;
+pub const MOST_OFFICE_RECORDS: usize = 6000;
 /// Question 13 and "too big": 8,192 records.
 pub const MOST_SCRIPT_RECORDS: usize = 8192;
 /// Question 18 and "too big": depth 256, the outermost record has depth 1.
@@ -52,8 +55,8 @@ pub const REPORT_SHEET_BYTES: usize = MOST_SCRIPT_RECORDS * SHEET_BYTES;
 /// Report program and cases: "budget 1,000".
 pub const REPORT_BUDGET: u64 = 1000;
 
-/// The highest question of a call: 1 to 27, and of document 02 31 (item 3), 35 (item 9), 36 (item 10), 39 (item 12) and 40 to 42
-/// (item 14).
+/// The highest question of a call: 1 to 27, and of document 02 28 to 30 (item 1), 31 (item 3), 35 (item 9), 36 (item 10), 39 (item 12)
+/// and 40 to 42 (item 14).
 pub const LAST_QUESTION: usize = 42;
 
 /// Questions 8 and 13: whole records of this width, 1 to `most`?

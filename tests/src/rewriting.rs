@@ -66,7 +66,7 @@ pub fn read_old_script(tables: &Tables, script: &[u8]) -> Answer<Rc<Term>> {
 
 /// The new form to the front of the buffer: 27, and nothing is written before. Gives the record count
 /// and keeps the bytes past it.
-fn put(new: &[u8], width: usize, rewritten: &mut [u8]) -> Answer<u32> {
+pub fn put(new: &[u8], width: usize, rewritten: &mut [u8]) -> Answer<u32> {
     // 27. Does the answer fit? (0)
     ask(new.len() <= rewritten.len(), 27, 0)?;
     rewritten[..new.len()].copy_from_slice(new);

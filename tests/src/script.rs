@@ -341,13 +341,19 @@ pub fn read_script(tables: &Tables, bytes: &[u8], buffers: &[usize]) -> Answer<R
     read_records(tables, &whole_records(bytes, buffers)?)
 }
 
-/// Questions 14 to 19, then the term.
-pub fn read_records(tables: &Tables, records: &[Record]) -> Answer<Rc<Term>> {
+/// Questions 14 to 18.
+pub fn read_form(tables: &Tables, records: &[Record]) -> Answer<()> {
     fields(records)?;
     named_groups(tables, records)?;
     named_types(tables, records)?;
     one_term(records)?;
     shallow(records, 0, 1)?;
+    Ok(())
+}
+
+/// Questions 14 to 19, then the term.
+pub fn read_records(tables: &Tables, records: &[Record]) -> Answer<Rc<Term>> {
+    read_form(tables, records)?;
     let (term, _) = parse(records, 0);
     bound(&term, 0, 0)?;
     Ok(term)

@@ -104,8 +104,28 @@ fn compare_all(rng: &mut Rng, inputs: &Inputs) -> usize {
     strip_script(&mut inputs.script.clone());
     strip_types(&mut inputs.types.clone());
     // Six calls with lent buffers and a preview, two checks of tables, four and three look-ups, two strippings, the
-    // rewriting.
-    18 + compare_rewriting(rng, &old_form(inputs))
+    // rewriting, the old office program's.
+    let exported = compare_export(rng, inputs);
+    18 + compare_rewriting(rng, &old_form(inputs)) + 1 + compare_import(rng, &exported)
+}
+
+/// Export into a buffer of about the length that it takes. Gives what stands in a long one.
+fn compare_export(rng: &mut Rng, inputs: &Inputs) -> Inputs {
+    let length = inputs.script.len() / SCRIPT_BYTES * OFFICE_BYTES;
+    let lent = near(rng, length);
+    let lent = rng.bytes(lent);
+    let _ = export_with(inputs, lent);
+    let (_, script) = export_in(inputs, length);
+    Inputs { script, ..inputs.clone() }
+}
+
+/// Import and the callers of an old office script.
+fn compare_import(rng: &mut Rng, old: &Inputs) -> usize {
+    let lent = near(rng, old.script.len() / OFFICE_BYTES * SCRIPT_BYTES);
+    let lent = rng.bytes(lent);
+    let _ = import_with(old, lent);
+    write_office_callers(&old.types, &mut old.script.clone());
+    2
 }
 
 /// The three rewriting calls on inputs of the old form.
@@ -269,6 +289,59 @@ fn damaged_old_forms() {
             _ => {}
         }
         compare_rewriting(rng, &old)
+    });
+}
+
+#[test]
+fn office_scripts() {
+    // Chance names over scripts of all kinds; some miss by a field, some are damaged.
+    comparisons(some(12_000), |rng| {
+        let world = World::random(rng);
+        let fuel = rng.below(80);
+        let term = match rng.below(4) {
+            0 => untyped_script(rng, &world.tables, fuel),
+            1 if rng.one_in(4) => {
+                let depth = rng.between(MOST_DEPTH - 6, MOST_DEPTH + 4);
+                deep_script(rng, &world.tables, depth)
+            }
+            _ => typed(rng, &world),
+        };
+        let mut old = inputs_of(&world, &term);
+        old.script = office_script(rng, &term);
+        match rng.below(8) {
+            0 => old.groups = damaged(rng, &old.groups),
+            1 => old.types = damaged(rng, &old.types),
+            2 => old.script = damaged(rng, &old.script),
+            3 | 4 => old.script = near_miss_office(rng, &old.script),
+            _ => {}
+        }
+        compare_import(rng, &old)
+    });
+}
+
+#[test]
+fn small_raw_office_bytes() {
+    // Small numbers and few names everywhere.
+    comparisons(some(12_000), |rng| {
+        let mut script: Vec<u8> = Vec::new();
+        for _ in 0..rng.between(1, 6) {
+            let kind = *rng.pick(&[0, 0, 1, 2, 2, 3, 4, 9, 9, 11, 12]);
+            let number = if rng.one_in(3) { rng.below(5) as u8 } else { 0 };
+            let mut record = [kind, 0, 0, 0, number, 0, 0, 0, 0, 0];
+            for at in [6, 8] {
+                record[at] = (rng.below(3) * rng.below(2)) as u8;
+                record[at + 1] = rng.one_in(9) as u8;
+            }
+            if !matches!(kind, 0 | 2 | 9 | 11) && !rng.one_in(8) {
+                record[6..8].fill(0);
+            }
+            if kind != 9 && !rng.one_in(8) {
+                record[8..].fill(0);
+            }
+            script.extend(record);
+        }
+        let (groups, types) = (cases::two_groups(), cases::case_types());
+        compare_import(rng, &Inputs { groups, types, script })
     });
 }
 

@@ -3,6 +3,7 @@
 use std::fs;
 use std::path::{Path, PathBuf};
 use wigneld_tests::limits::SCRIPT_BYTES;
+use wigneld_tests::office::{import, write_office_callers};
 use wigneld_tests::report::report;
 
 fn path(name: &str, file: &str) -> PathBuf {
@@ -116,6 +117,23 @@ fn gallery_screen() {
         assert_eq!(printed.lines().nth(3), Some(side));
         assert_eq!(printed.lines().last(), Some(format!("number 0 0 {}", days + 1).as_str()));
     }
+}
+
+#[test]
+fn old_panel() {
+    let name = "old-panel";
+    prints_expected(name);
+    let (groups, types, office) = (read(name, "groups"), read(name, "types"), read(name, "office"));
+    // Nobody wrote whom the rule, record 6, calls itself as: by its type it is the bench.
+    let mut called = office.clone();
+    assert_eq!(write_office_callers(&types, &mut called), 1);
+    let mut script = vec![0; office.len()];
+    let length = read(name, "script").len();
+    assert_eq!(import(&groups, &types, &called, &mut script), Ok((length / SCRIPT_BYTES) as u32));
+    assert_eq!(script[..length], read(name, "script"));
+    // Without that it is anyone, who may not call it.
+    assert_eq!(import(&groups, &types, &office, &mut script), Ok((length / SCRIPT_BYTES) as u32));
+    assert_eq!(printed(name, &script[..length]), "refused 21 at 6\n");
 }
 
 #[test]

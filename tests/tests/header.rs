@@ -254,13 +254,23 @@ const OLD_WIDTHS: [(&str, usize, &str); 2] = [
     ("OLD_TYPE_RECORD_BYTES", OLD_TYPE_BYTES, "rewriting::OLD_TYPE_WIDTH"),
     ("OLD_SCRIPT_RECORD_BYTES", OLD_SCRIPT_BYTES, "rewriting::OLD_SCRIPT_WIDTH"),
 ];
-const OFFICE_OTHERS: [&str; 10] = [
+const OFFICE: [(&str, usize, &str); 5] = [
+    ("OFFICE_RECORD_BYTES", OFFICE_BYTES, "rewriting::OFFICE_WIDTH"),
+    ("OFFICE_AT_FIRST_NAME", 6, ""),
+    ("OFFICE_AT_SECOND_NAME", 8, ""),
+    ("MOST_OFFICE_RECORDS", MOST_OFFICE_RECORDS, "rewriting::OFFICE_LIMIT"),
+    ("OFFICE_LONGEST_BYTES", MOST_OFFICE_RECORDS * OFFICE_BYTES, ""),
+];
+const OFFICE_OTHERS: [&str; 13] = [
     "COMPARE_STACK_BYTES",
     "IN_FORCE_STACK_BYTES",
     "WRITE_CALLERS_STACK_BYTES",
     "REWRITE_SCRIPT_STACK_BYTES",
     "REWRITE_TYPES_STACK_BYTES",
     "CHECK_PROFILE_STACK_BYTES",
+    "IMPORT_STACK_BYTES",
+    "EXPORT_STACK_BYTES",
+    "WRITE_OFFICE_CALLERS_STACK_BYTES",
     "COMPARE_NEITHER",
     "COMPARE_BELOW",
     "COMPARE_SAME",
@@ -305,8 +315,7 @@ fn every_constant_is_the_engines() {
         }
     }
     holds_all("wigneld", &all, &OTHERS);
-    let mut offices = owned(&LISTS);
-    offices.extend(owned(&OLD_WIDTHS));
+    let offices = [owned(&LISTS), owned(&OLD_WIDTHS), owned(&OFFICE)].concat();
     holds_all("wigneld_office", &offices, &OFFICE_OTHERS);
 }
 

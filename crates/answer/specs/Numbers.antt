@@ -1,7 +1,7 @@
 -- The numbers that the documents give the questions.
 use Rattle.std.specs.Prelude.{ℕ}
 use Rattle.answer.specs.declared.Question.{Question}
-use Rattle.answer.specs.declared.Question.TheVariants.{BufferLengths, GroupsLength, BitsInTable, LowestBit, Transitive, Joins, LowestGroup, TypesLength, TypeFields, TypeReaders, WholeTypes, TypeLengths, ScriptLength, Fields, Groups, NamedTypes, OneTerm, Depth, Scope, Former, Reader, Wanted, Recursion, FoundLength, Given, Value, Room, CommonType, WordsLength, Letters, DistinctWords, Preview, Creators, Profile, Lists, ReplacedOnce, AmendedType}
+use Rattle.answer.specs.declared.Question.TheVariants.{BufferLengths, GroupsLength, BitsInTable, LowestBit, Transitive, Joins, LowestGroup, TypesLength, TypeFields, TypeReaders, WholeTypes, TypeLengths, ScriptLength, Fields, Groups, NamedTypes, OneTerm, Depth, Scope, Former, Reader, Wanted, Recursion, FoundLength, Given, Value, Room, CommonType, WordsLength, Letters, DistinctWords, Preview, Creators, Profile, Lists, ReplacedOnce, AmendedType, OfficeLength, UnusedNames, BoundNames}
 
 abbrev pub number : Question → ℕ
 number BufferLengths = 1
@@ -31,6 +31,9 @@ number FoundLength = 24
 number Given = 25
 number Value = 26
 number Room = 27
+number OfficeLength = 28
+number UnusedNames = 29
+number BoundNames = 30
 number CommonType = 31
 number WordsLength = 32
 number Letters = 33

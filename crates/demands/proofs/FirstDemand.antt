@@ -20,9 +20,11 @@ use Rattle.rules.specs.Sheet.{sheet}
 use Rattle.rules.specs.Calls.{zeros, q1, q25, q26, q27, groups_check, types_check, comparing, script_check, checking, answer_after, work_after, stepping, written_after, running, first_after, scratch_after, sheeting, sheet_after}
 use Rattle.rules.specs.Profile.{ok39, q39, profile_checking}
 use Rattle.rules.specs.Preview.{Preview, q35, previewing, moving}
+use Rattle.rules.specs.Office.{form_check}
 use Rattle.rules.specs.Rewriting.{widen_types, widen_script, old_types_check, rewriting_types, rewriting_script, rewritten_after}
 use Rattle.rules.proofs.Asked.{regroup}
-use Rattle.demands.specs.Questions.{question, of_groups, from_9, of_types, from_14, of_script, of_old_types, of_old_script, Checks}
+use Rattle.demands.specs.Questions.{question, of_groups, from_9, of_types, from_14, of_script, of_old_types, of_old_script, Checks, of_form}
+use Rattle.rules.proofs.Form.{form_then}
 use Rattle.demands.specs.Demands.{Demand1}
 use Rattle.demands.proofs.Deciding.{Own, Decided, decides, ask_own, each_own, exactly_own, decided_one, decided_then, decided_yes, then_found, checks_more, Numbers, refusal_number}
 use Rattle.demands.proofs.Places.{typing_placed, placed_refusal}
@@ -64,17 +66,24 @@ pub types_decided : (g t : Bytes) → Decided (of_groups g ++ of_types g t) (typ
 unfolding types_check
 types_decided g t = decided_then (groups_check g) _ (groups_decided g) (decided_then (q8 t) _ (decided_one (own_8 type_width t)) (later_types g t))
 
-later_script : (g t s : Bytes) → Decided (from_14 g t s) (after_13 g t s)
-later_script g t s =
+-- 14 to 18
+pub form_decided : (g t s : Bytes) → Decided (of_form g t s) (form_check g t s)
+unfolding form_check
+form_decided g t s =
     decided_then (q14 s) _ (decided_one (each_own 14 (records s) (ok14 s)))
     (decided_then (q15 g s) _ (decided_one (each_own 15 (records s) (ok15 g s)))
     (decided_then (q36_objects g s) _ (decided_one (each_own 36 (records s) (ok36_object g s)))
     (decided_then (q16 t s) _ (decided_one (each_own 16 (records s) (ok16 t s)))
-    (decided_then (q17 s) _ (decided_one (exactly_own (records s) (term_end s 0)))
-    (decided_then (q18 s) (q19 s) (decided_one (each_own 18 (records s) (ok18 (depths (term s)))))
-    (decided_one (each_own 19 (records s) (ok19 (binders (term s)) s))))))))
+    (decided_then (q17 s) (q18 s) (decided_one (exactly_own (records s) (term_end s 0)))
+    (decided_one (each_own 18 (records s) (ok18 (depths (term s)))))))))
 
-script_decided : (rooms : List ℕ) (g t s : Bytes) → Decided (of_groups g ++ of_types g t ++ of_script rooms g t s) (script_check rooms g t s)
+later_script : (g t s : Bytes) → Decided (from_14 g t s) (after_13 g t s)
+unfolding form_check
+later_script g t s =
+    rw (form_then g t s (q19 s))
+    (decided_then (form_check g t s) (q19 s) (form_decided g t s) (decided_one (each_own 19 (records s) (ok19 (binders (term s)) s))))
+
+pub script_decided : (rooms : List ℕ) (g t s : Bytes) → Decided (of_groups g ++ of_types g t ++ of_script rooms g t s) (script_check rooms g t s)
 unfolding script_check
 script_decided rooms g t s =
     decided_then (types_check g t) _ (types_decided g t) (decided_then (q13 rooms s) _ (decided_one (own_13 script_width rooms s)) (later_script g t s))

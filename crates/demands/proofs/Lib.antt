@@ -27,6 +27,7 @@ pub mod Demands
 pub mod Comparison
 pub mod Closed
 pub mod GroupZero
+pub mod Recalled
 pub mod MigratedScripts
 pub mod Migration
 pub mod CommonTypes
@@ -36,3 +37,6 @@ pub mod RecordKinds
 pub mod Noninterference
 pub mod Preview
 pub mod InForce
+pub mod Imports
+pub mod Exports
+pub mod OfficeCallers

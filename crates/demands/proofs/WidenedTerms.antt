@@ -16,9 +16,10 @@ use Rattle.calculus.specs.Creators.{rewritten}
 use Rattle.rules.specs.Answer.{Bytes}
 use Rattle.rules.specs.Types.{type_count, type_at, no_type, make_type, parse_types, sides}
 use Rattle.rules.specs.Script.{arity, make, no_term, parse, term}
-use Rattle.rules.specs.Callers.{old_type_count, old_type_r, old_records, old_kind, old_r, recursion_of_type, write_callers}
+use Rattle.rules.specs.Limits.{old_type_width}
+use Rattle.rules.specs.Callers.{old_type_count, old_type_r, old_records, old_kind, old_r, caller, put_callers, write_callers}
 use Rattle.rules.specs.Rewriting.{widen_types, widen_script}
-use Rattle.rules.proofs.Callers.{record_past}
+use Rattle.rules.proofs.Callers.{record_past, callers_first}
 use Rattle.rules.proofs.TypePlaces.{Standing, r_at, type_at_outside}
 use Rattle.rules.proofs.Widening.{widen_types_drop, widen_types_byte, widen_types_count}
 
@@ -31,9 +32,9 @@ map_drop f (suc n) (x ∷ xs) = map_drop f n xs
 abbrev Uncalled : Bytes → Type 0
 Uncalled s = (i : ℕ) → i < old_records s → old_kind s i ≡ 11 → old_r s i ≡ 0
 
-module _ (caller : Property → Reader → Reader) (tab : ℕ → Ty) where
+module _ (called : Property → Reader → Reader) (tab : ℕ → Ty) where
   abbrev R : Labels
-  R = rewritten caller tab
+  R = rewritten called tab
 
   -- Types.
   made_type : (k r ir : ℕ) (a b : Ty)
@@ -72,7 +73,7 @@ module _ (caller : Property → Reader → Reader) (tab : ℕ → Ty) where
 
   -- Terms. A record whose r is the group of the call, where it is a recursion.
   abbrev Put : ℕ → ℕ → ℕ → ℕ → Type 0
-  Put k n r r' = (k ≡ 11 → r' ≡ caller (top (tab n)) r) × ((k ≡ 11 → ⊥) → r' ≡ r)
+  Put k n r r' = (k ≡ 11 → r' ≡ called (top (tab n)) r) × ((k ≡ 11 → ⊥) → r' ≡ r)
 
   made : (k r r' ir n : ℕ) (a b d : Term) → Put k n r r'
       → make k r' ir n 0 0 (relabel R a) (relabel R b) (relabel R d) ≡ relabel R (make k r ir n 0 0 a b d)
@@ -105,7 +106,7 @@ module _ (caller : Property → Reader → Reader) (tab : ℕ → Ty) where
       (ap₂ ◌∷◌ (made k r r' ir n (get_or ts 0 no_term) (get_or ts 1 no_term) (get_or ts 2 no_term) h) (ap (drop (arity k)) e ∙ map_drop (relabel R) (arity k) ts))
 
   -- a script as it stands, where the call is made as the group that is written
-  pub kept_parse : ((n r : ℕ) → r ≡ caller (top (tab n)) r) → (s : Bytes) → parse (widen_script s) ≡ map (relabel R) (parse (widen_script s))
+  pub kept_parse : ((n r : ℕ) → r ≡ called (top (tab n)) r) → (s : Bytes) → parse (widen_script s) ≡ map (relabel R) (parse (widen_script s))
   unfolding parse widen_script
   kept_parse h [] = refl
   kept_parse h (k ∷ []) = refl
@@ -117,11 +118,11 @@ module _ (caller : Property → Reader → Reader) (tab : ℕ → Ty) where
       in_front k r r ir (lo + 256 * hi) (parse (widen_script s)) (parse (widen_script s)) (λ e. h (lo + 256 * hi) r, λ ne. refl) (kept_parse h s)
 
   -- one whose recursions hold 0 in r, with r of their type written
-  module _ (t : Bytes) (calls : (n : ℕ) → cond (ltb n (old_type_count t)) (old_type_r t n) 0 ≡ caller (top (tab n)) 0) where
-    put : (k r n : ℕ) → (k ≡ 11 → r ≡ 0) → Put k n r (cond (recursion_of_type t k n) (old_type_r t n) r)
+  module _ (t : Bytes) (calls : (n : ℕ) → cond (ltb n (old_type_count t)) (old_type_r t n) 0 ≡ called (top (tab n)) 0) where
+    put : (k r n : ℕ) → (k ≡ 11 → r ≡ 0) → Put k n r (caller old_type_width t k r n)
     put k r n h = (λ e. rw (e, h e) (calls n), λ ne. other ne (eqb k 11) refl)
       where
-        other : (k ≡ 11 → ⊥) → (b : Bool) → eqb k 11 ≡ b → cond (recursion_of_type t k n) (old_type_r t n) r ≡ r
+        other : (k ≡ 11 → ⊥) → (b : Bool) → eqb k 11 ≡ b → caller old_type_width t k r n ≡ r
         other ne true e = absurd (ne (eqb-true k 11 e))
         other ne false e = rw e
 
@@ -131,7 +132,7 @@ module _ (caller : Property → Reader → Reader) (tab : ℕ → Ty) where
         ∙ h (suc i) (omega arith) (record_past a b c d e f s (6 * suc i) (6 * i) (omega arith) ∙ k)
 
     pub put_parse : (s : Bytes) → Uncalled s → parse (widen_script (write_callers t s)) ≡ map (relabel R) (parse (widen_script s))
-    unfolding parse widen_script write_callers
+    unfolding parse widen_script put_callers
     put_parse [] h = refl
     put_parse (k ∷ []) h = refl
     put_parse (k ∷ r ∷ []) h = refl
@@ -139,7 +140,8 @@ module _ (caller : Property → Reader → Reader) (tab : ℕ → Ty) where
     put_parse (k ∷ r ∷ ir ∷ z ∷ []) h = refl
     put_parse (k ∷ r ∷ ir ∷ z ∷ lo ∷ []) h = refl
     put_parse (k ∷ r ∷ ir ∷ z ∷ lo ∷ hi ∷ s) h =
-        in_front k r _ ir (lo + 256 * hi) (parse (widen_script s)) (parse (widen_script (write_callers t s))) (put k r (lo + 256 * hi) (h 0 (omega arith)))
+        ap (λ (b : Bytes). parse (widen_script b)) (callers_first t k r ir z lo hi s)
+        ∙ in_front k r _ ir (lo + 256 * hi) (parse (widen_script s)) (parse (widen_script (write_callers t s))) (put k r (lo + 256 * hi) (h 0 (omega arith)))
         (put_parse s (later k r ir z lo hi s h))
 
   -- the first term

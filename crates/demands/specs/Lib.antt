@@ -9,3 +9,4 @@ pub mod Profile
 pub mod Noninterference
 pub mod Preview
 pub mod InForce
+pub mod Office

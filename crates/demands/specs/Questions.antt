@@ -1,11 +1,12 @@
 -- "The first no gives its number and the place": a call's questions as a list, and what its answer says of them.
-use Rattle.std.specs.Prelude.{◌≡◌, ◌↔◌, List, [], ◌∷◌, ℕ}
+use Rattle.std.specs.Prelude.{◌≡◌, ◌↔◌, List, [], ◌∷◌, ◌++◌, ℕ}
 use Rattle.rules.specs.Answer.{Bytes, Answer, accepted, refused, ◌>>◌}
 use Rattle.rules.specs.Groups.{q2, q3, q4, q5, q6, q7}
 use Rattle.rules.specs.Limits.{old_type_width, old_script_width}
 use Rattle.rules.specs.Types.{q8_of, q8, q9, q10, q36_types, q11, q12}
 use Rattle.rules.specs.Script.{q13_of, q13, q14, q15, q36_objects, q16, q17, q18, q19}
 use Rattle.rules.specs.Rewriting.{widen_types, widen_script}
+use Rattle.rules.specs.Office.{nameless, q28, q29, q30}
 
 -- a question's number and its answer
 pub record Question : Type 0 where
@@ -25,16 +26,18 @@ from_9 g t = question 9 (q9 g t) ∷ question 10 (q10 g t) ∷ question 36 (q36_
 abbrev pub of_types : Bytes → Bytes → List Question
 of_types g t = question 8 (q8 t) ∷ from_9 g t
 
-abbrev pub from_14 : Bytes → Bytes → Bytes → List Question
-from_14 g t s =
+abbrev pub of_form : Bytes → Bytes → Bytes → List Question
+of_form g t s =
     question 14 (q14 s)
     ∷ question 15 (q15 g s)
     ∷ question 36 (q36_objects g s)
     ∷ question 16 (q16 t s)
     ∷ question 17 (q17 s)
     ∷ question 18 (q18 s)
-    ∷ question 19 (q19 s)
     ∷ []
+
+abbrev pub from_14 : Bytes → Bytes → Bytes → List Question
+from_14 g t s = of_form g t s ++ (question 19 (q19 s) ∷ [])
 
 abbrev pub of_script : List ℕ → Bytes → Bytes → Bytes → List Question
 of_script rooms g t s = question 13 (q13 rooms s) ∷ from_14 g t s
@@ -45,6 +48,10 @@ of_old_types g t = question 8 (q8_of old_type_width t) ∷ from_9 g (widen_types
 
 abbrev pub of_old_script : Bytes → Bytes → Bytes → List Question
 of_old_script g t s = question 13 (q13_of old_script_width [] s) ∷ from_14 g (widen_types t) (widen_script s)
+
+-- Item 1: "Import asks .. 28, 14 to 18, 29, 30"; the six of the form are asked of the first six bytes of each record.
+abbrev pub of_office : Bytes → Bytes → Bytes → List Question
+of_office g t s = question 28 (q28 s) ∷ [] ++ of_form g t (nameless s) ++ (question 29 (q29 s) ∷ question 30 (q30 s) ∷ [])
 
 -- all are answered yes
 pub data AllYes : List Question → Type 0 where

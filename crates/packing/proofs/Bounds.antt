@@ -4,10 +4,10 @@ use Rattle.std.proofs.Common.{Result, Ok, Err, IfErr, ◌<◌, sym, subst, ◌�
 use Rattle.std.proofs.Math.Option.{Option, none, some}
 use Rattle.calculus.specs.Terms.{is_value}
 use Rattle.rules.specs.Answer.{Bytes, Octets, Answer, accepted, refused, ◌>>=◌, ◌>>◌, ask, first_from, refused_at, each, all_below}
-use Rattle.rules.specs.Limits.{row_width, type_width, script_width, old_type_width, old_script_width, group_limit, table_limit, script_limit, word_limit, words_length, last_question, work_length, answer_length}
+use Rattle.rules.specs.Limits.{row_width, type_width, script_width, old_type_width, old_script_width, group_limit, table_limit, script_limit, word_limit, words_length, last_question, work_length, answer_length, office_width, office_limit}
 use Rattle.rules.specs.Groups.{rows, properties_of, ok3, ok4, ok5, ok6, ok7, q2, q3, q4, q5, q6}
 use Rattle.rules.specs.Types.{type_count, type_at, ok9, ok10, ok36_type, ok11, ok12, q8_of, q8, q9, q10, q36_types, q11}
-use Rattle.rules.specs.Script.{records, arity, kind, term, size, depths, binders, term_end, exactly, ok14, ok15, ok36_object, ok16, ok18, ok19, q13_of, q13, q14, q15, q36_objects, q16, q17, q18}
+use Rattle.rules.specs.Script.{records, arity, kind, term, size, depths, binders, term_end, exactly, ok14, ok15, ok36_object, ok16, ok18, ok19, q13_of, q13, q14, q15, q36_objects, q16, q17, q18, q19}
 use Rattle.rules.specs.Typing.{of_typing, typing}
 use Rattle.rules.specs.Sheet.{sheet}
 use Rattle.rules.specs.Step.{End, end_number, end_count}
@@ -16,6 +16,10 @@ use Rattle.rules.specs.Words.{q32, q33, ok33, ok34, words_check}
 use Rattle.rules.specs.Calls.{q1, q25, q26, q27, groups_check, types_check, comparing, script_check, checking, stepping, running, sheeting}
 use Rattle.rules.specs.Profile.{ok39, q39, profile_checking}
 use Rattle.rules.specs.Rewriting.{widen_types, widen_script, old_types_check, old_script_check, rewriting_types, rewriting_script}
+use Rattle.rules.specs.Names.{scopes}
+use Rattle.rules.specs.Office.{office_records, nameless, named_term, form_check, ok29, ok30, q28, q29, q30, imported, importing, exported, q28_of_export, exporting}
+use Rattle.rules.proofs.Form.{form_then}
+use Rattle.rules.proofs.Office.{q28_measured, nameless_records}
 use Rattle.rules.proofs.ScriptLength.{q13_fitting}
 use Rattle.rules.proofs.Scripts.{whole}
 use Rattle.rules.proofs.WayBack.{end_bound}
@@ -113,19 +117,25 @@ compare_bounded g t i j =
     then (q25 0 i (type_count t)) _ (front 25 (ltb i (type_count t)) (omega arith) (omega arith)) λ e25.
     then (q25 1 j (type_count t)) _ (ask_bounded 25 1 (ltb j (type_count t)) (omega arith) (omega arith) (omega arith)) λ f25. bounded_yes
 
-pub script_bounded : (rooms : List ℕ) (g t s : Bytes) → Bounded (script_check rooms g t s)
-unfolding script_check term_end
-script_bounded rooms g t s =
-    then (types_check g t) _ (types_bounded g t) λ e12.
-    then (q13 rooms s) _ (at_13 script_width rooms s) λ e13.
-    let n : records s ≤ script_limit = (q13_fitting rooms s e13).limited in
+-- 14 to 18 of so many records
+form_bounded : (g t s : Bytes) → records s ≤ script_limit → Bounded (form_check g t s)
+unfolding form_check term_end
+form_bounded g t s n =
     then (q14 s) _ (each_bounded 14 (records s) (ok14 s) (omega arith) (omega arith) n) λ e14.
     then (q15 g s) _ (each_bounded 15 (records s) (ok15 g s) (omega arith) (omega arith) n) λ e15.
     then (q36_objects g s) _ (each_bounded 36 (records s) (ok36_object g s) (omega arith) (omega arith) n) λ e36.
     then (q16 t s) _ (each_bounded 16 (records s) (ok16 t s) (omega arith) (omega arith) n) λ e16.
     then (q17 s) _ (exactly_bounded (records s) (term_end s 0) n (λ e h. omega (arith, end_bound (λ j. arity (kind s j)) (records s - 0) 1 0 e h))) λ e17.
-    then (q18 s) _ (each_bounded 18 (records s) (ok18 (depths (term s))) (omega arith) (omega arith) n) λ e18.
-    each_bounded 19 (records s) (ok19 (binders (term s)) s) (omega arith) (omega arith) n
+    each_bounded 18 (records s) (ok18 (depths (term s))) (omega arith) (omega arith) n
+
+pub script_bounded : (rooms : List ℕ) (g t s : Bytes) → Bounded (script_check rooms g t s)
+unfolding script_check
+script_bounded rooms g t s =
+    then (types_check g t) _ (types_bounded g t) λ e12.
+    then (q13 rooms s) _ (at_13 script_width rooms s) λ e13.
+    let n : records s ≤ script_limit = (q13_fitting rooms s e13).limited in
+    rw (form_then g t s (q19 s))
+    (then (form_check g t s) _ (form_bounded g t s n) λ e18. each_bounded 19 (records s) (ok19 (binders (term s)) s) (omega arith) (omega arith) n)
 
 -- how many records a script has that passes
 script_records : (rooms : List ℕ) (g t s : Bytes) → script_check rooms g t s ≡ accepted tt → records s ≤ script_limit
@@ -184,6 +194,25 @@ pub rewriting_script_bounded : (g t s : Bytes) (room : ℕ) → Bounded (rewriti
 unfolding rewriting_script
 rewriting_script_bounded g t s room =
     then (old_script_check g t s) _ (old_script_bounded g t s) λ e19. then (q27 (widen_script s) room) _ (at_27 (widen_script s) room) λ e27. bounded_yes
+
+-- import and export
+pub importing_bounded : (g t s : Bytes) (room : ℕ) → Bounded (importing g t s room)
+unfolding importing
+importing_bounded g t s room =
+    then (types_check g t) _ (types_bounded g t) λ e12.
+    then (q28 s) _ (front 28 (eqb (length s % office_width) 0 && (leb 1 (office_records s) && leb (office_records s) office_limit)) (omega arith) (omega arith)) λ e28.
+    let n : office_records s ≤ script_limit = omega (arith, (q28_measured s e28).limited) in
+    then (form_check g t (nameless s)) _ (form_bounded g t (nameless s) (omega (arith, nameless_records s))) λ e18.
+    then (q29 s) _ (each_bounded 29 (office_records s) (ok29 s) (omega arith) (omega arith) n) λ e29.
+    then (q30 s) _ (each_bounded 30 (office_records s) (ok30 (scopes [] (named_term s)) s) (omega arith) (omega arith) n) λ e30.
+    then (q27 (imported s) room) _ (at_27 (imported s) room) λ e27. bounded_yes
+
+pub exporting_bounded : (g t s : Bytes) (room : ℕ) → Bounded (exporting g t s room)
+unfolding exporting
+exporting_bounded g t s room =
+    then (script_check [] g t s) _ (script_bounded [] g t s) λ e19.
+    then (q28_of_export s) _ (front 28 (leb (records s) office_limit) (omega arith) (omega arith)) λ e28.
+    then (q27 (exported s) room) _ (at_27 (exported s) room) λ e27. bounded_yes
 
 -- typing refuses at a record of the script, which has at most 8,192
 typing_range : (q : ℕ) → of_typing q ≡ true → (20 ≤ q) × (q ≤ 31)

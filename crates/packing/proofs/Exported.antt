@@ -2,7 +2,7 @@
 use Rattle.std.proofs.Common.{◌≡◌, refl, sym, ap, ap₂, ◌∙◌, subst, [], ◌∷◌, ℕ, ◌/◌, ◌≤◌, ◌<◌, min, arith, leb-true, length}
 use Rattle.calculus.specs.Types.{Ty, size_t, type_limit}
 use Rattle.rules.specs.Answer.{Bytes, Octets, Answer, accepted, refused, ◌>>=◌, ◌>>◌}
-use Rattle.rules.specs.Limits.{type_width, script_width, old_type_width, old_script_width, sheet_width, table_limit, script_limit}
+use Rattle.rules.specs.Limits.{type_width, script_width, old_type_width, old_script_width, sheet_width, table_limit, script_limit, office_width}
 use Rattle.rules.specs.Groups.{rows, properties_of}
 use Rattle.rules.specs.Types.{type_at, q8, q8_of}
 use Rattle.rules.specs.Comparison.{Comparison, same, below, neither}
@@ -14,6 +14,10 @@ use Rattle.rules.specs.Sheet.{sheet}
 use Rattle.rules.specs.Run.{Ran}
 use Rattle.rules.specs.Calls.{q1, q25, q26, q27, groups_check, types_check, script_check, checking, type_records, stepping, step_report, running, run_report, sheeting, sheet_records}
 use Rattle.rules.specs.Profile.{q39, profile_checking}
+use Rattle.rules.specs.Office.{importing, q28_of_export, exported, exporting}
+use Rattle.rules.proofs.Office.{q28_measured}
+use Rattle.demands.proofs.Imports.{import_yes, imports}
+use Rattle.demands.proofs.Exports.{exports}
 use Rattle.rules.specs.Rewriting.{widen_types, widen_script, old_types_check, old_script_check, rewriting_types, rewriting_script, rewritten_records}
 use Rattle.rules.specs.Preview.{Preview, q35, previewing, moving}
 use Rattle.demands.proofs.Answers.{accepted≢refused, accepted_inj}
@@ -21,7 +25,7 @@ use Rattle.rules.proofs.Asked.{and_then, few_types}
 use Rattle.demands.proofs.TypesTable.{tables}
 use Rattle.packing.specs.Packed.{packed, compared, ended, step_ended, run_ended, preview_ended, half, end_of, count_of, StepCounted, PreviewCounted, preview_yes, preview_no, counted_yes, counted_no, Bounded, bounded_yes, bounded_no, Holds, holds_yes, holds_no}
 use Rattle.packing.proofs.Unpacked.{Reads, unended}
-use Rattle.packing.proofs.Bounds.{check_bounded, profile_bounded, run_bounded, page_bounded, preview_bounded, move_bounded, rewriting_types_bounded, rewriting_script_bounded, script_small}
+use Rattle.packing.proofs.Bounds.{check_bounded, profile_bounded, run_bounded, page_bounded, preview_bounded, move_bounded, rewriting_types_bounded, rewriting_script_bounded, script_small, importing_bounded, exporting_bounded}
 use Rattle.packing.proofs.Sizes.{Small, small_yes, small_no, no_binders, typing_small, Within, within_move, step_within, Ends, run_within, sheet_length}
 
 pub records_bounded : (a : Answer Ty) → Bounded a → Bounded (type_records a)
@@ -120,6 +124,23 @@ types_rewritten_hold g t room =
 pub script_rewritten_holds : (g t s : Bytes) (room : ℕ) → Holds (rewritten_records script_width (rewriting_script g t s room))
 script_rewritten_holds g t s room =
     rewritten_holds script_width (rewriting_script g t s room) (rewriting_script_bounded g t s room) (λ b e. script_rewritten g t s b room e)
+
+-- What is imported and exported has at most 6,000 records.
+pub importing_holds : (g t s : Bytes) (room : ℕ) → Octets s → Holds (rewritten_records script_width (importing g t s room))
+importing_holds g t s room o =
+    rewritten_holds script_width (importing g t s room) (importing_bounded g t s room)
+    (λ b e. omega (arith, (imports g t s o).counted room b e, (q28_measured s (import_yes g t s room b e).length_yes).limited))
+
+pub exporting_holds : (g t s : Bytes) (room : ℕ) → Octets s → Holds (rewritten_records office_width (exporting g t s room))
+unfolding exporting script_check
+exporting_holds g t s room o =
+    rewritten_holds office_width (exporting g t s room) (exporting_bounded g t s room)
+    (λ b e. omega (arith, (exports g t s o).counted room b e, few b e))
+  where
+    few : (b : Bytes) → exporting g t s room ≡ accepted b → records s ≤ script_limit
+    few b e =
+        let a = and_then (types_check g t) _ (and_then (script_check [] g t s) _ e).0 in
+        (q13_fitting [] s (and_then (q13 [] s) _ a.1).0).limited
 
 -- a run's end and count
 pub run_ends : (g t s : Bytes) (budget first scratch : ℕ) (x : Ran) → Octets s → running g t s budget first scratch ≡ accepted x → Ends x

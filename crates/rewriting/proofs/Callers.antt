@@ -1,14 +1,14 @@
--- A loop that writes the callers, a record a turn.
-use Rattle.std.proofs.Common.{◌≡◌, refl, sym, ap, ap₂, ◌∙◌, Bool, true, false, cond, ◌&&◌, [], ◌∷◌, ◌++◌, append_assoc, ℕ, ◌+◌, ◌*◌, ◌≤◌, ◌<◌, arith, ltb-true, eqb, ltb, length, take, drop, set, take-append-drop, length-drop}
+-- A loop that writes the callers, a record a turn, in records of any width.
+use Rattle.std.proofs.Common.{◌≡◌, refl, sym, ap, ap₂, ◌∙◌, Bool, true, false, cond, ◌&&◌, [], ◌∷◌, ◌++◌, append_assoc, ℕ, zero, suc, ◌+◌, ◌*◌, ◌-◌, ◌/◌, ◌≤◌, ◌<◌, arith, ltb-true, eqb, ltb, length, take, drop, set, take-append-drop, length-drop}
 use mir.Val.{bool_byte}
-use Rattle.std.proofs.Math.Seq.{set-get_or}
-use Rattle.rules.specs.Answer.{Bytes}
-use Rattle.rules.specs.Limits.{old_script_width}
-use Rattle.rules.specs.Callers.{old_type_count, old_type_r, old_records, old_kind, old_r, old_number, recursion_of_type, write_callers, callers_written}
-use Rattle.rules.proofs.Callers.{caller_at, callers_r}
+use Rattle.std.proofs.Math.Seq.{set-get_or, get_or-drop}
+use Rattle.std.proofs.Math.Nat.{mul-add}
+use Rattle.rules.specs.Answer.{Bytes, byte}
+use Rattle.rules.specs.Callers.{recursion_of_type, caller, first_number, put_callers, count_callers, write_callers_of, callers_written_of}
+use Rattle.rules.proofs.Callers.{next_record}
 use Rattle.rules.proofs.Prefix.{record_at}
 use Rattle.rules.proofs.Parts.{record_byte, record_first}
-use Rattle.rewriting.specs.Caller.{recursion_at, WrittenAt}
+use Rattle.rewriting.specs.Caller.{number_at, recursion_at, caller_at, WrittenAt}
 use Rattle.rewriting.proofs.SetByte.{set_up_to, set_past}
 
 and_second : (a b : Bool) → a && b ≡ true → b ≡ true
@@ -25,89 +25,109 @@ pub at_most_one : (b : Bool) → bool_byte b ≤ 1
 at_most_one true = omega arith
 at_most_one false = omega arith
 
-pub names_type : (t : Bytes) (k n : ℕ) → recursion_of_type t k n ≡ true → n < old_type_count t
-names_type t k n h = ltb-true n (old_type_count t) (and_second (eqb k 11) (ltb n (old_type_count t)) h)
+-- a record that is there is there whole
+pub there : (width n i : ℕ) → 1 ≤ width → i < n / width → width * i + width ≤ n
+there width n i w l =
+    let p : n / width ≡ suc i + (n / width - suc i) = omega arith in
+    omega (arith, whole, ap (λ m. width * m) p, mul-add width (suc i) (n / width - suc i), next_record width i)
+  where
+    whole : width * (n / width) ≤ n
+    whole = omega arith
 
--- the test, made with what was read of record i
-pub tested : (t s : Bytes) (i : ℕ) {k n : ℕ} {b : Bool} → k ≡ old_kind s i → n ≡ old_number s i → b ≡ recursion_of_type t k n → recursion_at t s i ≡ b
-tested t s i p q e = sym (e ∙ ap₂ (recursion_of_type t) p q)
+pub names_type : (width : ℕ) (t : Bytes) (k n : ℕ) → recursion_of_type width t k n ≡ true → n < length t / width
+names_type width t k n h = ltb-true n (length t / width) (and_second (eqb k 11) (ltb n (length t / width)) h)
 
--- the fields of a record alone
-module _ (s : Bytes) (i : ℕ) where
-  kind_is : old_kind (record_at old_script_width s i) 0 ≡ old_kind s i
-  kind_is = record_first old_script_width s i (omega arith)
+module _ (type_bytes width : ℕ) where
+  -- the test, made with what was read of record i
+  pub tested : (t s : Bytes) (i : ℕ) {k n : ℕ} {b : Bool} → k ≡ byte s (width * i) → n ≡ number_at width s i → b ≡ recursion_of_type type_bytes t k n
+      → recursion_at type_bytes width t s i ≡ b
+  tested t s i p q e = sym (e ∙ ap₂ (recursion_of_type type_bytes t) p q)
 
-  r_is : old_r (record_at old_script_width s i) 0 ≡ old_r s i
-  r_is = record_byte old_script_width s i 1 (omega arith)
+  module _ (t s : Bytes) (i : ℕ) where
+    -- a record that is no recursion of a type is left as it is
+    pub left_as_is : recursion_at type_bytes width t s i ≡ false → WrittenAt type_bytes width t s i false s
+    left_as_is h = record { wrote = sym h; script = rw h (sym (set-get_or s (width * i + 1) 0)) }
 
-  number_is : old_number (record_at old_script_width s i) 0 ≡ old_number s i
-  number_is = ap₂ (λ a b. a + 256 * b) (record_byte old_script_width s i 4 (omega arith)) (record_byte old_script_width s i 5 (omega arith))
+    -- in one that is, byte 1 is set
+    pub set_in : (v : ℕ) → recursion_at type_bytes width t s i ≡ true → v ≡ byte t (type_bytes * number_at width s i + 1)
+        → WrittenAt type_bytes width t s i true (set s (width * i + 1) v)
+    set_in v h e = record { wrote = sym h; script = rw h (ap (set s (width * i + 1)) e) }
 
-module _ (t s : Bytes) (i : ℕ) (there : i < old_records s) where
-  -- a record that is no recursion of a type is left as it is
-  pub left_as_is : recursion_at t s i ≡ false → WrittenAt t s i false s
-  left_as_is h = record { wrote = sym h; script = rw (callers_r t s i there, h) (sym (set-get_or s (old_script_width * i + 1) 0)) }
+module _ (type_bytes width : ℕ) (wide : 6 ≤ width) (t : Bytes) where
+  abbrev put : ℕ → Bytes → Bytes
+  put = put_callers type_bytes width t
 
-  -- in one that is, byte 1 is set
-  pub set_in : (v : ℕ) → recursion_at t s i ≡ true → v ≡ old_type_r t (old_number s i) → WrittenAt t s i true (set s (old_script_width * i + 1) v)
-  set_in v h e = record { wrote = sym h; script = rw (callers_r t s i there, h) (ap (set s (old_script_width * i + 1)) e) }
+  abbrev count : ℕ → Bytes → ℕ
+  count = count_callers type_bytes width t
 
-module _ (t : Bytes) where
   -- the first record is written, and then those after it
-  first : (s : Bytes) → old_script_width ≤ length s
-      → (write_callers t s ≡ set (take old_script_width s) 1 (caller_at t (take old_script_width s) 0) ++ write_callers t (drop old_script_width s))
-      × (callers_written t s ≡ cond (recursion_at t (take old_script_width s) 0) 1 0 + callers_written t (drop old_script_width s))
-  unfolding write_callers callers_written
-  first [] l = absurd (omega arith)
-  first (k ∷ []) l = absurd (omega arith)
-  first (k ∷ g ∷ []) l = absurd (omega arith)
-  first (k ∷ g ∷ ir ∷ []) l = absurd (omega arith)
-  first (k ∷ g ∷ ir ∷ z ∷ []) l = absurd (omega arith)
-  first (k ∷ g ∷ ir ∷ z ∷ lo ∷ []) l = absurd (omega arith)
-  first (k ∷ g ∷ ir ∷ z ∷ lo ∷ hi ∷ s) l = (refl, refl)
+  abbrev first_caller : Bytes → ℕ
+  first_caller s = caller type_bytes t (byte s 0) (byte s 1) (first_number s)
 
-  -- a record that is cut short is not
-  cut_short : (s : Bytes) → length s < old_script_width → (write_callers t s ≡ s) × (callers_written t s ≡ 0)
-  unfolding write_callers callers_written
-  cut_short [] l = (refl, refl)
-  cut_short (k ∷ []) l = (refl, refl)
-  cut_short (k ∷ g ∷ []) l = (refl, refl)
-  cut_short (k ∷ g ∷ ir ∷ []) l = (refl, refl)
-  cut_short (k ∷ g ∷ ir ∷ z ∷ []) l = (refl, refl)
-  cut_short (k ∷ g ∷ ir ∷ z ∷ lo ∷ []) l = (refl, refl)
-  cut_short (k ∷ g ∷ ir ∷ z ∷ lo ∷ hi ∷ s) l = absurd (omega arith)
+  first : (m : ℕ) (s : Bytes)
+      → (put (suc m) s ≡ set (take width s) 1 (first_caller s) ++ put m (drop width s))
+      × (count (suc m) s ≡ cond (recursion_of_type type_bytes t (byte s 0) (first_number s)) 1 0 + count m (drop width s))
+  unfolding put_callers count_callers
+  first m s = (refl, refl)
+
+  none : (s : Bytes) → (put zero s ≡ s) × (count zero s ≡ 0)
+  unfolding put_callers count_callers
+  none s = (refl, refl)
+
+  -- record i is the first of those that follow the ones before it
+  module _ (s : Bytes) (i : ℕ) where
+    rest_byte : (j : ℕ) → byte (drop (width * i) s) j ≡ byte s (width * i + j)
+    rest_byte j = get_or-drop (width * i) s j 0
+
+    rest_first : byte (drop (width * i) s) 0 ≡ byte s (width * i)
+    rest_first = let p : width * i + 0 ≡ width * i = omega arith in rest_byte 0 ∙ ap (byte s) p
+
+    same_caller : first_caller (drop (width * i) s) ≡ caller_at type_bytes width t s i
+    same_caller = rw (rest_first, rest_byte 1, rest_byte 4, rest_byte 5) refl
+
+    same_test : recursion_of_type type_bytes t (byte (drop (width * i) s) 0) (first_number (drop (width * i) s)) ≡ recursion_at type_bytes width t s i
+    same_test = rw (rest_first, rest_byte 4, rest_byte 5) refl
 
   -- Of s₀, what is left to write when s is reached: the callers of the records from i on. n were written before.
   pub record Passed (s₀ s : Bytes) (i n : ℕ) : Type 0 where
-    pub script : write_callers t s₀ ≡ take (old_script_width * i) s ++ write_callers t (drop (old_script_width * i) s)
-    pub count : callers_written t s₀ ≡ n + callers_written t (drop (old_script_width * i) s)
+    pub script : write_callers_of type_bytes width t s₀ ≡ take (width * i) s ++ put (length s₀ / width - i) (drop (width * i) s)
+    pub count : callers_written_of type_bytes width t s₀ ≡ n + count (length s₀ / width - i) (drop (width * i) s)
 
-  pub one_more : {s₀ s s' : Bytes} {i n : ℕ} {b : Bool} → i < old_records s → WrittenAt t s i b s' → Passed s₀ s i n → Passed s₀ s' (i + 1) (n + bool_byte b)
+  pub none_passed : (s : Bytes) → Passed s s 0 0
+  none_passed s =
+      let p : width * 0 ≡ 0 = omega arith in
+      let q : length s / width - 0 ≡ length s / width = omega arith in
+      record { script = rw (p, q) refl; count = rw (p, q) (omega arith) }
+
+  pub one_more : {s₀ s s' : Bytes} {i n : ℕ} {b : Bool} → i < length s₀ / width → WrittenAt type_bytes width t s i b s' → Passed s₀ s i n
+      → Passed s₀ s' (i + 1) (n + bool_byte b)
   one_more {s₀} {s} {s'} {i} {n} {b} l w p =
-      let rest = drop (old_script_width * i) s in
-      let own = record_at old_script_width s i in
-      let v = old_r (write_callers t s) i in
-      let one = first rest (simp length-drop (omega arith)) in
-      let same_caller : caller_at t own 0 ≡ v = rw (kind_is s i, number_is s i, r_is s i) (sym (callers_r t s i l)) in
-      let same_test : recursion_at t own 0 ≡ recursion_at t s i = rw (kind_is s i, number_is s i) in
-      let front : take (old_script_width * i) s ++ set own 1 v ≡ take (old_script_width * (i + 1)) s' =
-      sym (ap (take (old_script_width * (i + 1))) w.script ∙ set_up_to old_script_width s i 1 v (omega arith)) in
-      let past : drop old_script_width rest ≡ drop (old_script_width * (i + 1)) s' =
-      sym (ap (drop (old_script_width * (i + 1))) w.script ∙ set_past old_script_width s i 1 v (omega arith)) in
-      let more : callers_written t rest ≡ bool_byte b + callers_written t (drop (old_script_width * (i + 1)) s') =
-      one.1 ∙ ap₂ (λ b d. cond b 1 0 + callers_written t d) (same_test ∙ sym w.wrote) past ∙ ap (λ k. k + callers_written t (drop (old_script_width * (i + 1)) s')) (sym (counted b)) in
+      let rest = drop (width * i) s in
+      let m = length s₀ / width - (i + 1) in
+      let v = caller_at type_bytes width t s i in
+      let step : length s₀ / width - i ≡ suc m = omega arith in
+      let one = first m rest in
+      let front : take (width * i) s ++ set (record_at width s i) 1 v ≡ take (width * (i + 1)) s' =
+      sym (ap (take (width * (i + 1))) w.script ∙ set_up_to width s i 1 v (omega arith)) in
+      let past : drop width rest ≡ drop (width * (i + 1)) s' = sym (ap (drop (width * (i + 1))) w.script ∙ set_past width s i 1 v (omega arith)) in
+      let more : count (length s₀ / width - i) rest ≡ bool_byte b + count m (drop (width * (i + 1)) s') =
+      ap (λ k. count k rest) step ∙ one.1
+      ∙ ap₂ (λ x d. cond x 1 0 + count m d) (same_test s i ∙ sym w.wrote) past ∙ ap (λ k. k + count m (drop (width * (i + 1)) s')) (sym (counted b)) in
       record {
         script =
             p.script
-            ∙ ap (λ b. take (old_script_width * i) s ++ b) (one.0 ∙ ap (λ x. set own 1 x ++ write_callers t (drop old_script_width rest)) same_caller)
-            ∙ sym (append_assoc (take (old_script_width * i) s) (set own 1 v) (write_callers t (drop old_script_width rest)))
-            ∙ ap₂ (λ a b. a ++ write_callers t b) front past;
+            ∙ ap (λ d. take (width * i) s ++ d)
+            (ap (λ k. put k rest) step ∙ one.0 ∙ ap (λ x. set (take width rest) 1 x ++ put m (drop width rest)) (same_caller s i))
+            ∙ sym (append_assoc (take (width * i) s) (set (take width rest) 1 v) (put m (drop width rest)))
+            ∙ ap₂ (λ a d. a ++ put m d) front past;
         count = omega (arith, p.count, more);
       }
 
-  pub all_passed : {s₀ s : Bytes} {i n : ℕ} → old_records s ≤ i → Passed s₀ s i n → (n ≡ callers_written t s₀) × (s ≡ write_callers t s₀)
+  pub all_passed : {s₀ s : Bytes} {i n : ℕ} → length s₀ / width ≤ i → Passed s₀ s i n
+      → (n ≡ callers_written_of type_bytes width t s₀) × (s ≡ write_callers_of type_bytes width t s₀)
   all_passed {s₀} {s} {i} {n} l p =
-      let cut = cut_short (drop (old_script_width * i) s) (simp length-drop (omega arith)) in (
-        omega (arith, p.count, cut.1),
-        sym (p.script ∙ ap (λ b. take (old_script_width * i) s ++ b) cut.0 ∙ take-append-drop (old_script_width * i) s),
+      let done : length s₀ / width - i ≡ 0 = omega arith in
+      let left = none (drop (width * i) s) in (
+        omega (arith, p.count, ap (λ k. count k (drop (width * i) s)) done, left.1),
+        sym (p.script ∙ ap (λ b. take (width * i) s ++ b) (ap (λ k. put k (drop (width * i) s)) done ∙ left.0) ∙ take-append-drop (width * i) s),
       )

@@ -2,21 +2,111 @@
 use mathlib.Core.Path.{◌≡◌, refl, ap, sym, ◌∙◌}
 use mathlib.Core.Bool.{Bool, true, false, cond}
 use mathlib.Core.List.{[], ◌∷◌}
-use Prim.Native.Nat.{ℕ, zero, suc, ◌+◌, ◌*◌, ◌<◌}
+use Prim.Native.Nat.{ℕ, zero, suc, ◌+◌, ◌*◌, ◌≤◌, ◌<◌}
 use native.Mathlib.Omega.{arith}
-use lib.ListN.{length}
+use native.Mathlib.Nat.{zero-add}
+use lib.ListN.{length, take, drop, set, get_or-append, length-append, length-drop}
+use lib.Seq.{get_or-drop, get_or-take, length-take-le}
+use Rattle.std.proofs.lemmas.List.{get_or-append-add, get_or-set_same, get_or-set_other, length-set}
+use Rattle.std.proofs.Math.Nat.{mul-add, mul-one}
 use Rattle.rules.specs.Answer.{Bytes, byte, Octets}
-use Rattle.rules.specs.Callers.{old_type_r, old_records, old_kind, old_r, old_number, recursion_of_type, write_callers}
+use Rattle.rules.specs.Limits.{old_type_width, old_script_width}
+use Rattle.rules.specs.Callers.{old_records, old_r, recursion_of_type, caller, first_number, put_callers, write_callers}
+use Rattle.rules.proofs.Octets.{octets_append, octets_take, octets_drop}
 
-pub callers_length : (t s : Bytes) → length (write_callers t s) ≡ length s
-unfolding write_callers
-callers_length t [] = refl
-callers_length t (k ∷ []) = refl
-callers_length t (k ∷ g ∷ []) = refl
-callers_length t (k ∷ g ∷ ir ∷ []) = refl
-callers_length t (k ∷ g ∷ ir ∷ z ∷ []) = refl
-callers_length t (k ∷ g ∷ ir ∷ z ∷ lo ∷ []) = refl
-callers_length t (k ∷ g ∷ ir ∷ z ∷ lo ∷ hi ∷ s) = omega (arith, callers_length t s)
+pub next_record : (width i : ℕ) → width * suc i ≡ width + width * i
+next_record width i = let p : suc i ≡ 1 + i = omega arith in ap (λ n. width * n) p ∙ mul-add width 1 i ∙ ap (λ n. n + width * i) (mul-one width)
+
+-- the caller of record i, in records of this width
+abbrev pub caller_of : ℕ → ℕ → Bytes → Bytes → ℕ → ℕ
+caller_of type_bytes width t s i =
+    caller type_bytes t (byte s (width * i)) (byte s (width * i + 1)) (byte s (width * i + 4) + 256 * byte s (width * i + 5))
+
+module _ (type_bytes width : ℕ) (wide : 6 ≤ width) (t : Bytes) where
+  abbrev put : ℕ → Bytes → Bytes
+  put = put_callers type_bytes width t
+
+  -- the first record, written
+  abbrev front : Bytes → Bytes
+  front s = set (take width s) 1 (caller type_bytes t (byte s 0) (byte s 1) (first_number s))
+
+  front_length : (n : ℕ) (s : Bytes) → width * suc n ≤ length s → length (front s) ≡ width
+  front_length n s l = length-set (take width s) 1 _ ∙ length-take-le width s (omega (arith, next_record width n))
+
+  later : (n : ℕ) (s : Bytes) → width * suc n ≤ length s → width * n ≤ length (drop width s)
+  later n s l = omega (arith, next_record width n, length-drop width s)
+
+  pub put_length : (n : ℕ) (s : Bytes) → width * n ≤ length s → length (put n s) ≡ length s
+  unfolding put_callers
+  put_length zero s l = refl
+  put_length (suc n) s l =
+      length-append (front s) (put n (drop width s))
+      ∙ omega (arith, front_length n s l, put_length n (drop width s) (later n s l), length-drop width s, next_record width n)
+
+  -- a byte of a later record
+  put_later : (n : ℕ) (s : Bytes) (i m : ℕ) → width * suc n ≤ length s → byte (put (suc n) s) (width * suc i + m) ≡ byte (put n (drop width s)) (width * i + m)
+  unfolding put_callers
+  put_later n s i m l =
+      let p : width * suc i + m ≡ length (front s) + (width * i + m) = omega (arith, next_record width i, front_length n s l) in
+      ap (byte (put (suc n) s)) p ∙ get_or-append-add (front s) (put n (drop width s)) (width * i + m) 0
+
+  was_later : (s : Bytes) (i m : ℕ) → byte (drop width s) (width * i + m) ≡ byte s (width * suc i + m)
+  was_later s i m =
+      let p : width + (width * i + m) ≡ width * suc i + m = omega (arith, next_record width i) in
+      get_or-drop width s (width * i + m) 0 ∙ ap (byte s) p
+
+  was_first : (s : Bytes) (i : ℕ) → byte (drop width s) (width * i) ≡ byte s (width * suc i)
+  was_first s i =
+      let p : width * i ≡ width * i + 0 = omega arith in
+      let q : width * suc i + 0 ≡ width * suc i = omega arith in
+      ap (byte (drop width s)) p ∙ was_later s i 0 ∙ ap (byte s) q
+
+  at_front : (n : ℕ) (s : Bytes) (m : ℕ) → width * suc n ≤ length s → m < width → byte (put (suc n) s) m ≡ byte (front s) m
+  unfolding put_callers
+  at_front n s m l d = get_or-append (front s) (put n (drop width s)) 0 m (omega (arith, front_length n s l))
+
+  -- every byte of a record but byte 1
+  pub put_byte : (n : ℕ) (s : Bytes) (i m : ℕ) → width * n ≤ length s → m < width → (m ≡ 1 → ⊥) → byte (put n s) (width * i + m) ≡ byte s (width * i + m)
+  unfolding put_callers
+  put_byte zero s i m l d e = refl
+  put_byte (suc n) s (suc i) m l d e = put_later n s i m l ∙ put_byte n (drop width s) i m (later n s l) d e ∙ was_later s i m
+  put_byte (suc n) s zero m l d e =
+      let p : width * 0 + m ≡ m = omega arith in
+      ap (byte (put (suc n) s)) p ∙ at_front n s m l d ∙ get_or-set_other (take width s) 1 m _ 0 e ∙ get_or-take width s m 0 d ∙ ap (byte s) (sym p)
+
+  -- byte 1
+  pub put_r : (n : ℕ) (s : Bytes) (i : ℕ) → width * n ≤ length s → i < n → byte (put n s) (width * i + 1) ≡ caller_of type_bytes width t s i
+  put_r zero s i l a = absurd (omega arith)
+  put_r (suc n) s (suc i) l a =
+      put_later n s i 1 l ∙ put_r n (drop width s) i (later n s l) (omega arith) ∙ rw (was_first s i, was_later s i 1, was_later s i 4, was_later s i 5) refl
+  put_r (suc n) s zero l a =
+      let p : width * 0 ≡ 0 = omega arith in
+      let q : (m : ℕ) → width * 0 + m ≡ m = λ m. omega arith in
+      ap (byte (put (suc n) s)) (q 1) ∙ at_front n s 1 l (omega arith)
+      ∙ get_or-set_same (take width s) 1 _ 0 (omega (arith, length-take-le width s (omega (arith, next_record width n))))
+      ∙ sym (rw p (rw (zero-add 1, zero-add 4, zero-add 5) refl))
+
+-- The same of a whole script.
+module _ (t s : Bytes) where
+  whole : old_script_width * old_records s ≤ length s
+  whole = omega arith
+
+  pub callers_length : length (write_callers t s) ≡ length s
+  callers_length = put_length old_type_width old_script_width (omega arith) t (old_records s) s whole
+
+  pub callers_byte : (i n : ℕ) → n < 6 → (n ≡ 1 → ⊥) → byte (write_callers t s) (6 * i + n) ≡ byte s (6 * i + n)
+  callers_byte i n l d = put_byte old_type_width old_script_width (omega arith) t (old_records s) s i n whole l d
+
+  pub callers_r : (i : ℕ) → i < old_records s → old_r (write_callers t s) i ≡ caller_of old_type_width old_script_width t s i
+  callers_r i l = put_r old_type_width old_script_width (omega arith) t (old_records s) s i whole l
+
+-- record by record
+pub callers_first : (t : Bytes) (k r ir z lo hi : ℕ) (s : Bytes)
+    → write_callers t (k ∷ r ∷ ir ∷ z ∷ lo ∷ hi ∷ s) ≡ k ∷ caller old_type_width t k r (lo + 256 * hi) ∷ ir ∷ z ∷ lo ∷ hi ∷ write_callers t s
+unfolding put_callers
+callers_first t k r ir z lo hi s =
+    let p : old_records (k ∷ r ∷ ir ∷ z ∷ lo ∷ hi ∷ s) ≡ suc (old_records s) = omega arith in
+    ap (λ n. put_callers old_type_width old_script_width t n (k ∷ r ∷ ir ∷ z ∷ lo ∷ hi ∷ s)) p
 
 -- a byte past the first record
 pub record_past : (a b c d e f : ℕ) (s : Bytes) (x y : ℕ) → x ≡ 6 + y → byte (a ∷ b ∷ c ∷ d ∷ e ∷ f ∷ s) x ≡ byte s y
@@ -24,66 +114,27 @@ record_past a b c d e f s x y p =
     let q : x ≡ suc (suc (suc (suc (suc (suc y))))) = omega arith in
     ap (λ (j : ℕ). byte (a ∷ b ∷ c ∷ d ∷ e ∷ f ∷ s) j) q
 
--- every byte of a record but byte 1
-pub callers_byte : (t s : Bytes) (i n : ℕ) → n < 6 → (n ≡ 1 → ⊥) → byte (write_callers t s) (6 * i + n) ≡ byte s (6 * i + n)
-unfolding write_callers
-callers_byte t [] i n l d = refl
-callers_byte t (k ∷ []) i n l d = refl
-callers_byte t (k ∷ g ∷ []) i n l d = refl
-callers_byte t (k ∷ g ∷ ir ∷ []) i n l d = refl
-callers_byte t (k ∷ g ∷ ir ∷ z ∷ []) i n l d = refl
-callers_byte t (k ∷ g ∷ ir ∷ z ∷ lo ∷ []) i n l d = refl
-callers_byte t (k ∷ g ∷ ir ∷ z ∷ lo ∷ hi ∷ s) (suc i) n l d =
-    let p : 6 * suc i + n ≡ 6 + (6 * i + n) = omega arith in
-    record_past k _ ir z lo hi (write_callers t s) _ (6 * i + n) p ∙ callers_byte t s i n l d ∙ sym (record_past k g ir z lo hi s _ (6 * i + n) p)
-callers_byte t (k ∷ g ∷ ir ∷ z ∷ lo ∷ hi ∷ s) zero zero l d = refl
-callers_byte t (k ∷ g ∷ ir ∷ z ∷ lo ∷ hi ∷ s) zero (suc zero) l d = absurd (d refl)
-callers_byte t (k ∷ g ∷ ir ∷ z ∷ lo ∷ hi ∷ s) zero (suc (suc zero)) l d = refl
-callers_byte t (k ∷ g ∷ ir ∷ z ∷ lo ∷ hi ∷ s) zero (suc (suc (suc zero))) l d = refl
-callers_byte t (k ∷ g ∷ ir ∷ z ∷ lo ∷ hi ∷ s) zero (suc (suc (suc (suc zero)))) l d = refl
-callers_byte t (k ∷ g ∷ ir ∷ z ∷ lo ∷ hi ∷ s) zero (suc (suc (suc (suc (suc zero))))) l d = refl
-callers_byte t (k ∷ g ∷ ir ∷ z ∷ lo ∷ hi ∷ s) zero (suc (suc (suc (suc (suc (suc n)))))) l d = absurd (omega arith)
-
--- r of record i, written
-abbrev pub caller_at : Bytes → Bytes → ℕ → ℕ
-caller_at t s i = cond (recursion_of_type t (old_kind s i) (old_number s i)) (old_type_r t (old_number s i)) (old_r s i)
-
--- byte 1
-pub callers_r : (t s : Bytes) (i : ℕ) → i < old_records s → old_r (write_callers t s) i ≡ caller_at t s i
-unfolding write_callers
-callers_r t [] i l = absurd (omega arith)
-callers_r t (k ∷ []) i l = absurd (omega arith)
-callers_r t (k ∷ g ∷ []) i l = absurd (omega arith)
-callers_r t (k ∷ g ∷ ir ∷ []) i l = absurd (omega arith)
-callers_r t (k ∷ g ∷ ir ∷ z ∷ []) i l = absurd (omega arith)
-callers_r t (k ∷ g ∷ ir ∷ z ∷ lo ∷ []) i l = absurd (omega arith)
-callers_r t (k ∷ g ∷ ir ∷ z ∷ lo ∷ hi ∷ s) zero l = refl
-callers_r t (k ∷ g ∷ ir ∷ z ∷ lo ∷ hi ∷ s) (suc i) l =
-    let p : (n : ℕ) → 6 * suc i + n ≡ 6 + (6 * i + n) = λ n. omega arith in
-    let at : (n : ℕ) → byte (k ∷ g ∷ ir ∷ z ∷ lo ∷ hi ∷ s) (6 * suc i + n) ≡ byte s (6 * i + n) = λ n. record_past k g ir z lo hi s _ _ (p n) in
-    record_past k _ ir z lo hi (write_callers t s) _ (6 * i + 1) (p 1) ∙ callers_r t s i (omega arith)
-    ∙ sym (rw (record_past k g ir z lo hi s (6 * suc i) (6 * i) (omega arith), at 1, at 4, at 5))
-
 either_octet : (b : Bool) (m n : ℕ) → m < 256 → n < 256 → cond b m n < 256
 either_octet true m n p q = p
 either_octet false m n p q = q
 
+octets_set : (s : Bytes) (i v : ℕ) → v < 256 → Octets s → Octets (set s i v)
+octets_set [] i v l p j = omega arith
+octets_set (x ∷ s) zero v l p zero = l
+octets_set (x ∷ s) zero v l p (suc j) = p (suc j)
+octets_set (x ∷ s) (suc i) v l p zero = p zero
+octets_set (x ∷ s) (suc i) v l p (suc j) = octets_set s i v l (λ k. p (suc k)) j
+
 -- bytes are below 256
+pub put_octets : (type_bytes width : ℕ) (t : Bytes) (n : ℕ) (s : Bytes) → Octets t → Octets s → Octets (put_callers type_bytes width t n s)
+unfolding put_callers
+put_octets type_bytes width t zero s p q = q
+put_octets type_bytes width t (suc n) s p q =
+    octets_append _ _
+    (octets_set (take width s) 1 _
+    (either_octet (recursion_of_type type_bytes t (byte s 0) (first_number s)) _ _ (p (type_bytes * first_number s + 1)) (q 1))
+    (octets_take width s q))
+    (put_octets type_bytes width t n (drop width s) p (octets_drop width s q))
+
 pub callers_octets : (t s : Bytes) → Octets t → Octets s → Octets (write_callers t s)
-unfolding write_callers
-callers_octets t [] p q j = q j
-callers_octets t (k ∷ []) p q j = q j
-callers_octets t (k ∷ g ∷ []) p q j = q j
-callers_octets t (k ∷ g ∷ ir ∷ []) p q j = q j
-callers_octets t (k ∷ g ∷ ir ∷ z ∷ []) p q j = q j
-callers_octets t (k ∷ g ∷ ir ∷ z ∷ lo ∷ []) p q j = q j
-callers_octets t (k ∷ g ∷ ir ∷ z ∷ lo ∷ hi ∷ s) p q zero = q 0
-callers_octets t (k ∷ g ∷ ir ∷ z ∷ lo ∷ hi ∷ s) p q (suc zero) =
-    let n = lo + 256 * hi in
-    either_octet (recursion_of_type t k n) (old_type_r t n) g (p (4 * n + 1)) (q 1)
-callers_octets t (k ∷ g ∷ ir ∷ z ∷ lo ∷ hi ∷ s) p q (suc (suc zero)) = q 2
-callers_octets t (k ∷ g ∷ ir ∷ z ∷ lo ∷ hi ∷ s) p q (suc (suc (suc zero))) = q 3
-callers_octets t (k ∷ g ∷ ir ∷ z ∷ lo ∷ hi ∷ s) p q (suc (suc (suc (suc zero)))) = q 4
-callers_octets t (k ∷ g ∷ ir ∷ z ∷ lo ∷ hi ∷ s) p q (suc (suc (suc (suc (suc zero))))) = q 5
-callers_octets t (k ∷ g ∷ ir ∷ z ∷ lo ∷ hi ∷ s) p q (suc (suc (suc (suc (suc (suc j)))))) =
-    callers_octets t s p (λ n. q (suc (suc (suc (suc (suc (suc n))))))) j
+callers_octets t s p q = put_octets old_type_width old_script_width t (old_records s) s p q

@@ -13,6 +13,7 @@ pub mod TermCode
 pub mod TypeCode
 pub mod RecordFields
 pub mod Scripts
+pub mod Form
 pub mod ScriptLength
 pub mod Subterms
 pub mod NodeFacts
@@ -20,6 +21,10 @@ pub mod NodeQuestions
 pub mod Counts
 pub mod Scope
 pub mod Depth
+pub mod Names
+pub mod Office
+pub mod Exports
+pub mod OfficeCallers
 pub mod TypePlaces
 pub mod Pending
 pub mod TypeTables
@@ -35,4 +40,5 @@ pub mod ProfileExamples
 pub mod PreviewExamples
 pub mod InForceExamples
 pub mod InForce
+pub mod OfficeExamples
 pub mod Examples

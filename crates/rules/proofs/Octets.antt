@@ -1,8 +1,8 @@
 -- Bytes are below 256, also in parts.
 use mathlib.Core.List.{[], ◌∷◌, ◌++◌}
-use Prim.Native.Nat.{ℕ, zero, suc, ◌+◌}
+use Prim.Native.Nat.{ℕ, zero, suc}
 use native.Mathlib.Omega.{arith}
-use lib.ListN.{drop}
+use lib.ListN.{take, drop}
 use Rattle.rules.specs.Answer.{Bytes, Octets}
 
 pub octets_append : (a b : Bytes) → Octets a → Octets b → Octets (a ++ b)
@@ -14,3 +14,9 @@ pub octets_drop : (n : ℕ) (s : Bytes) → Octets s → Octets (drop n s)
 octets_drop zero s p = p
 octets_drop (suc n) [] p = λ i. omega arith
 octets_drop (suc n) (x ∷ s) p = octets_drop n s (λ j. p (suc j))
+
+pub octets_take : (n : ℕ) (s : Bytes) → Octets s → Octets (take n s)
+octets_take zero s p i = omega arith
+octets_take (suc n) [] p i = omega arith
+octets_take (suc n) (x ∷ s) p zero = p zero
+octets_take (suc n) (x ∷ s) p (suc i) = octets_take n s (λ j. p (suc j)) i

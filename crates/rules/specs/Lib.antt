@@ -12,6 +12,8 @@ pub mod Callers
 pub mod Sheet
 pub mod Calls
 pub mod Rewriting
+pub mod Names
+pub mod Office
 pub mod Reach
 pub mod Profile
 pub mod Preview
@@ -28,3 +30,4 @@ pub mod NumberExamples
 pub mod ProfileExamples
 pub mod PreviewExamples
 pub mod InForceExamples
+pub mod OfficeExamples

@@ -22,6 +22,13 @@ old_type_width = 4
 abbrev pub old_script_width : ℕ
 old_script_width = 6
 
+-- item 1: "records of 10 bytes", "at most 6,000 records"
+abbrev pub office_width : ℕ
+office_width = 10
+
+abbrev pub office_limit : ℕ
+office_limit = 6000
+
 -- "1 to 32 rows", "1 to 4,096 records", "1 to 8,192", "depth at most 256"
 abbrev pub group_limit : ℕ
 group_limit = 32

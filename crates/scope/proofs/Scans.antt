@@ -1,4 +1,4 @@
--- A scan of numbers: what a walk over a term needs, whichever the question.
+-- A scan of what is given of each record: what a walk over a term needs, whichever the question.
 use Rattle.std.proofs.Common.{◌≡◌, refl, ap, sym, ◌∙◌, Bool, true, false, not, List, [], ◌∷◌, ◌++◌, ℕ, suc, ◌+◌, length, get_or, arith}
 use Rattle.std.proofs.Math.Nat.{add-zero, zero-add}
 use Rattle.rules.specs.Answer.{Answer, accepted, refused, ask, ◌>>=◌, ◌>>◌, first_from, refused_at, each}
@@ -15,17 +15,17 @@ finish (refused q p) = refused q p
 pub past_then : (a : Answer ℕ) (j : ℕ) (k : ℕ → Answer ℕ) → a ≡ accepted j → then a k ≡ k j
 past_then a j k e = ap (λ x. then x k) e
 
-module _ (q : ℕ) (ok : ℕ → ℕ → Bool) where
-  scan_yes : (i n : ℕ) (ns : List ℕ) → ok i n ≡ true → scan q ok i (n ∷ ns) ≡ scan q ok (suc i) ns
+module _ {A : Type 0} (q : ℕ) (ok : ℕ → A → Bool) where
+  scan_yes : (i : ℕ) (n : A) (ns : List A) → ok i n ≡ true → scan q ok i (n ∷ ns) ≡ scan q ok (suc i) ns
   unfolding scan
   scan_yes i n ns p = rw (p, scan)
 
-  scan_no : (i n : ℕ) (ns : List ℕ) → ok i n ≡ false → scan q ok i (n ∷ ns) ≡ refused q i
+  scan_no : (i : ℕ) (n : A) (ns : List A) → ok i n ≡ false → scan q ok i (n ∷ ns) ≡ refused q i
   unfolding scan
   scan_no i n ns p = rw (p, scan)
 
   -- the first record is asked, and then those after it
-  pub scan_first : (i n : ℕ) (ns : List ℕ) → scan q ok i (n ∷ ns) ≡ ◌>>◌ (ask q i (ok i n)) (scan q ok (suc i) ns)
+  pub scan_first : (i : ℕ) (n : A) (ns : List A) → scan q ok i (n ∷ ns) ≡ ◌>>◌ (ask q i (ok i n)) (scan q ok (suc i) ns)
   unfolding scan
   scan_first i n ns = go (ok i n)
     where
@@ -37,7 +37,7 @@ module _ (q : ℕ) (ok : ℕ → ℕ → Bool) where
   unfolding scan
   scan_nothing i = refl
 
-  pub scan_append : (i : ℕ) (ns ms : List ℕ) → scan q ok i (ns ++ ms) ≡ then (scan q ok i ns) (λ j. scan q ok j ms)
+  pub scan_append : (i : ℕ) (ns ms : List A) → scan q ok i (ns ++ ms) ≡ then (scan q ok i ns) (λ j. scan q ok j ms)
   unfolding scan
   scan_append i [] ms = refl
   scan_append i (n ∷ ns) ms = go (ok i n) refl (scan_append (suc i) ns ms)
@@ -53,7 +53,7 @@ module _ (q : ℕ) (ok : ℕ → ℕ → Bool) where
   refused≢accepted : {p r j : ℕ} → refused p r ≡ accepted j → ⊥
   refused≢accepted e = let x : ◌≡◌ {A = ℕ} 0 1 = cc in omega arith
 
-  pub scan_end : (i j : ℕ) (ns : List ℕ) → scan q ok i ns ≡ accepted j → j ≡ i + length ns
+  pub scan_end : (i j : ℕ) (ns : List A) → scan q ok i ns ≡ accepted j → j ≡ i + length ns
   unfolding scan
   scan_end i j [] h = let p : i ≡ j = accepted_inj h in omega arith
   scan_end i j (n ∷ ns) h = go (ok i n) refl (λ x. scan_end (suc i) j ns x)
@@ -63,17 +63,17 @@ module _ (q : ℕ) (ok : ℕ → ℕ → Bool) where
       go false p ih = absurd (refused≢accepted (sym (scan_no i n ns p) ∙ h))
 
   -- a scan from the first record is a question of each record
-  scan_each_from : (okk : ℕ → Bool) (ns : List ℕ) (i : ℕ) → ((k : ℕ) → okk (i + k) ≡ ok (i + k) (get_or ns k 0))
+  scan_each_from : (d : A) (okk : ℕ → Bool) (ns : List A) (i : ℕ) → ((k : ℕ) → okk (i + k) ≡ ok (i + k) (get_or ns k d))
       → finish (scan q ok i ns) ≡ refused_at q (first_from (λ j. not (okk j)) (length ns) i)
   unfolding scan first_from
-  scan_each_from okk [] i h = refl
-  scan_each_from okk (n ∷ ns) i h =
-      go (ok i n) refl (scan_each_from okk ns (suc i) (λ k. later k))
+  scan_each_from d okk [] i h = refl
+  scan_each_from d okk (n ∷ ns) i h =
+      go (ok i n) refl (scan_each_from d okk ns (suc i) (λ k. later k))
     where
-      later : (k : ℕ) → okk (suc i + k) ≡ ok (suc i + k) (get_or ns k 0)
+      later : (k : ℕ) → okk (suc i + k) ≡ ok (suc i + k) (get_or ns k d)
       later k =
           let p : suc i + k ≡ i + suc k = omega arith in
-          ap okk p ∙ h (suc k) ∙ ap (λ x. ok x (get_or ns k 0)) (sym p)
+          ap okk p ∙ h (suc k) ∙ ap (λ x. ok x (get_or ns k d)) (sym p)
 
       first : okk i ≡ ok i n
       first = ap okk (sym (add-zero i)) ∙ h 0 ∙ ap (λ x. ok x n) (add-zero i)
@@ -83,7 +83,7 @@ module _ (q : ℕ) (ok : ℕ → ℕ → Bool) where
       go true p ih = ap finish (scan_yes i n ns p) ∙ ih ∙ rw (first ∙ p, first_from)
       go false p ih = ap finish (scan_no i n ns p) ∙ rw (first ∙ p, first_from)
 
-  pub scan_each : (o : Answer ℕ) (ns : List ℕ) (n : ℕ) → o ≡ scan q ok 0 ns → n ≡ length ns → finish o ≡ each q n (λ k. ok k (get_or ns k 0))
-  scan_each o ns n h l =
-      ap finish h ∙ scan_each_from (λ k. ok k (get_or ns k 0)) ns 0 (λ k. ap (λ x. ok (0 + k) (get_or ns x 0)) (zero-add k))
-      ∙ ap (λ x. each q x (λ k. ok k (get_or ns k 0))) (sym l)
+  pub scan_each : (d : A) (o : Answer ℕ) (ns : List A) (n : ℕ) → o ≡ scan q ok 0 ns → n ≡ length ns → finish o ≡ each q n (λ k. ok k (get_or ns k d))
+  scan_each d o ns n h l =
+      ap finish h ∙ scan_each_from d (λ k. ok k (get_or ns k d)) ns 0 (λ k. ap (λ x. ok (0 + k) (get_or ns x d)) (zero-add k))
+      ∙ ap (λ x. each q x (λ k. ok k (get_or ns k d))) (sym l)

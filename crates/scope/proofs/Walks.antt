@@ -108,4 +108,4 @@ module _ {q : Counted} {s : Bytes} {i n : ℕ} {u : Term} {j next : ℕ} (p : Re
 -- a walk over the whole script asks each record
 pub whole : (q : Counted) (s : Bytes) (n : ℕ) (o : Answer ℕ) → encode (term s) ≡ s → n ≡ root q → o ≡ scanned q s 0 n (term s) → finish o ≡ asked q s
 whole q s n o h f w =
-    rw (← f) (scan_each (question q) (passes q s) o _ (records s) w (start_records s h ∙ sym (counts_length (wide q) (deeper q) bound n (term s))))
+    rw (← f) (scan_each (question q) (passes q s) 0 o _ (records s) w (start_records s h ∙ sym (counts_length (wide q) (deeper q) bound n (term s))))

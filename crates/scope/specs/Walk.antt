@@ -6,8 +6,8 @@ use Rattle.rules.specs.Script.{records, kind, number, term, counts, widened, unw
 use Rattle.records.specs.Kinds as kinds
 use Rattle.records.specs.Binders.{binds}
 
--- question q of the records from i on, whose numbers are given; accepted with the record after the last
-unfoldable pub scan : ℕ → (ℕ → ℕ → Bool) → ℕ → List ℕ → Answer ℕ
+-- question q of the records from i on, of each of which something is given, such as a number; accepted with the record after the last
+unfoldable pub scan : {A : Type 0} → ℕ → (ℕ → A → Bool) → ℕ → List A → Answer ℕ
 scan q ok i [] = accepted i
 scan q ok i (n ∷ ns) = elim (ok i n) [ true ↦ scan q ok (suc i) ns | false ↦ refused q i ]
 

@@ -6,6 +6,7 @@ ghost use Rattle.std.specs.Prelude.{◌≡◌, []};
 ghost use Rattle.rules.specs.Answer.{accepted};
 ghost use Rattle.rules.specs.Script.{q13, subterm};
 ghost use Rattle.rules.specs.Calls.{script_check};
+ghost use Rattle.rules.specs.Office.{form_check};
 ghost use Rattle.answer.specs.Said.{said};
 ghost use Rattle.syntax.specs.Check.{shape_check, later_check};
 
@@ -27,11 +28,11 @@ pub fn shape_check(script: &[u8]) -> Checked
     script::question_17(script)
 }
 
-// Questions 14 to 19, in order, with 36 after 15.
-#[tactic(auto, using(answer::proofs::Passed::then_asked, answer::proofs::Passed::stopped), unfolding(crate::specs::Check::later_check))]
-fn later_check(groups: &[u8], types: &[u8], script: &[u8]) -> Checked
+// Questions 14 to 18, in order, with 36 after 15.
+#[tactic(auto, using(answer::proofs::Passed::then_asked, answer::proofs::Passed::stopped), unfolding(rules::specs::Office::form_check))]
+pub fn form_check(groups: &[u8], types: &[u8], script: &[u8]) -> Checked
     requires { q13 [] script.now ≡ accepted tt }
-    ensures { said result ≡ later_check groups.now types.now script.now }
+    ensures { said result ≡ form_check groups.now types.now script.now }
 {
     let a14 = script::question_14(script);
     let Ok(()) = a14 else {
@@ -53,9 +54,18 @@ fn later_check(groups: &[u8], types: &[u8], script: &[u8]) -> Checked
     let Ok(()) = a17 else {
         return a17;
     };
-    let a18 = scope::question_18(script);
-    let Ok(()) = a18 else {
-        return a18;
+    scope::question_18(script)
+}
+
+// Questions 14 to 19.
+#[tactic(auto, using(answer::proofs::Passed::then_asked, answer::proofs::Passed::stopped), unfolding(crate::specs::Check::later_check))]
+fn later_check(groups: &[u8], types: &[u8], script: &[u8]) -> Checked
+    requires { q13 [] script.now ≡ accepted tt }
+    ensures { said result ≡ later_check groups.now types.now script.now }
+{
+    let form = form_check(groups, types, script);
+    let Ok(()) = form else {
+        return form;
     };
     scope::question_19(script)
 }

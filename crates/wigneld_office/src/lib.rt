@@ -5,8 +5,9 @@
 #![tactic(auto)]
 
 ghost use Rattle.std.specs.Prelude.{◌≡◌, ◌≤◌, length};
-ghost use Rattle.rules.specs.Limits.{type_width, script_width, work_length, answer_length};
-ghost use Rattle.rules.specs.Callers.{write_callers, callers_written};
+ghost use Rattle.rules.specs.Limits.{type_width, script_width, office_width, work_length, answer_length};
+ghost use Rattle.rules.specs.Callers.{write_callers, callers_written, write_office_callers, office_callers_written};
+ghost use Rattle.rules.specs.Office.{importing, exporting};
 ghost use Rattle.rules.specs.Calls.{comparing, type_records, work_after, answer_after};
 ghost use Rattle.rules.specs.Profile.{profile_checking};
 ghost use Rattle.rules.specs.Rewriting.{rewriting_types, rewriting_script, rewritten_records, rewritten_after};
@@ -122,4 +123,39 @@ pub extern "C" fn wigneld_in_force(
         ≡ packed (in_force groups.now types.now scripts.now amendments.now index) }
 {
     numbered(amendments::in_force(groups, types, scripts, amendments, index))
+}
+
+// A script of the old office program, of 10-byte records with names, in the present form, to the front of `script`: questions 2 to 12, 28, 14
+// to 18, 29, 30 and 27.
+#[tactic(auto, using(packing::proofs::Bounds::importing_bounded, packing::proofs::Exported::rewritten_bounded, packing::proofs::Bounds::place_small))]
+#[unsafe(no_mangle)]
+pub extern "C" fn wigneld_import(groups: &[u8], types: &[u8], old: &[u8], script: &mut [u8]) -> u64
+    ensures { (result ≡ packed (rewritten_records script_width
+        (importing groups.now types.now old.now (length script.old))))
+        × (script.new ≡ rewritten_after
+        (importing groups.now types.now old.now (length script.old)) script.old) }
+{
+    packing::answer(importing::import(groups, types, old, script))
+}
+
+// And back, without creators: questions 2 to 19, 28 and 27.
+#[tactic(auto, using(packing::proofs::Bounds::exporting_bounded, packing::proofs::Exported::rewritten_bounded, packing::proofs::Bounds::place_small))]
+#[unsafe(no_mangle)]
+pub extern "C" fn wigneld_export(groups: &[u8], types: &[u8], script: &[u8], old: &mut [u8]) -> u64
+    ensures { (result ≡ packed (rewritten_records office_width
+        (exporting groups.now types.now script.now (length old.old))))
+        × (old.new ≡ rewritten_after
+        (exporting groups.now types.now script.now (length old.old)) old.old) }
+{
+    packing::answer(exporting::export(groups, types, script, old))
+}
+
+// Puts r of its type into byte 1 of each recursion of a type of the table, in place, in a script of the old office program. How many
+// records it wrote.
+#[unsafe(no_mangle)]
+pub extern "C" fn wigneld_write_office_callers(types: &[u8], old: &mut [u8]) -> u64
+    ensures { (result ≡ office_callers_written types.now old.old)
+        × (old.new ≡ write_office_callers types.now old.old) }
+{
+    rewriting::write_office_callers(types, old)
 }

@@ -119,6 +119,35 @@ pub fn rewrite_script_with(old: &Inputs, rewritten: Vec<u8>) -> (Answer<u32>, Ve
     (result, after)
 }
 
+/// Import of an old office script into this buffer: the answer, and what it holds afterwards.
+pub fn import_with(old: &Inputs, lent: Vec<u8>) -> (Answer<u32>, Vec<u8>) {
+    let Inputs { groups, types, script } = old;
+    let mut after = lent.clone();
+    let result = calls::import(groups, types, script, &mut after);
+    #[cfg(feature = "engine")]
+    compared::import(old, &lent, &result, &after);
+    (result, after)
+}
+
+/// Export of a script into this buffer.
+pub fn export_with(inputs: &Inputs, lent: Vec<u8>) -> (Answer<u32>, Vec<u8>) {
+    let Inputs { groups, types, script } = inputs;
+    let mut after = lent.clone();
+    let result = calls::export(groups, types, script, &mut after);
+    #[cfg(feature = "engine")]
+    compared::export(inputs, &lent, &result, &after);
+    (result, after)
+}
+
+pub fn write_office_callers(types: &[u8], old: &mut [u8]) -> u64 {
+    #[cfg(feature = "engine")]
+    let before = old.to_vec();
+    let written = calls::write_office_callers(types, old);
+    #[cfg(feature = "engine")]
+    compared::write_office_callers(types, &before, written, old);
+    written
+}
+
 type Check = fn(&[u8], &[u8], &[u8], &mut [u8], &mut [u8]) -> Answer<u32>;
 
 /// A check with these buffers: the answer, and what the buffers hold afterwards.
@@ -328,6 +357,14 @@ pub fn rewriting_of_types_refuses(old: &Inputs, room: usize, question: u32, plac
     assert_eq!(answer, (no(question, place), filled(room)));
 }
 
+pub fn import_in(old: &Inputs, length: usize) -> (Answer<u32>, Vec<u8>) {
+    import_with(old, filled(length))
+}
+
+pub fn export_in(inputs: &Inputs, length: usize) -> (Answer<u32>, Vec<u8>) {
+    export_with(inputs, filled(length))
+}
+
 pub fn sheet_in(inputs: &Inputs, group: u64, length: usize) -> (Answer<u32>, Vec<u8>) {
     sheet_with(inputs, group, filled(length))
 }
@@ -518,6 +555,42 @@ mod compared {
         answers(found, packed_count(expected), "rewrite script");
         same(rewritten.take("rewritten"), after, "rewrite script");
         given.unchanged(old);
+    }
+
+    pub fn import(old: &Inputs, lent: &[u8], expected: &Answer<u32>, after: &[u8]) {
+        let mut given = Given::of(old);
+        let mut script = Guarded::new(lent);
+        let found = engine::import(
+            given.groups.lend(),
+            given.types.lend(),
+            given.script.lend(),
+            script.lend(),
+        );
+        answers(found, packed_count(expected), "import");
+        same(script.take("script"), after, "import");
+        given.unchanged(old);
+    }
+
+    pub fn export(inputs: &Inputs, lent: &[u8], expected: &Answer<u32>, after: &[u8]) {
+        let mut given = Given::of(inputs);
+        let mut old = Guarded::new(lent);
+        let found = engine::export(
+            given.groups.lend(),
+            given.types.lend(),
+            given.script.lend(),
+            old.lend(),
+        );
+        answers(found, packed_count(expected), "export");
+        same(old.take("old"), after, "export");
+        given.unchanged(inputs);
+    }
+
+    pub fn write_office_callers(types: &[u8], before: &[u8], expected: u64, after: &[u8]) {
+        let (mut own, mut old) = (Guarded::new(types), Guarded::new(before));
+        let found = engine::write_office_callers(own.lend(), old.lend());
+        answers(found, expected, "write office callers: records written");
+        same(old.take("old"), after, "write office callers");
+        same(own.take("types"), types, "types are only read");
     }
 
     type Check = fn(&[u8], &[u8], &[u8], &mut [u8], &mut [u8]) -> u64;

@@ -1,9 +1,7 @@
-use Rattle.std.proofs.Common.{arith}
-use Rattle.syntax.proofs.Parts.{encoded}
+use Rattle.std.proofs.Common.{sym, arith}
+use Rattle.rules.proofs.Form.{form_whole}
 use Rattle.syntax.proofs.later_check.Goals as goal
 
-pub question_18-a18-requires : goal.question_18-a18-requires
-question_18-a18-requires c = encoded c.args.script.now (λ k. omega (arith, c.type_inv.script k)) c.requires c.in-Ok.ensures c.in-Ok-a17.ensures
-
 pub question_19-requires : goal.question_19-requires
-question_19-requires c = encoded c.args.script.now (λ k. omega (arith, c.type_inv.script k)) c.requires c.in-Ok.ensures c.in-Ok-a17.ensures
+question_19-requires c =
+    (form_whole c.args.groups.now c.args.types.now c.args.script.now (λ k. omega (arith, c.type_inv.script k)) c.requires (sym c.in-Ok.ensures)).encoded

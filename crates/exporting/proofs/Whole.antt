@@ -1,0 +1,73 @@
+-- A whole script: what its walk is given, and what stands in front of the lent buffer.
+use Rattle.std.proofs.Common.{◌≡◌, refl, sym, ap, ap₂, ◌∙◌, [], ℕ, ◌+◌, ◌*◌, ◌≤◌, arith, leb, leb-true, length}
+use Rattle.std.specs.Borrow.{MutBor}
+use Rattle.calculus.specs.Terms.{Term}
+use Rattle.rules.specs.Answer.{Bytes, Octets, Answer, accepted, ◌>>◌, ask}
+use Rattle.rules.specs.Limits.{office_width, depth_limit}
+use Rattle.rules.specs.Script.{encode, term, size, depth, records, q13, q14, q15, q36_objects, q16, q17, q18, q19}
+use Rattle.rules.specs.Calls.{types_check, script_check, q27}
+use Rattle.rules.specs.Office.{exported, exporting, q28_of_export}
+use Rattle.rules.proofs.Asked.{ask_true, and_then}
+use Rattle.rules.proofs.Depth.{q18_depth}
+use Rattle.rules.proofs.Scripts.{Whole, whole}
+use Rattle.rules.proofs.Exports.{office_length}
+use Rattle.memory.specs.Splice.{splice}
+use Rattle.memory.specs.Written.{Written}
+use Rattle.memory.specs.declared.Writer.{Writer}
+use Rattle.memory.proofs.Laws.{splice_front}
+use Rattle.records.proofs.Stands.{at_start}
+use Rattle.rewriting.specs.Widened.{fitting}
+use Rattle.exporting.specs.Export.{Ready, Exported}
+
+pub exporting_is : (g t s : Bytes) (room : ℕ) → ◌>>◌ (script_check [] g t s) (◌>>◌ (q28_of_export s) (fitting (exported s) room)) ≡ exporting g t s room
+unfolding exporting
+exporting_is g t s room = refl
+
+module _ (g t s : Bytes) (octets : Octets s) (yes : accepted tt ≡ script_check [] g t s) where
+  record Read : Type 0 where
+    stands : Whole s
+    low : depth (term s) ≤ depth_limit
+
+  read : Read
+  unfolding script_check
+  read =
+      let a = and_then (types_check g t) _ (sym yes) in
+      let b = and_then (q13 [] s) _ a.1 in
+      let c = and_then (q14 s) _ b.1 in
+      let d = and_then (q15 g s) _ c.1 in
+      let e = and_then (q36_objects g s) _ d.1 in
+      let f = and_then (q16 t s) _ e.1 in
+      let h = and_then (q17 s) _ f.1 in
+      let i = and_then (q18 s) (q19 s) h.1 in
+      let w = whole [] s octets b.0 c.0 h.0 in
+      record { stands = w; low = q18_depth (term s) (ap q18 w.encoded ∙ i.0) }
+
+  pub encoded : encode (term s) ≡ s
+  encoded = read.stands.encoded
+
+  pub exported_length : length (exported s) ≡ office_width * records s
+  unfolding exported
+  exported_length = omega (arith, office_length 0 (term s), read.stands.sized)
+
+  -- question 27 of what is to be written, by the record count
+  pub fits : (room : ℕ) {n : ℕ} → n ≡ records s → ask 27 0 (leb (office_width * n) room) ≡ q27 (exported s) room
+  fits room {n} e = ap (λ x. ask 27 0 (leb x room)) (ap (λ x. office_width * x) e ∙ sym exported_length)
+
+  pub ready : (out : Writer) (old : Bytes) {n : ℕ} {lent : MutBor Bytes} → n ≡ records s → accepted tt ≡ ask 27 0 (leb (office_width * n) (length old))
+      → (out.end ≡ 0) × (out.out ≡ lent) → lent.now ≡ old → Ready s 0 0 out
+  ready out old {n} {lent} c f e m = record {
+    tree = term s;
+    at = at_start s encoded;
+    shallow = omega (arith, read.low);
+    room =
+        let l : office_width * n ≤ length old = leb-true (office_width * n) (length old) (ask_true 27 0 _ (sym f)) in
+        omega (arith, e.0, ap (λ (x : MutBor Bytes). length x.now) e.1, ap length m, l, c, read.stands.sized);
+  }
+
+  -- what was written, in the lent buffer
+  pub written : {out out' : Writer} {next : ℕ} (old : Bytes) {lent : MutBor Bytes} → Exported 0 0 (term s) out next out' → (out.end ≡ 0) × (out.out ≡ lent) → lent.now ≡ old
+      → out'.out.now ≡ splice 0 (exported s) old
+  unfolding exported
+  written old x e m =
+      x.wrote.holds
+      ∙ ap₂ (λ (n : ℕ) (b : Bytes). splice n (exported s) b) e.0 (ap (λ (o : MutBor Bytes). o.now) e.1 ∙ m)

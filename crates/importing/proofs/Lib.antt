@@ -1,0 +1,6 @@
+pub mod Names
+pub mod Operands
+pub mod Walks
+pub mod Turns
+pub mod Whole
+pub mod Asked
