@@ -348,8 +348,8 @@ static inline unsigned wigneld_place_kind_over(unsigned question, const uint8_t 
                : WIGNELD_PLACE_SCRIPT_RECORD;
 }
 
-/* The last question there is. 37 and 38 are none yet; 28 to 30 are those of import and export (wigneld_office.h), 32 to 34 the report
-   program's, of its file of words, and 39 to 42 the office's: wigneld_check_profile's, and of lists of scripts. */
+/* The last question there is. 28 to 30 are those of import and export (wigneld_office.h), 32 to 34 the report program's, of its file of
+   words, 37 and 38 the loan desk's (wigneld_desk.h), and 39 to 42 the office's: wigneld_check_profile's, and of lists of scripts. */
 #define WIGNELD_LAST_QUESTION 42
 
 /* A question in a few words: what is not so, when it is the one that an answer names. */
@@ -394,8 +394,8 @@ static inline const char *wigneld_asked(unsigned question)
         "a word is none of the earlier ones",                              /* 34 */
         "the preview is the one that the script and the buffer give",      /* 35 */
         "a record's indirect creators are at or below its creators",       /* 36 */
-        none,                                                              /* 37 */
-        none,                                                              /* 38 */
+        "the script that is applied has a function's type",                /* 37 */
+        "the entry's type is at or below the function's left side",        /* 38 */
         "the script has no recursion, so that it always finishes",          /* 39, place: the first */
         "the lists are whole, an entry's script new and its old one listed", /* 40, place 0 also for the lengths */
         "a script is replaced by one entry only",                          /* 41 */

@@ -14,6 +14,7 @@ use crate::typing::type_of;
 
 pub use crate::in_force::in_force;
 pub use crate::office::{export, import, write_office_callers};
+pub use crate::packet::{packet, Lent, PacketReport, Request};
 pub use crate::preview::{move_on, preview, MoveReport, Preview};
 pub use crate::rewriting::{rewrite_script, rewrite_types, write_callers};
 pub use crate::script::subterm;
@@ -69,9 +70,14 @@ pub fn check_profile(
     buffers_asked(work, answer)?;
     let tables = read_tables(groups, types)?;
     let term = read_script(&tables, script, &[])?;
-    let recursion = script.chunks(SCRIPT_BYTES).position(|record| record[0] == 11);
-    ask(recursion.is_none(), 39, recursion.unwrap_or(0))?;
+    recursion_asked(script)?;
     find(&tables, &term, work, answer)
+}
+
+/// 39, of a script that has passed 13 to 19.
+pub fn recursion_asked(script: &[u8]) -> Answer<()> {
+    let recursion = script.chunks(SCRIPT_BYTES).position(|record| record[0] == 11);
+    ask(recursion.is_none(), 39, recursion.unwrap_or(0))
 }
 
 /// Checking from question 13 on.

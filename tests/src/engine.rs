@@ -1,9 +1,9 @@
-//! The engine's own functions, from libwigneld.a, libwigneld_office.a and libprobe.a, on slices.
+//! The engine's own functions, from libwigneld.a, libwigneld_office.a, libwigneld_desk.a and libprobe.a, on slices.
 //!
 //! An answer is one number: refused is question * 2^32 + place; otherwise the upper half is 0 and
 //! the lower half is what the call answers. A call that asks nothing answers its number as it is.
 
-use crate::calls::{MoveReport, Preview, RunReport, StepReport};
+use crate::calls::{Lent, MoveReport, PacketReport, Preview, Request, RunReport, StepReport};
 use crate::refusal::{Answer, Refusal};
 use crate::types::Comparison;
 
@@ -98,6 +98,19 @@ mod raw {
         pub fn wigneld_write_office_callers(
             types: *const u8, types_length: usize,
             old: *mut u8, old_length: usize,
+        ) -> u64;
+
+        pub fn wigneld_packet(
+            groups: *const u8, groups_length: usize,
+            types: *const u8, types_length: usize,
+            script: *const u8, script_length: usize,
+            entry: *const u8, entry_length: usize,
+            group: u64, budget: u64, profile: u64,
+            work: *mut u8, work_length: usize,
+            first: *mut u8, first_length: usize,
+            scratch: *mut u8, scratch_length: usize,
+            steps: *mut u8, steps_length: usize,
+            sheet: *mut u8, sheet_length: usize,
         ) -> u64;
 
         pub fn probe_bit(word: u32, h: u64) -> u64;
@@ -364,6 +377,43 @@ pub fn write_office_callers(types: &[u8], old: &mut [u8]) -> u64 {
     }
 }
 
+/// Script and entry are lent as slices of their own, as the buffers are; the request's are not looked at.
+pub fn packet(
+    tables: [&[u8]; 2],
+    operands: [&[u8]; 2],
+    request: &Request,
+    lent: Lent,
+    steps: &mut [u8],
+) -> u64 {
+    let ([groups, types], [script, entry]) = (tables, operands);
+    let Lent { work, first, scratch, sheet } = lent;
+    unsafe {
+        raw::wigneld_packet(
+            groups.as_ptr(),
+            groups.len(),
+            types.as_ptr(),
+            types.len(),
+            script.as_ptr(),
+            script.len(),
+            entry.as_ptr(),
+            entry.len(),
+            request.group,
+            request.budget,
+            request.profile,
+            work.as_mut_ptr(),
+            work.len(),
+            first.as_mut_ptr(),
+            first.len(),
+            scratch.as_mut_ptr(),
+            scratch.len(),
+            steps.as_mut_ptr(),
+            steps.len(),
+            sheet.as_mut_ptr(),
+            sheet.len(),
+        )
+    }
+}
+
 pub fn bit(row: u32, h: u64) -> u64 {
     unsafe { raw::probe_bit(row, h) }
 }
@@ -450,6 +500,11 @@ pub fn packed_preview(answer: &Answer<Preview>) -> u64 {
 /// Move: end * 65,536 + records; the number of steps is written apart.
 pub fn packed_move(answer: &Answer<MoveReport>) -> u64 {
     packed(answer, |moved| moved.step.end as u64 * 65_536 + moved.step.records as u64)
+}
+
+/// Packet: end * 65,536 + records, the sheet's at end 0; the steps are written apart.
+pub fn packed_packet(answer: &Answer<PacketReport>) -> u64 {
+    packed(answer, |report| report.end as u64 * 65_536 + report.records as u64)
 }
 
 /// Run: end * 65,536 + records; the steps are written apart.

@@ -11,6 +11,7 @@ use crate::limits::{
     OLD_SCRIPT_BYTES, OLD_TYPE_BYTES, OWN_TYPE, SCRIPT_BYTES, TYPE_BYTES, WORDS_BYTES, WORD_BYTES,
 };
 use crate::office::OfficeRecord;
+use crate::packet::Request;
 use crate::preview::Preview;
 use crate::script::{
     names_c, names_ic, names_ir, names_number, names_r, operand_count, Record, Side, Term, OPERANDS,
@@ -906,6 +907,19 @@ pub fn typed_at(rng: &mut Rng, tables: &Tables, wanted: &Type, fuel: usize) -> R
     maker(rng, tables).make(wanted, fuel)
 }
 
+/// A value at or below this type, which has no sides or is one of the table's with other groups.
+pub fn value_at(rng: &mut Rng, tables: &Tables, wanted: &Type, fuel: usize) -> Rc<Term> {
+    assert!(fuel <= 200, "deeper than this a script may pass depth 256");
+    Rc::new(maker(rng, tables).value(wanted, fuel))
+}
+
+/// A function of the table, if it has one.
+pub fn some_function(rng: &mut Rng, tables: &Tables) -> Option<Type> {
+    let mut maker = maker(rng, tables);
+    let index = maker.index_where(|_, s| matches!(s.form, Form::Function(..)))?;
+    Some(maker.all[usize::from(index)].clone())
+}
+
 /// A script whose reported type is this one, if the table has the sums and parameters that it has to name.
 pub fn typed_exactly(
     rng: &mut Rng,
@@ -1444,6 +1458,42 @@ pub fn near_miss_office(rng: &mut Rng, old: &[u8]) -> Vec<u8> {
         _ => old[rng.below(old.len())],
     };
     old
+}
+
+/// What a loan desk gives: a script of a function, mostly, and a value, mostly one that the function takes; a group that may mostly
+/// apply it; any budget and profile.
+pub fn random_request(rng: &mut Rng, world: &World) -> Request {
+    let tables = &world.tables;
+    let fuel = rng.below(60);
+    let function = some_function(rng, tables).filter(|_| !rng.one_in(8));
+    let script = match &function {
+        Some(own) => typed_at(rng, tables, own, fuel),
+        None => some_typed(rng, tables, fuel),
+    };
+    let left = function.and_then(|own| own.sides().map(|(left, _)| (**left).clone()));
+    let fuel = rng.below(30);
+    let entry = match left {
+        Some(left) if !rng.one_in(6) => value_at(rng, tables, &left, fuel),
+        _ if rng.one_in(2) => untyped_value(rng, tables, fuel),
+        _ => some_typed(rng, tables, fuel),
+    };
+    let group = match rng.below(8) {
+        0 => rng.below(tables.groups.count() + 1) as u64,
+        1 => highest(&tables.groups) as u64 + (1 << rng.between(8, 63)),
+        _ => highest(&tables.groups).into(),
+    };
+    let budget = if rng.one_in(3) { rng.below(8) as u64 } else { 200 };
+    let profile = if rng.one_in(3) { 1 << rng.below(64) } else { 0 };
+    let mut request =
+        Request { script: script.write(), entry: entry.write(), group, budget, profile };
+    match rng.below(16) {
+        0 => request.script = near_miss(rng, tables, &request.script),
+        1 => request.entry = near_miss(rng, tables, &request.entry),
+        2 => request.script = damaged(rng, &request.script),
+        3 => request.entry = damaged(rng, &request.entry),
+        _ => {}
+    }
+    request
 }
 
 /// Bytes damaged in some way: a bit, a byte, a cut, an addition, or all of them by chance.

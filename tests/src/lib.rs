@@ -17,6 +17,7 @@ pub mod groups;
 pub mod in_force;
 pub mod limits;
 pub mod office;
+pub mod packet;
 pub mod preview;
 pub mod refusal;
 pub mod report;

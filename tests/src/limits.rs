@@ -55,8 +55,8 @@ pub const REPORT_SHEET_BYTES: usize = MOST_SCRIPT_RECORDS * SHEET_BYTES;
 /// Report program and cases: "budget 1,000".
 pub const REPORT_BUDGET: u64 = 1000;
 
-/// The highest question of a call: 1 to 27, and of document 02 28 to 30 (item 1), 31 (item 3), 35 (item 9), 36 (item 10), 39 (item 12)
-/// and 40 to 42 (item 14).
+/// The highest question of a call: 1 to 27, and of document 02 28 to 30 (item 1), 31 (item 3), 35 (item 9), 36 (item 10), 37 and 38
+/// (item 11), 39 (item 12) and 40 to 42 (item 14).
 pub const LAST_QUESTION: usize = 42;
 
 /// Questions 8 and 13: whole records of this width, 1 to `most`?

@@ -1,7 +1,7 @@
 -- The numbers that the documents give the questions.
 use Rattle.std.specs.Prelude.{ℕ}
 use Rattle.answer.specs.declared.Question.{Question}
-use Rattle.answer.specs.declared.Question.TheVariants.{BufferLengths, GroupsLength, BitsInTable, LowestBit, Transitive, Joins, LowestGroup, TypesLength, TypeFields, TypeReaders, WholeTypes, TypeLengths, ScriptLength, Fields, Groups, NamedTypes, OneTerm, Depth, Scope, Former, Reader, Wanted, Recursion, FoundLength, Given, Value, Room, CommonType, WordsLength, Letters, DistinctWords, Preview, Creators, Profile, Lists, ReplacedOnce, AmendedType, OfficeLength, UnusedNames, BoundNames}
+use Rattle.answer.specs.declared.Question.TheVariants.{BufferLengths, GroupsLength, BitsInTable, LowestBit, Transitive, Joins, LowestGroup, TypesLength, TypeFields, TypeReaders, WholeTypes, TypeLengths, ScriptLength, Fields, Groups, NamedTypes, OneTerm, Depth, Scope, Former, Reader, Wanted, Recursion, FoundLength, Given, Value, Room, CommonType, WordsLength, Letters, DistinctWords, Preview, Creators, Applied, Entry, Profile, Lists, ReplacedOnce, AmendedType, OfficeLength, UnusedNames, BoundNames}
 
 abbrev pub number : Question → ℕ
 number BufferLengths = 1
@@ -40,6 +40,8 @@ number Letters = 33
 number DistinctWords = 34
 number Preview = 35
 number Creators = 36
+number Applied = 37
+number Entry = 38
 number Profile = 39
 number Lists = 40
 number ReplacedOnce = 41

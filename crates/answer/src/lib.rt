@@ -46,6 +46,8 @@ pub enum Question {
     DistinctWords = 34,
     Preview = 35,
     Creators = 36,
+    Applied = 37,
+    Entry = 38,
     Profile = 39,
     Lists = 40,
     ReplacedOnce = 41,

@@ -31,7 +31,7 @@ use Rattle.demands.proofs.Places.{typing_placed, placed_refusal}
 use Rattle.demands.proofs.OldQuestions.{after_8, after_13, old_types_asked, old_script_asked}
 
 -- Each question refuses with its own number.
-own_1 : (work answer : ℕ) → Own 1 (q1 work answer)
+pub own_1 : (work answer : ℕ) → Own 1 (q1 work answer)
 own_1 work answer = ask_own 1 0 (leb work_length work && leb answer_length answer)
 
 own_2 : (g : Bytes) → Own 2 (q2 g)
@@ -40,7 +40,7 @@ own_2 g = ask_own 2 0 (eqb (length g % row_width) 0 && (leb 1 (rows g) && leb (r
 own_8 : (width : ℕ) (t : Bytes) → Own 8 (q8_of width t)
 own_8 width t = ask_own 8 0 (eqb (length t % width) 0 && (leb 1 (length t / width) && leb (length t / width) table_limit))
 
-own_13 : (width : ℕ) (rooms : List ℕ) (s : Bytes) → Own 13 (q13_of width rooms s)
+pub own_13 : (width : ℕ) (rooms : List ℕ) (s : Bytes) → Own 13 (q13_of width rooms s)
 own_13 width rooms s =
     ask_own 13 0
     (eqb (length s % width) 0
@@ -77,7 +77,7 @@ form_decided g t s =
     (decided_then (q17 s) (q18 s) (decided_one (exactly_own (records s) (term_end s 0)))
     (decided_one (each_own 18 (records s) (ok18 (depths (term s)))))))))
 
-later_script : (g t s : Bytes) → Decided (from_14 g t s) (after_13 g t s)
+pub later_script : (g t s : Bytes) → Decided (from_14 g t s) (after_13 g t s)
 unfolding form_check
 later_script g t s =
     rw (form_then g t s (q19 s))

@@ -36,6 +36,8 @@ pub mod PlaceBytes
 pub mod RecordKinds
 pub mod Noninterference
 pub mod Preview
+pub mod PacketQuestions
+pub mod Packet
 pub mod InForce
 pub mod Imports
 pub mod Exports

@@ -36,7 +36,7 @@ more_steps : {S : Security} {tab : ℕ → Ty} {e e' v : Term} → Reduces S tab
 more_steps r x = record { steps = suc x.steps; runs = runs_on r x.runs; ended = x.ended }
 
 module _ (S : Security) (tab : ℕ → Ty) (room : ℕ) where
-  ends_0 : (budget : ℕ) (e : Term) → (run S tab room budget e).end ≡ 0 → Ends S tab e (run S tab room budget e).last
+  pub ends_0 : (budget : ℕ) (e : Term) → (run S tab room budget e).end ≡ 0 → Ends S tab e (run S tab room budget e).last
   unfolding run step_in
   ends_0 zero e h = go (is_value e) refl h
     where

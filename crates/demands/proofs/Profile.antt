@@ -41,7 +41,7 @@ use Rattle.demands.proofs.TypesTable.{tables}
 use Rattle.demands.proofs.SecondDemand.{goes, only}
 
 -- 39 looks at one record
-ok39_record : (s : Bytes) (i : ℕ) → ok39 (record_at script_width s i) 0 ≡ ok39 s i
+pub ok39_record : (s : Bytes) (i : ℕ) → ok39 (record_at script_width s i) 0 ≡ ok39 s i
 unfolding ok39
 ok39_record s i = rw (kind_is s i)
 
@@ -115,7 +115,7 @@ module _ (g t s : Bytes) (octets_g : Octets g) (octets_s : Octets s) where
   unfolding checking
   as_checked type p = go_on p.script p.typed
 
-  in_profile : (type : Ty) → Accepted g t s type → q39 s ≡ accepted tt → AcceptedInProfile g t s type
+  pub in_profile : (type : Ty) → Accepted g t s type → q39 s ≡ accepted tt → AcceptedInProfile g t s type
   unfolding checking profile_checking
   in_profile type a f =
       let p = and_then (script_check [] g t s) _ a in

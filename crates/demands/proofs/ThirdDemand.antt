@@ -51,7 +51,7 @@ module _ (g t : Bytes) (types : types_check g t ≡ accepted tt) (X : Tables g t
   abbrev tab : ℕ → Ty
   tab = type_at t
 
-  fit_verdict : (e : Term) → Fit g t e → verdict g t (encode e) ≡ typing S tab [] 0 e
+  pub fit_verdict : (e : Term) → Fit g t e → verdict g t (encode e) ≡ typing S tab [] 0 e
   unfolding checking
   fit_verdict e F =
       goes (script_check [] g t (encode e)) (typing S tab [] 0 (term (encode e))) (fit_passes g t types X e F) ∙ ap (typing S tab [] 0) (term_encode e)
@@ -88,13 +88,13 @@ one_group_octets (suc (suc (suc zero))) = omega arith
 one_group_octets (suc (suc (suc (suc i)))) = omega arith
 
 -- two buffers with room
-two_rooms : (a b : ℕ) (s : Bytes) → length s ≤ a → length s ≤ b → Roomy (a ∷ b ∷ []) s
+pub two_rooms : (a b : ℕ) (s : Bytes) → length s ≤ a → length s ≤ b → Roomy (a ∷ b ∷ []) s
 two_rooms a b s l m zero h = l
 two_rooms a b s l m (suc zero) h = m
 two_rooms a b s l m (suc (suc i)) h = absurd (omega arith)
 
 -- a run of a term that fits
-fit_runs : (g t : Bytes) → types_check g t ≡ accepted tt → Tables g t → (e : Term) (budget first scratch : ℕ) → Fit g t e → length (encode e) ≤ first → length (encode e) ≤ scratch
+pub fit_runs : (g t : Bytes) → types_check g t ≡ accepted tt → Tables g t → (e : Term) (budget first scratch : ℕ) → Fit g t e → length (encode e) ≤ first → length (encode e) ≤ scratch
     → running g t (encode e) budget first scratch ≡ accepted (run (properties_of g) (type_at t) (min first scratch) budget e)
 unfolding running
 fit_runs g t types X e budget first scratch F l m =

@@ -8,5 +8,6 @@ pub mod CommonTypes
 pub mod Profile
 pub mod Noninterference
 pub mod Preview
+pub mod Packet
 pub mod InForce
 pub mod Office

@@ -38,7 +38,7 @@ place_small {A = A} (Err y) e b = go (subst Bounded (sym e) b)
     go : Bounded {A = A} (refused (number y.question) y.place) → y.place < half
     go (bounded_no l m n) = omega arith
 
-then : {B : Type 0} (a : Answer (Unit {0})) (b : Answer B) → Bounded a → (a ≡ accepted tt → Bounded b) → Bounded (◌>>◌ a b)
+pub then : {B : Type 0} (a : Answer (Unit {0})) (b : Answer B) → Bounded a → (a ≡ accepted tt → Bounded b) → Bounded (◌>>◌ a b)
 then (accepted tt) b x f = f refl
 then (refused q p) b (bounded_no l m n) f = bounded_no l m n
 
@@ -55,7 +55,7 @@ from_bounded q test (suc n) i l m b = go (test i) refl (from_bounded q test n (s
     go true e ih = rw (e, first_from) (bounded_no {p = i} l m (omega arith))
     go false e ih = rw (e, first_from) ih
 
-each_bounded : (q n : ℕ) (ok : ℕ → Bool) → 1 ≤ q → q ≤ last_question → n ≤ script_limit → Bounded (each q n ok)
+pub each_bounded : (q n : ℕ) (ok : ℕ → Bool) → 1 ≤ q → q ≤ last_question → n ≤ script_limit → Bounded (each q n ok)
 each_bounded q n ok l m b = from_bounded q (λ i. not (ok i)) n 0 l m (omega arith)
 
 exactly_bounded : (n : ℕ) (o : Option ℕ) → n ≤ script_limit → ((e : ℕ) → o ≡ some e → e ≤ n) → Bounded (exactly n o)
@@ -63,21 +63,21 @@ exactly_bounded n none b f = bounded_no {q = 17} (omega arith) (omega arith) b
 exactly_bounded n (some e) b f = ask_bounded 17 e (eqb e n) (omega arith) (omega arith) (omega (arith, f e refl))
 
 -- a question whose place is 0
-front : (q : ℕ) (b : Bool) → 1 ≤ q → q ≤ last_question → Bounded (ask q 0 b)
+pub front : (q : ℕ) (b : Bool) → 1 ≤ q → q ≤ last_question → Bounded (ask q 0 b)
 front q b l m = ask_bounded q 0 b l m (omega arith)
 
 at_8 : (width : ℕ) (t : Bytes) → Bounded (q8_of width t)
 at_8 width t =
     front 8 (eqb (length t % width) 0 && (leb 1 (length t / width) && leb (length t / width) table_limit)) (omega arith) (omega arith)
 
-at_13 : (width : ℕ) (rooms : List ℕ) (s : Bytes) → Bounded (q13_of width rooms s)
+pub at_13 : (width : ℕ) (rooms : List ℕ) (s : Bytes) → Bounded (q13_of width rooms s)
 at_13 width rooms s =
     front 13
     (eqb (length s % width) 0
     && (leb 1 (length s / width) && (leb (length s / width) script_limit && all_below (λ i. leb (length s) (get_or rooms i 0)) (length rooms))))
     (omega arith) (omega arith)
 
-at_27 : (bytes : Bytes) (room : ℕ) → Bounded (q27 bytes room)
+pub at_27 : (bytes : Bytes) (room : ℕ) → Bounded (q27 bytes room)
 at_27 bytes room = front 27 (leb (length bytes) room) (omega arith) (omega arith)
 
 pub groups_bounded : (g : Bytes) → Bounded (groups_check g)
@@ -248,7 +248,7 @@ script_small rooms g t s o e =
     omega (arith, (whole rooms s o f13 (and_then (q14 s) _ e14).0 (and_then (q17 s) _ e17).0).sized, (q13_fitting rooms s f13).limited)
 
 -- typing of a script that has passed the questions before it
-typing_bounded : (g t s : Bytes) → Octets s → script_check [] g t s ≡ accepted tt → Bounded (typing (properties_of g) (type_at t) [] 0 (term s))
+pub typing_bounded : (g t s : Bytes) → Octets s → script_check [] g t s ≡ accepted tt → Bounded (typing (properties_of g) (type_at t) [] 0 (term s))
 typing_bounded g t s o e =
     placed_bounded (typing (properties_of g) (type_at t) [] 0 (term s)) (typing_placed (properties_of g) (type_at t) (size (term s)) [] 0 (term s) (omega arith))
     (script_small [] g t s o e)

@@ -38,6 +38,7 @@ pub mod CreatorExamples
 pub mod NumberExamples
 pub mod ProfileExamples
 pub mod PreviewExamples
+pub mod PacketExamples
 pub mod InForceExamples
 pub mod InForce
 pub mod OfficeExamples

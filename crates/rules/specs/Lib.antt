@@ -17,6 +17,7 @@ pub mod Office
 pub mod Reach
 pub mod Profile
 pub mod Preview
+pub mod Packet
 pub mod InForce
 pub mod Words
 pub mod Report
@@ -29,5 +30,6 @@ pub mod CreatorExamples
 pub mod NumberExamples
 pub mod ProfileExamples
 pub mod PreviewExamples
+pub mod PacketExamples
 pub mod InForceExamples
 pub mod OfficeExamples

@@ -7,7 +7,9 @@
 
 pub mod records;
 
-use wigneld_tests::calls::{self, MoveReport, Preview, RunReport, StepReport};
+use wigneld_tests::calls::{
+    self, Lent, MoveReport, PacketReport, Preview, Request, RunReport, StepReport,
+};
 use wigneld_tests::cases::Inputs;
 use wigneld_tests::limits::{ANSWER_BYTES, REPORT_RUN_BYTES, SCRIPT_BYTES, TYPE_BYTES, WORK_BYTES};
 use wigneld_tests::refusal::{Answer, Refusal};
@@ -234,6 +236,42 @@ pub fn move_with(
     (result, after)
 }
 
+/// The four buffers of a packet whose bytes are compared; the steps are in its report.
+#[derive(Debug, Clone, PartialEq, Eq)]
+pub struct Desk {
+    pub work: Vec<u8>,
+    pub first: Vec<u8>,
+    pub scratch: Vec<u8>,
+    pub sheet: Vec<u8>,
+}
+
+impl Desk {
+    /// Filled buffers of these lengths.
+    pub fn of(work: usize, first: usize, scratch: usize, sheet: usize) -> Desk {
+        let [work, first, scratch, sheet] = [work, first, scratch, sheet].map(filled);
+        Desk { work, first, scratch, sheet }
+    }
+
+    pub fn lend(&mut self) -> Lent<'_> {
+        let Desk { work, first, scratch, sheet } = self;
+        Lent { work, first, scratch, sheet }
+    }
+}
+
+/// A packet with these buffers: the answer, and what they hold afterwards.
+pub fn packet_with(
+    groups: &[u8],
+    types: &[u8],
+    request: &Request,
+    desk: &Desk,
+) -> (Answer<PacketReport>, Desk) {
+    let mut after = desk.clone();
+    let result = calls::packet(groups, types, request, after.lend());
+    #[cfg(feature = "engine")]
+    compared::packet([groups, types], request, desk, &result, &after);
+    (result, after)
+}
+
 /// A sheet in this buffer.
 pub fn sheet_with(inputs: &Inputs, group: u64, sheet: Vec<u8>) -> (Answer<u32>, Vec<u8>) {
     let Inputs { groups, types, script } = inputs;
@@ -376,8 +414,8 @@ pub fn sheet_in(inputs: &Inputs, group: u64, length: usize) -> (Answer<u32>, Vec
 mod compared {
     use super::*;
     use wigneld_tests::engine::{
-        self, packed_comparison, packed_count, packed_move, packed_nothing, packed_preview,
-        packed_run, packed_script, packed_step,
+        self, packed_comparison, packed_count, packed_move, packed_nothing, packed_packet,
+        packed_preview, packed_run, packed_script, packed_step,
     };
     use wigneld_tests::steps::End;
 
@@ -663,6 +701,59 @@ mod compared {
         same(first.take("first"), after[0], "run: first buffer");
         same(scratch.take("scratch"), after[1], "run: scratch");
         given.unchanged(inputs);
+    }
+
+    pub fn packet(
+        tables: [&[u8]; 2],
+        request: &Request,
+        desk: &Desk,
+        expected: &Answer<PacketReport>,
+        after: &Desk,
+    ) {
+        // Room for the step count and more, for just it, for a part of it, for nothing.
+        let length = [11, 8, 5, 0][(request.script.len() / SCRIPT_BYTES + desk.sheet.len()) % 4];
+        let before = filled(length);
+        let operands = [&request.script[..], &request.entry[..]];
+        let [mut groups, mut types] = tables.map(Guarded::new);
+        let [mut script, mut entry] = operands.map(Guarded::new);
+        let buffers = |desk: &Desk| {
+            [desk.work.clone(), desk.first.clone(), desk.scratch.clone(), desk.sheet.clone()]
+        };
+        let mut lent = buffers(desk).map(|bytes| Guarded::new(&bytes));
+        let mut steps = Guarded::new(&before);
+        let [work, first, scratch, sheet] = &mut lent;
+        let found = engine::packet(
+            [groups.lend(), types.lend()],
+            [script.lend(), entry.lend()],
+            request,
+            Lent {
+                work: work.lend(),
+                first: first.lend(),
+                scratch: scratch.lend(),
+                sheet: sheet.lend(),
+            },
+            steps.lend(),
+        );
+        answers(found, packed_packet(expected), "packet");
+        let mut count = before;
+        if let Ok(report) = expected {
+            let kept = length.min(8);
+            count[..kept].copy_from_slice(&report.steps.to_le_bytes()[..kept]);
+        }
+        same(steps.take("steps"), &count, "packet: steps made");
+        let names = ["work buffer", "first buffer", "scratch", "sheet"];
+        for ((lent, after), name) in lent.iter().zip(buffers(after)).zip(names) {
+            same(lent.take(name), &after, &format!("packet: {name}"));
+        }
+        let given = [
+            (&groups, tables[0]),
+            (&types, tables[1]),
+            (&script, operands[0]),
+            (&entry, operands[1]),
+        ];
+        for (lent, before) in given {
+            same(lent.take("what is given"), before, "what is given is only read");
+        }
     }
 
     pub fn step(inputs: &Inputs, lent: &[u8], expected: &Answer<StepReport>, after: &[u8]) {

@@ -1,0 +1,3 @@
+pub mod Reports
+pub mod Checks
+pub mod Runs
