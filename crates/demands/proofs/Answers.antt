@@ -36,3 +36,8 @@ asks q place b h = rw h
 
 pub and_true : {a b : Bool} → a ≡ true → b ≡ true → a && b ≡ true
 and_true x y = rw (x, y)
+
+-- equal answers after equal questions
+pub then_same : {A : Type 0} (a a' : Answer (Unit {0})) (b b' : Answer A) → a ≡ a' → (a' ≡ accepted tt → b ≡ b') → ◌>>◌ a b ≡ ◌>>◌ a' b'
+then_same a (accepted tt) b b' e h = rw e (h refl)
+then_same a (refused q p) b b' e h = rw e

@@ -9,14 +9,15 @@ use Rattle.calculus.specs.Terms.{Term}
 use Rattle.rules.specs.Answer.{Bytes, Octets, accepted}
 use Rattle.rules.specs.Limits.{script_limit, depth_limit}
 use Rattle.rules.specs.Groups.{groups_of}
-use Rattle.rules.specs.Script.{encode, term, size, depth, q13, q14, q15, q36_objects, q16, q17, q18}
-use Rattle.rules.specs.Calls.{types_check, script_check}
+use Rattle.rules.specs.Script.{encode, term, size, depth, q13, q19}
+use Rattle.rules.specs.Calls.{types_check, form_check, own_check, script_check}
 use Rattle.rules.proofs.ScriptLength.{q13_fitting, q13_encode}
 use Rattle.rules.proofs.Scripts.{whole, q17_encode}
 use Rattle.rules.proofs.NodeQuestions.{q14_encode}
 use Rattle.rules.proofs.Depth.{q18_depth, q18_encode}
 use Rattle.demands.proofs.Answers.{go_on}
 use Rattle.rules.proofs.Asked.{and_then}
+use Rattle.rules.proofs.Form.{form_yes, yes_form}
 use Rattle.demands.proofs.Formed.{Formed}
 use Rattle.demands.proofs.Questions.{questions_formed, formed_questions}
 
@@ -37,34 +38,30 @@ pub record Passed (rooms : List ℕ) (g t s : Bytes) : Type 0 where
   pub room : Roomy rooms s
 
 pub script_passed : (rooms : List ℕ) (g t s : Bytes) → Octets s → script_check rooms g t s ≡ accepted tt → Passed rooms g t s
-unfolding script_check
+unfolding own_check script_check
 script_passed rooms g t s octets p =
     let a = and_then (types_check g t) _ p in
     let b = and_then (q13 rooms s) _ a.1 in
-    let c = and_then (q14 s) _ b.1 in
-    let d = and_then (q15 g s) _ c.1 in
-    let e = and_then (q36_objects g s) _ d.1 in
-    let f = and_then (q16 t s) _ e.1 in
-    let h = and_then (q17 s) _ f.1 in
-    let i = and_then (q18 s) _ h.1 in
-    let w = whole rooms s octets b.0 c.0 h.0 in
+    let c = and_then (form_check g t s) (q19 s) b.1 in
+    let f = form_yes g t s c.0 in
+    let w = whole rooms s octets b.0 f.fields f.one_term in
     let n = q13_fitting rooms s b.0 in
     record {
       types = a.0;
       encoded = w.encoded;
       fit = record {
-        formed = questions_formed g t (term s) (rw w.encoded d.0) (rw w.encoded e.0) (rw w.encoded f.0) (rw w.encoded i.1) (rw w.encoded octets);
+        formed = questions_formed g t (term s) (rw w.encoded f.groups) (rw w.encoded f.creators) (rw w.encoded f.types) (rw w.encoded c.1) (rw w.encoded octets);
         small = omega (arith, w.sized, n.limited);
-        shallow = q18_depth (term s) (rw w.encoded i.0);
+        shallow = q18_depth (term s) (rw w.encoded f.shallow);
       };
       room = n.roomy;
     }
 
 pub script_passes : (rooms : List ℕ) (g t : Bytes) (e : Term) → types_check g t ≡ accepted tt → Lattice (groups_of g) → Fit g t e → Roomy rooms (encode e)
     → script_check rooms g t (encode e) ≡ accepted tt
-unfolding script_check
+unfolding own_check script_check
 script_passes rooms g t e types X F room =
     let q = formed_questions g t X e F.formed in
-    go_on types
-    (go_on (q13_encode rooms e F.small room)
-    (go_on (q14_encode e) (go_on q.0 (go_on q.3 (go_on q.1 (go_on (q17_encode e) (go_on (q18_encode e F.shallow) q.2)))))))
+    let form = yes_form g t (encode e)
+    (record { fields = q14_encode e; groups = q.0; creators = q.3; types = q.1; one_term = q17_encode e; shallow = q18_encode e F.shallow }) in
+    go_on types (go_on (q13_encode rooms e F.small room) (go_on form q.2))

@@ -9,11 +9,11 @@ use lib.ListN.{length}
 use Rattle.calculus.specs.Terms.{Term}
 use Rattle.rules.specs.Answer.{Bytes, Octets, Answer, accepted}
 use Rattle.rules.specs.Limits.{office_width, office_limit}
-use Rattle.rules.specs.Script.{records, encode, size, term, c, ic, q13, q14, q15, q36_objects, q16, q17, q18, q19}
-use Rattle.rules.specs.Calls.{types_check, script_check, q27}
+use Rattle.rules.specs.Script.{records, encode, size, term, c, ic, q13, q15, q36_objects, q16, q18, q19}
+use Rattle.rules.specs.Calls.{types_check, form_check, own_check, script_check, q27}
 use Rattle.rules.specs.Rewriting.{rewritten_after}
 use Rattle.rules.specs.Names.{naming, meant}
-use Rattle.rules.specs.Office.{office_records, nameless, with_names, named_term, q28, q30, form_check, imported, importing, office, exported, q28_of_export, exporting}
+use Rattle.rules.specs.Office.{office_records, nameless, with_names, named_term, q28, q30, imported, importing, office, exported, q28_of_export, exporting}
 use Rattle.rules.proofs.Asked.{ask_true, and_then}
 use Rattle.rules.proofs.PrefixLaws.{alone, size_positive}
 use Rattle.rules.proofs.Nodes.{Every, to_nodes}
@@ -28,10 +28,11 @@ use Rattle.rules.proofs.Office.{scoped_q30}
 use Rattle.rules.proofs.Exports.{Plain, office_length, export_records, export_nameless, export_names, export_stands, export_q29}
 use Rattle.demands.specs.Questions.{question, of_groups, of_types, of_script}
 use Rattle.demands.specs.Office.{Uncreated, Exports}
+use Rattle.rules.proofs.Form.{form_yes, yes_form}
 use Rattle.demands.proofs.Answers.{accepted_inj, go_on, asks}
 use Rattle.demands.proofs.Deciding.{Decided, decides, ask_own, decided_one, decided_then, decided_yes}
 use Rattle.demands.proofs.FirstDemand.{script_decided}
-use Rattle.demands.proofs.Imports.{Kept, every_blank, q15_kept, q36_kept, q16_kept, yes_form}
+use Rattle.demands.proofs.Imports.{Kept, every_blank, q15_kept, q36_kept, q16_kept}
 
 -- What export asked, where it accepts, of the term that the script encodes.
 pub record Exported (g t : Bytes) (e : Term) : Type 0 where
@@ -121,29 +122,25 @@ module _ (g t s : Bytes) where
       asked : Exported g t e
 
     answered : Answered
-    unfolding exporting script_check exported
+    unfolding exporting own_check script_check exported
     answered =
         let a = and_then (script_check [] g t s) _ q in
         let q28 = and_then (q28_of_export s) _ a.1 in
         let q27 = and_then (q27 (exported s) room) _ q28.1 in
         let types = and_then (types_check g t) _ a.0 in
         let q13 = and_then (q13 [] s) _ types.1 in
-        let q14 = and_then (q14 s) _ q13.1 in
-        let q15 = and_then (q15 g s) _ q14.1 in
-        let q36 = and_then (q36_objects g s) _ q15.1 in
-        let q16 = and_then (q16 t s) _ q36.1 in
-        let q17 = and_then (q17 s) _ q16.1 in
-        let q18 = and_then (q18 s) (q19 s) q17.1 in
-        let w = whole [] s octets q13.0 q14.0 q17.0 in
+        let q18 = and_then (form_check g t s) (q19 s) q13.1 in
+        let f = form_yes g t s q18.0 in
+        let w = whole [] s octets q13.0 f.fields f.one_term in
         record {
           encoded = w.encoded;
           is = accepted_inj q27.1;
           asked = record {
             types = types.0;
-            groups = rw w.encoded q15.0;
-            creators = rw w.encoded q36.0;
-            named = rw w.encoded q16.0;
-            shallow = rw w.encoded q18.0;
+            groups = rw w.encoded f.groups;
+            creators = rw w.encoded f.creators;
+            named = rw w.encoded f.types;
+            shallow = rw w.encoded f.shallow;
             scoped = q19_scoped e (rw w.encoded q18.1);
             limited = omega (arith, w.sized, leb-true (records s) office_limit (ask_true 28 0 _ q28.0));
           };

@@ -17,18 +17,16 @@ use Rattle.rules.specs.Typing.{of_typing, typing}
 use Rattle.rules.specs.Step.{End, end_number, end_count, step_in}
 use Rattle.rules.specs.Run.{Ran}
 use Rattle.rules.specs.Sheet.{sheet}
-use Rattle.rules.specs.Calls.{zeros, q1, q25, q26, q27, groups_check, types_check, comparing, script_check, checking, answer_after, work_after, stepping, written_after, running, first_after, scratch_after, sheeting, sheet_after}
+use Rattle.rules.specs.Calls.{zeros, q1, q25, q26, q27, groups_check, types_check, comparing, form_check, own_check, script_check, checking, answer_after, work_after, stepping, written_after, running, first_after, scratch_after, sheeting, sheet_after}
 use Rattle.rules.specs.Profile.{ok39, q39, profile_checking}
 use Rattle.rules.specs.Preview.{Preview, q35, previewing, moving}
-use Rattle.rules.specs.Office.{form_check}
 use Rattle.rules.specs.Rewriting.{widen_types, widen_script, old_types_check, rewriting_types, rewriting_script, rewritten_after}
 use Rattle.rules.proofs.Asked.{regroup}
 use Rattle.demands.specs.Questions.{question, of_groups, from_9, of_types, from_14, of_script, of_old_types, of_old_script, Checks, of_form}
-use Rattle.rules.proofs.Form.{form_then}
 use Rattle.demands.specs.Demands.{Demand1}
 use Rattle.demands.proofs.Deciding.{Own, Decided, decides, ask_own, each_own, exactly_own, decided_one, decided_then, decided_yes, then_found, checks_more, Numbers, refusal_number}
 use Rattle.demands.proofs.Places.{typing_placed, placed_refusal}
-use Rattle.demands.proofs.OldQuestions.{after_8, after_13, old_types_asked, old_script_asked}
+use Rattle.demands.proofs.OldQuestions.{after_8, old_types_asked, old_script_asked}
 
 -- Each question refuses with its own number.
 pub own_1 : (work answer : ℕ) → Own 1 (q1 work answer)
@@ -77,16 +75,18 @@ form_decided g t s =
     (decided_then (q17 s) (q18 s) (decided_one (exactly_own (records s) (term_end s 0)))
     (decided_one (each_own 18 (records s) (ok18 (depths (term s)))))))))
 
-pub later_script : (g t s : Bytes) → Decided (from_14 g t s) (after_13 g t s)
-unfolding form_check
+later_script : (g t s : Bytes) → Decided (from_14 g t s) (◌>>◌ (form_check g t s) (q19 s))
 later_script g t s =
-    rw (form_then g t s (q19 s))
-    (decided_then (form_check g t s) (q19 s) (form_decided g t s) (decided_one (each_own 19 (records s) (ok19 (binders (term s)) s))))
+    decided_then (form_check g t s) (q19 s) (form_decided g t s) (decided_one (each_own 19 (records s) (ok19 (binders (term s)) s)))
+
+pub own_decided : (rooms : List ℕ) (g t s : Bytes) → Decided (of_script rooms g t s) (own_check rooms g t s)
+unfolding own_check
+own_decided rooms g t s = decided_then (q13 rooms s) _ (decided_one (own_13 script_width rooms s)) (later_script g t s)
 
 pub script_decided : (rooms : List ℕ) (g t s : Bytes) → Decided (of_groups g ++ of_types g t ++ of_script rooms g t s) (script_check rooms g t s)
 unfolding script_check
 script_decided rooms g t s =
-    decided_then (types_check g t) _ (types_decided g t) (decided_then (q13 rooms s) _ (decided_one (own_13 script_width rooms s)) (later_script g t s))
+    decided_then (types_check g t) (own_check rooms g t s) (types_decided g t) (own_decided rooms g t s)
 
 -- 2 to 19 and 36 are none of typing's
 abbrev Early : ℕ → Type 0
@@ -193,7 +193,7 @@ script_rewriting_decided : (g t s : Bytes) (room : ℕ)
 unfolding rewriting_script
 script_rewriting_decided g t s room =
     rw (old_script_asked g t s)
-    (decided_then (◌>>◌ (old_types_check g t) (◌>>◌ (q13_of old_script_width [] s) (after_13 g (widen_types t) (widen_script s)))) _
+    (decided_then _ _
     (decided_then (old_types_check g t) _ (old_types_decided g t)
     (decided_then (q13_of old_script_width [] s) _ (decided_one (own_13 old_script_width [] s)) (later_script g (widen_types t) (widen_script s))))
     (decided_then (q27 (widen_script s) room) _ (decided_one (ask_own 27 0 (leb (length (widen_script s)) room))) (decided_yes _)))

@@ -11,10 +11,10 @@ use Rattle.calculus.specs.Terms.{plus, less, Term, var, unit, lam, pair, inj, ap
 use Rattle.rules.specs.Answer.{Bytes, Octets, Answer, accepted}
 use Rattle.rules.specs.Limits.{script_width, office_width, office_limit}
 use Rattle.rules.specs.Script.{script_record, encode, size, depth, term, ok15, ok36_object, ok16, q14, q15, q36_objects, q16, q17, q18}
-use Rattle.rules.specs.Calls.{types_check, script_check, q27}
+use Rattle.rules.specs.Calls.{types_check, form_check, own_check, script_check, q27}
 use Rattle.rules.specs.Rewriting.{rewritten_after}
 use Rattle.rules.specs.Names.{Means, meant}
-use Rattle.rules.specs.Office.{office_records, nameless, named_term, with_names, ok29, ok30, q28, q29, q30, form_check, imported, importing}
+use Rattle.rules.specs.Office.{office_records, nameless, named_term, with_names, ok29, ok30, q28, q29, q30, imported, importing}
 use Rattle.rules.specs.Names.{scopes}
 use Rattle.rules.proofs.Asked.{and_then}
 use Rattle.rules.proofs.ScriptLength.{q13_encode}
@@ -26,7 +26,7 @@ use Rattle.rules.proofs.NodeQuestions.{asked_of_nodes, asked_of_records, q14_enc
 use Rattle.rules.proofs.Depth.{q18_depth, q18_encode}
 use Rattle.rules.proofs.Scope.{q19_encode}
 use Rattle.rules.proofs.Scripts.{Whole, whole, encode_injective, q17_encode}
-use Rattle.rules.proofs.Form.{Formed, form_yes}
+use Rattle.rules.proofs.Form.{form_yes, yes_form}
 use Rattle.rules.proofs.Names.{means_meant, meant_means, blank, blank_size, blank_depth, blank_meant, to_blank, from_blank}
 use Rattle.rules.proofs.Office.{q28_measured, nameless_13, nameless_records, nameless_octets, q30_scoped, scoped_q30}
 use Rattle.demands.specs.Questions.{question, of_groups, of_types, of_office}
@@ -112,11 +112,6 @@ module _ (g t : Bytes) where
     q16_kept q =
         let own = λ (s : Bytes) (i : ℕ). ok16_record s i t in
         asked_of_records 16 (ok16 t) own e' (kept (λ h. ok16 t h 0 ≡ true) any_16 (asked_of_nodes 16 (ok16 t) own e q))
-
--- Questions 14 to 18 together.
-pub yes_form : (g t s : Bytes) → Formed g t s → form_check g t s ≡ accepted tt
-unfolding form_check
-yes_form g t s f = go_on f.fields (go_on f.groups (go_on f.creators (go_on f.types (go_on f.one_term f.shallow))))
 
 -- An old script whose form is right is a term without names.
 pub seen_whole : (s : Bytes) → Octets s → q28 s ≡ accepted tt → q14 (nameless s) ≡ accepted tt → q17 (nameless s) ≡ accepted tt → Whole (nameless s)
@@ -204,21 +199,23 @@ module _ (g t s : Bytes) where
           ap (λ (x : Bytes). length x / script_width) (sym (sym imported_is ∙ yes.is)) ∙ n
 
       import_checked : script_check [] g t b ≡ accepted tt
-      unfolding script_check named_term
+      unfolding own_check script_check named_term
       import_checked =
           let f = form_yes g t (nameless s) yes.form in
           let kept : Kept g t old new = λ Q any h. every_meant Q any s old h in
           let e = old_whole.encoded in
+          let form = yes_form g t (encode new) (record {
+            fields = q14_encode new;
+            groups = q15_kept g t old new kept (ap (q15 g) e ∙ f.groups);
+            creators = q36_kept g t old new kept (ap (q36_objects g) e ∙ f.creators);
+            types = q16_kept g t old new kept (ap (q16 t) e ∙ f.types);
+            one_term = q17_encode new;
+            shallow = q18_encode new (omega (arith, new_depth, q18_depth old (ap q18 e ∙ f.shallow)));
+          }) in
           subst (λ (x : Bytes). script_check [] g t x ≡ accepted tt) (sym imported_is ∙ yes.is)
           (go_on yes.types
           (go_on (q13_encode [] new (omega (arith, small)) (λ i l. absurd (omega arith)))
-          (go_on (q14_encode new)
-          (go_on (q15_kept g t old new kept (ap (q15 g) e ∙ f.groups))
-          (go_on (q36_kept g t old new kept (ap (q36_objects g) e ∙ f.creators))
-          (go_on (q16_kept g t old new kept (ap (q16 t) e ∙ f.types))
-          (go_on (q17_encode new)
-          (go_on (q18_encode new (omega (arith, new_depth, q18_depth old (ap q18 e ∙ f.shallow))))
-          (q19_encode new (q30_scoped s old_whole yes.bound))))))))))
+          (go_on form (q19_encode new (q30_scoped s old_whole yes.bound)))))
 
 pub imports : (g t s : Bytes) → Octets s → Imports g t s
 imports g t s octets = record {

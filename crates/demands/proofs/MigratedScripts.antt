@@ -10,28 +10,25 @@ use lib.Dec.{eqb, ltb}
 use Rattle.calculus.specs.Types.{top}
 use Rattle.calculus.proofs.Booleans.{and_left}
 use Rattle.calculus.proofs.SecureTyping.{top_secure}
-use Rattle.rules.specs.Answer.{Bytes, byte, Octets, Answer, accepted, refused, ◌>>◌}
+use Rattle.rules.specs.Answer.{Bytes, byte, Octets}
 use Rattle.rules.specs.Limits.{script_width, old_type_width, old_script_width}
 use Rattle.rules.specs.Groups.{rows, properties_of}
 use Rattle.rules.specs.Types.{type_count, type_at}
-use Rattle.rules.specs.Script.{records, kind, r, number, term, q13, q14, q15, q36_objects, q16, q17, q18}
+use Rattle.rules.specs.Script.{records, kind, r, number, term, q13, q15}
 use Rattle.rules.specs.Callers.{old_records, old_kind, old_r, old_number, caller, write_callers}
 use Rattle.rules.specs.Rewriting.{widen_types, widen_script}
-use Rattle.rules.specs.Calls.{types_check, script_check}
+use Rattle.rules.specs.Calls.{types_check, form_check, own_check, script_check}
 use Rattle.rules.proofs.TypePlaces.{Standing}
 use Rattle.rules.proofs.Callers.{callers_length, callers_r}
 use Rattle.rules.proofs.Widening.{widen_script_length, widen_script_records, widen_script_byte, widened_callers_byte}
 use Rattle.demands.specs.Migration.{Form, document_01, item_6, Existing, caller_in, new_script, new_term}
+use Rattle.demands.proofs.Answers.{then_same}
 use Rattle.demands.proofs.Tables.{Tables}
 use Rattle.demands.proofs.TypesTable.{tables}
-use Rattle.demands.proofs.Recalled.{Recalled, q13_same, q14_same, q15_same, q36_same, q16_same, q17_same, q18_same, q19_same}
+use Rattle.demands.proofs.Recalled.{Recalled, q13_same, q15_same, form_same, q19_same}
 use Rattle.demands.proofs.WidenedTerms.{kept_parse, put_parse, parsed_term, own_r}
 
 -- one question after another, of which the later are asked where the earlier is answered yes
-pub then_same : {A : Type 0} (a a' : Answer (Unit {0})) (b b' : Answer A) → a ≡ a' → (a' ≡ accepted tt → b ≡ b') → ◌>>◌ a b ≡ ◌>>◌ a' b'
-then_same a (accepted tt) b b' e h = rw e (h refl)
-then_same a (refused q p) b b' e h = rw e
-
 -- The term.
 pub new_term_is : (form : Form) (t s : Bytes) → ((i : ℕ) → i < type_count (widen_types t) → Standing (widen_types t) i) → Existing form s
     → term (new_script form t s) ≡ new_term form t (term (widen_script s))
@@ -106,18 +103,13 @@ module _ (g t s : Bytes) (X : Tables g (widen_types t)) (existing : Existing doc
 -- questions 2 to 19
 callers_same : (rooms : List ℕ) (g t s : Bytes) → Octets g → Existing document_01 s
     → script_check rooms g (widen_types t) (new t s) ≡ script_check rooms g (widen_types t) (widen_script s)
-unfolding script_check
+unfolding own_check script_check
 callers_same rooms g t s octets existing =
     then_same (types_check g (widen_types t)) _ _ _ refl λ types.
     let X = tables g (widen_types t) octets types in
     let read = new_term_is document_01 t s X.stands existing in
     then_same (q13 rooms (new t s)) _ _ _ (q13_same (recalled t s) rooms) λ q13_yes.
-    then_same (q14 (new t s)) _ _ _ (q14_same (recalled t s)) λ q14_yes.
-    then_same (q15 g (new t s)) _ _ _ (q15_again g t s X existing) λ q15_yes.
-    then_same (q36_objects g (new t s)) _ _ _ (q36_same (recalled t s) g) λ q36_yes.
-    then_same (q16 (widen_types t) (new t s)) _ _ _ (q16_same (recalled t s) (widen_types t)) λ q16_yes.
-    then_same (q17 (new t s)) _ _ _ (q17_same (recalled t s)) λ q17_yes.
-    then_same (q18 (new t s)) _ _ _ (q18_same (recalled t s) _ read) λ q18_yes.
+    then_same (form_check g (widen_types t) (new t s)) _ _ _ (form_same (recalled t s) g (widen_types t) _ (q15_again g t s X existing) (λ q14_yes q17_yes. read)) λ form_yes.
     q19_same (recalled t s) _ read
 
 pub script_same : (form : Form) (rooms : List ℕ) (g t s : Bytes) → Octets g → Existing form s

@@ -36,7 +36,7 @@ use Rattle.rules.proofs.Callers.{callers_length, callers_octets}
 use Rattle.rules.proofs.Widening.{widen_script_records, widen_script_octets}
 use Rattle.demands.specs.Runs.{moved_to, Reaches, ReachesBy, the_script, after_step}
 use Rattle.demands.specs.Migration.{Form, document_01, item_6, Existing, caller_in, earlier, with_callers, new_script, new_labels, new_term, earlier_step, Migration}
-use Rattle.demands.proofs.Answers.{accepted_inj, asks, go_on}
+use Rattle.demands.proofs.Answers.{accepted_inj, asks, go_on, then_same}
 use Rattle.demands.proofs.Tables.{Tables}
 use Rattle.demands.proofs.TypesTable.{tables}
 use Rattle.demands.proofs.Formed.{Secure, SecureI, Formed}
@@ -47,7 +47,7 @@ use Rattle.demands.proofs.GroupZero.{group_zero}
 use Rattle.demands.proofs.RelabelledBytes.{relabel_size, relabel_depth}
 use Rattle.demands.proofs.RelabelledTyping.{relabel_a, relabel_end, relabel_ran, relabel_typing, relabel_step_in, relabel_run}
 use Rattle.demands.proofs.WidenedTerms.{widened_type, kept_parse, parsed_term}
-use Rattle.demands.proofs.MigratedScripts.{then_same, new_term_is, own_group, script_same}
+use Rattle.demands.proofs.MigratedScripts.{new_term_is, own_group, script_same}
 
 -- who is called doesn't depend on creators
 unread : (form : Form) (k : Property) (w : Reader) → caller_in form (uncreated k) w ≡ caller_in form k w

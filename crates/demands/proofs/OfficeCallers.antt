@@ -17,12 +17,12 @@ use Rattle.rules.specs.Answer.{Bytes, byte, Octets, Answer, accepted, refused, �
 use Rattle.rules.specs.Limits.{type_width, script_width, old_type_width, old_script_width, office_width}
 use Rattle.rules.specs.Groups.{rows}
 use Rattle.rules.specs.Types.{type_count, type_r, ok9, q8, q9}
-use Rattle.rules.specs.Script.{script_record, records, kind, r, number, c, ic, encode, size, depth, weight, term, q14, q15, q36_objects, q16, q17, q18}
+use Rattle.rules.specs.Script.{script_record, records, kind, r, number, c, ic, encode, size, depth, weight, term, q18}
 use Rattle.rules.specs.Callers.{old_type_count, old_records, old_kind, caller, put_callers, write_callers, write_callers_of, write_office_callers}
-use Rattle.rules.specs.Calls.{groups_check, types_check, q27}
+use Rattle.rules.specs.Calls.{groups_check, types_check, form_check, q27}
 use Rattle.rules.specs.Rewriting.{widen_types, widen_script}
 use Rattle.rules.specs.Names.{meant, scopes}
-use Rattle.rules.specs.Office.{office_records, office_kind, office_number, first_name, second_name, nameless, with_names, named_term, ok29, ok30, q28, q29, q30, form_check, imported, importing}
+use Rattle.rules.specs.Office.{office_records, office_kind, office_number, first_name, second_name, nameless, with_names, named_term, ok29, ok30, q28, q29, q30, imported, importing}
 use Rattle.rules.proofs.Search.{each_all, each_same}
 use Rattle.rules.proofs.Asked.{ask_true, and_then}
 use Rattle.rules.proofs.Prefix.{record_at}
@@ -43,8 +43,7 @@ use Rattle.rules.proofs.OfficeCallers.{called as call_labels, callers_encode, of
 use Rattle.demands.specs.Migration.{document_01, Existing}
 use Rattle.demands.specs.Office.{OldOffice, called, ImportsCalled, AsBefore, Office}
 use Rattle.demands.proofs.RelabelledBytes.{relabel_size}
-use Rattle.demands.proofs.MigratedScripts.{then_same}
-use Rattle.demands.proofs.Recalled.{Recalled, q14_same, q15_same, q36_same, q16_same, q17_same, q18_same}
+use Rattle.demands.proofs.Recalled.{Recalled, q15_same, form_same}
 use Rattle.demands.proofs.Imports.{every_meant, seen_whole, office_whole, Imported, import_yes, new_depth, imports}
 use Rattle.demands.proofs.Exports.{exports}
 use Rattle.demands.proofs.Migration.{migration}
@@ -247,23 +246,18 @@ module _ (g t s : Bytes) (octets : Octets s) (old : OldOffice s) where
         go true e = rw e (type_group g t types (number (nameless s) i) (ltb-true _ _ e))
         go false e = rw e some_group
 
-  form_same : types_check g t ≡ accepted tt → q28 s ≡ accepted tt → form_check g t (nameless (write_office_callers t s)) ≡ form_check g t (nameless s)
-  unfolding form_check
-  form_same types q28_yes =
+  same_form : types_check g t ≡ accepted tt → q28 s ≡ accepted tt → form_check g t (nameless (write_office_callers t s)) ≡ form_check g t (nameless s)
+  same_form types q28_yes =
       let x = recalled t s in
-      then_same (q14 (nameless (write_office_callers t s))) _ _ _ (q14_same x) λ a14.
-      then_same (q15 g (nameless (write_office_callers t s))) _ _ _ (q15_same x g (λ i l k. rw (was_zero i l k) (some_group types)) (caller_group types)) λ a15.
-      then_same (q36_objects g (nameless (write_office_callers t s))) _ _ _ (q36_same x g) λ a36.
-      then_same (q16 t (nameless (write_office_callers t s))) _ _ _ (q16_same x t) λ a16.
-      then_same (q17 (nameless (write_office_callers t s))) _ _ _ (q17_same x) λ a17.
-      q18_same x (R t s) (read t s (seen_whole s octets q28_yes a14 a17))
+      form_same x g t (R t s) (q15_same x g (λ i l k. rw (was_zero i l k) (some_group types)) (caller_group types))
+      (λ q14_yes q17_yes. read t s (seen_whole s octets q28_yes q14_yes q17_yes))
 
   pub imports_called : ImportsCalled g t s
   unfolding importing
   imports_called room' =
       then_called t (types_check g t) _ _ _ refl λ types.
       then_called t (q28 (write_office_callers t s)) _ _ _ (q28_same t s) λ q28_yes.
-      then_called t (form_check g t (nameless (write_office_callers t s))) _ _ _ (form_same types q28_yes) λ form.
+      then_called t (form_check g t (nameless (write_office_callers t s))) _ _ _ (same_form types q28_yes) λ form.
       let w = office_whole g t s octets q28_yes form in
       then_called t (q29 (write_office_callers t s)) _ _ _ (q29_same t s) λ q29_yes.
       then_called t (q30 (write_office_callers t s)) _ _ _ (q30_same t s w) λ q30_yes.

@@ -11,8 +11,8 @@ use lib.ListN.{length}
 use Rattle.rules.specs.Answer.{Bytes, Answer, accepted, refused, ◌>>◌, ask, first_from}
 use Rattle.rules.specs.Limits.{type_width, script_width, table_limit, script_limit, old_type_width, old_script_width}
 use Rattle.rules.specs.Types.{q8_of, q8, q9, q10, q36_types, q11, q12}
-use Rattle.rules.specs.Script.{q13_of, q13, q14, q15, q36_objects, q16, q17, q18, q19}
-use Rattle.rules.specs.Calls.{groups_check, types_check, script_check}
+use Rattle.rules.specs.Script.{q13_of, q13, q19}
+use Rattle.rules.specs.Calls.{groups_check, types_check, form_check, own_check, script_check}
 use Rattle.rules.specs.Rewriting.{widen_types, widen_script, old_types_check, old_script_check}
 use Rattle.rules.proofs.Asked.{ask_true, and_then}
 use Rattle.rules.proofs.Widening.{widen_types_length, widen_script_length}
@@ -24,16 +24,6 @@ after_8 g t = do
   q36_types g t
   q11 t
   q12 t
-
-abbrev pub after_13 : Bytes → Bytes → Bytes → Answer (Unit {0})
-after_13 g t s = do
-  q14 s
-  q15 g s
-  q36_objects g s
-  q16 t s
-  q17 s
-  q18 s
-  q19 s
 
 -- two questions whose yes is known from two earlier ones
 known : (a b c d : Answer (Unit {0})) (e : Answer (Unit {0})) → (a ≡ accepted tt → c ≡ accepted tt) → (b ≡ accepted tt → d ≡ accepted tt)
@@ -85,8 +75,8 @@ unfolding old_types_check
 types_passed g t q = (and_then (q8_of old_type_width t) _ (and_then (groups_check g) _ q).1).1
 
 pub old_script_asked : (g t s : Bytes)
-    → old_script_check g t s ≡ ◌>>◌ (old_types_check g t) (◌>>◌ (q13_of old_script_width [] s) (after_13 g (widen_types t) (widen_script s)))
-unfolding old_script_check script_check
+    → old_script_check g t s ≡ ◌>>◌ (old_types_check g t) (◌>>◌ (q13_of old_script_width [] s) (◌>>◌ (form_check g (widen_types t) (widen_script s)) (q19 (widen_script s))))
+unfolding old_script_check own_check script_check
 old_script_asked g t s =
     known (old_types_check g t) (q13_of old_script_width [] s) (types_check g (widen_types t)) (q13 [] (widen_script s))
-    (after_13 g (widen_types t) (widen_script s)) (types_passed g t) (script_counted s)
+    (◌>>◌ (form_check g (widen_types t) (widen_script s)) (q19 (widen_script s))) (types_passed g t) (script_counted s)

@@ -15,16 +15,17 @@ use Rattle.rules.specs.Answer.{Bytes, Octets, Answer, accepted, refused, ◌>>=�
 use Rattle.rules.specs.Limits.{work_length, script_limit, depth_limit}
 use Rattle.rules.specs.Groups.{rows, properties_of, q2}
 use Rattle.rules.specs.Types.{type_at}
-use Rattle.rules.specs.Script.{encode, records, term, size, depth, script_record, signature_of, ok15, q13, q14, q15}
+use Rattle.rules.specs.Script.{encode, records, term, size, depth, script_record, signature_of, ok15, q13, q19}
 use Rattle.rules.specs.Typing.{has_form, left, right, q20, q21, q22, typing}
 use Rattle.rules.specs.Step.{End, at_value, moves, may_not, wrong_kind, too_big, step_in}
 use Rattle.rules.specs.Run.{Ran, run}
 use Rattle.rules.specs.Sheet.{sheet}
-use Rattle.rules.specs.Calls.{q25, q26, q27, groups_check, types_check, script_check, checking, running, sheeting}
+use Rattle.rules.specs.Calls.{q25, q26, q27, groups_check, types_check, form_check, own_check, script_check, checking, running, sheeting}
 use Rattle.rules.specs.Reach.{Accepted}
 use Rattle.rules.specs.Profile.{ok39, q39, AcceptedInProfile}
-use Rattle.rules.specs.Packet.{application, q1_work, q39_if, q37, q38, q18_whole, entry_check, before_typing, application_check, desk_check, desk_run, Packet, issued, issuing}
+use Rattle.rules.specs.Packet.{application, q1_work, q39_if, q37, q38, q18_whole, before_typing, application_check, desk_check, desk_run, Packet, issued, issuing}
 use Rattle.rules.proofs.Asked.{ask_true, and_then, few_rows}
+use Rattle.rules.proofs.Form.{form_yes}
 use Rattle.rules.proofs.Octets.{octets_append}
 use Rattle.rules.proofs.Nodes.{every_node}
 use Rattle.rules.proofs.NodeQuestions.{asked_of_nodes, asked_of_records}
@@ -190,11 +191,6 @@ unasked_39 profile s h = go (eqb profile 0) refl
     go true e = refl
     go false e = h (λ z. absurd (true≢false (sym (eq-eqb profile 0 z) ∙ e)))
 
--- the script's questions are the tables' and its own
-pub own_questions : (g t s : Bytes) → script_check [] g t s ≡ ◌>>◌ (types_check g t) (entry_check g t s)
-unfolding script_check entry_check
-own_questions g t s = refl
-
 module _ (g t script entry : Bytes) (G : Octets g) (O : Octets script) (E : Octets entry) (group budget profile work first scratch : ℕ) where
   abbrev S : Security
   S = properties_of g
@@ -215,7 +211,7 @@ module _ (g t script entry : Bytes) (G : Octets g) (O : Octets script) (E : Octe
     pub script_free : q39_if profile script ≡ accepted tt
     pub s : Ty
     pub script_typed : typing S tab [] 0 (term script) ≡ accepted s
-    pub entry_yes : entry_check g t entry ≡ accepted tt
+    pub entry_yes : own_check [] g t entry ≡ accepted tt
     pub entry_free : q39_if profile entry ≡ accepted tt
     pub u : Ty
     pub entry_typed : typing S tab [] 0 (term entry) ≡ accepted u
@@ -234,7 +230,7 @@ module _ (g t script entry : Bytes) (G : Octets g) (O : Octets script) (E : Octe
       let b = and_then (q1_work work) _ a.0 in
       let c = and_then (script_check [] g t script) (q39_if profile script) b.1 in
       let x = bind_then (typing S tab [] 0 (term script)) _ a.1 in
-      let d = and_then (entry_check g t entry) _ x.goes_on in
+      let d = and_then (own_check [] g t entry) _ x.goes_on in
       let e = and_then (q39_if profile entry) _ d.1 in
       let y = bind_then (typing S tab [] 0 (term entry)) _ e.1 in
       let i = and_then (q26 (term entry)) _ y.goes_on in
@@ -278,13 +274,14 @@ module _ (g t script entry : Bytes) (G : Octets g) (O : Octets script) (E : Octe
     pub script_passed : Passed [] g t script
     pub entry_passed : Passed [] g t entry
 
-  both_pass : script_check [] g t script ≡ accepted tt → entry_check g t entry ≡ accepted tt → Both
+  both_pass : script_check [] g t script ≡ accepted tt → own_check [] g t entry ≡ accepted tt → Both
+  unfolding script_check
   both_pass p q =
       let P = script_passed [] g t script O p in
       record {
         types = P.types;
         script_passed = P;
-        entry_passed = script_passed [] g t entry E (own_questions g t entry ∙ go_on P.types q);
+        entry_passed = script_passed [] g t entry E (go_on P.types q);
       }
 
   tables_of : Both → Tables g t
@@ -415,12 +412,13 @@ module _ (g t script entry : Bytes) (G : Octets g) (O : Octets script) (E : Octe
   accepted_parts s type a = and_then (script_check [] g t s) (typing S tab [] 0 (term s)) a
 
   applicable : (B : Both) → Parts → Applicable g t script entry group profile work first scratch
+  unfolding script_check
   applicable B P = record {
     room_to_type = leb-true work_length work (ask_true 1 0 (leb work_length work) P.work_long);
     script_type = P.s;
     script_accepted = accepted_by script P.s P.script_yes P.script_typed;
     entry_type = P.u;
-    entry_accepted = accepted_by entry P.u (own_questions g t entry ∙ go_on B.types P.entry_yes) P.entry_typed;
+    entry_accepted = accepted_by entry P.u (go_on B.types P.entry_yes) P.entry_typed;
     value = ask_true 26 0 (is_value (term entry)) P.value;
     type = type_of P;
     accepts = whole_accepted B P;
@@ -431,18 +429,18 @@ module _ (g t script entry : Bytes) (G : Octets g) (O : Octets script) (E : Octe
 
   -- 15 of the application's own record
   group_named : script_check [] g t whole ≡ accepted tt → group < rows g
-  unfolding script_check ok15 signature_of
+  unfolding own_check script_check ok15 signature_of
   group_named h =
       let a = and_then (types_check g t) _ h in
       let b = and_then (q13 [] whole) _ a.1 in
-      let c = and_then (q14 whole) _ b.1 in
-      let d = and_then (q15 g whole) _ c.1 in
+      let f = form_yes g t whole (and_then (form_check g t whole) (q19 whole) b.1).0 in
       let F = q13_fitting [] whole b.0 in
-      ltb-true group (rows g) (both (ltb group (rows g)) _ (each_all 15 (records whole) (ok15 g whole) d.0 0 (omega (arith, F.some_record)))).0
+      ltb-true group (rows g) (both (ltb group (rows g)) _ (each_all 15 (records whole) (ok15 g whole) f.groups 0 (omega (arith, F.some_record)))).0
 
   -- the questions of a script that is accepted
-  entry_asked : script_check [] g t entry ≡ accepted tt → entry_check g t entry ≡ accepted tt
-  entry_asked h = (and_then (types_check g t) (entry_check g t entry) (sym (own_questions g t entry) ∙ h)).1
+  entry_asked : script_check [] g t entry ≡ accepted tt → own_check [] g t entry ≡ accepted tt
+  unfolding script_check
+  entry_asked h = (and_then (types_check g t) (own_check [] g t entry) h).1
 
   applied_whole : (B : Both) → (type : Ty) → typing S tab [] 0 (term whole) ≡ accepted type → Applied S tab group (term script) (term entry) type
   applied_whole B type h =

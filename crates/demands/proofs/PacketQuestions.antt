@@ -17,15 +17,15 @@ use Rattle.rules.specs.Script.{records, term, depth, q13}
 use Rattle.rules.specs.Typing.{has_form, left, q21, typing}
 use Rattle.rules.specs.Run.{Ran, run}
 use Rattle.rules.specs.Sheet.{sheet}
-use Rattle.rules.specs.Calls.{fill_front, q25, q26, q27, script_check, first_after, scratch_after}
+use Rattle.rules.specs.Calls.{fill_front, q25, q26, q27, own_check, script_check, first_after, scratch_after}
 use Rattle.rules.specs.Profile.{ok39, q39}
-use Rattle.rules.specs.Packet.{application, q1_work, q39_if, q37, q38, q18_whole, entry_check, before_typing, application_check, desk_check, desk_run, Packet, issued, issuing, desk_work_after, packet_page_after}
+use Rattle.rules.specs.Packet.{application, q1_work, q39_if, q37, q38, q18_whole, before_typing, application_check, desk_check, desk_run, Packet, issued, issuing, desk_work_after, packet_page_after}
 use Rattle.rules.proofs.Asked.{and_then}
-use Rattle.demands.specs.Questions.{Question, question, of_script, yes, none_left, this_one}
+use Rattle.demands.specs.Questions.{Question, question, yes, none_left, this_one}
 use Rattle.demands.specs.Packet.{typed, found_type, of_beginning, of_application, of_entry, of_desk, page_question, PacketQuestions}
 use Rattle.demands.proofs.Answers.{accepted≢refused, accepted_inj}
 use Rattle.demands.proofs.Deciding.{Own, own_yes, Decided, says_yes, refuses, decides, ask_own, each_own, decided_one, decided_then, decided_yes, then_found}
-use Rattle.demands.proofs.FirstDemand.{own_13, later_script, script_decided}
+use Rattle.demands.proofs.FirstDemand.{own_13, own_decided, script_decided}
 
 -- Typing between the other questions: where it finds a type, they go on with that.
 decided_typed : {A : Type 0} (m : Answer Ty) (f : Ty → Answer A) (qs : Ty → List Question) → ((s : Ty) → Decided (qs s) (f s))
@@ -46,10 +46,6 @@ unfolding before_typing
 begins_decided g t script profile work =
     decided_then (q1_work work) _ (decided_one (ask_own 1 0 (leb work_length work)))
     (decided_then (script_check [] g t script) (q39_if profile script) (script_decided [] g t script) (decided_one (own_39 profile script)))
-
-entry_decided : (g t entry : Bytes) → Decided (of_script [] g t entry) (entry_check g t entry)
-unfolding entry_check
-entry_decided g t entry = decided_then (q13 [] entry) _ (decided_one (own_13 script_width [] entry)) (later_script g t entry)
 
 application_decided : (g script entry : Bytes) (group first scratch : ℕ) (s u : Ty)
     → Decided (of_application g script entry group first scratch s u) (application_check g script entry group first scratch s u)
@@ -76,7 +72,7 @@ module _ (g t script entry : Bytes) (group budget profile work first scratch : �
   after_entry s = ◌>>=◌ of_entry_type (λ u. application_check g script entry group first scratch s u)
 
   abbrev after_script : Ty → Answer (Unit {0})
-  after_script s = ◌>>◌ (entry_check g t entry) (◌>>◌ (q39_if profile entry) (after_entry s))
+  after_script s = ◌>>◌ (own_check [] g t entry) (◌>>◌ (q39_if profile entry) (after_entry s))
 
   entry_typed : (s : Ty)
       → Decided (typed of_entry_type ∷ of_application g script entry group first scratch s (found_type of_entry_type)) (after_entry s)
@@ -87,7 +83,7 @@ module _ (g t script entry : Bytes) (group budget profile work first scratch : �
   script_typed : (s : Ty)
       → Decided (of_entry g t entry profile ++ (typed of_entry_type ∷ of_application g script entry group first scratch s (found_type of_entry_type))) (after_script s)
   script_typed s =
-      decided_then (entry_check g t entry) _ (entry_decided g t entry)
+      decided_then (own_check [] g t entry) _ (own_decided [] g t entry)
       (decided_then (q39_if profile entry) (after_entry s) (decided_one (own_39 profile entry)) (entry_typed s))
 
   abbrev asked : Answer (Unit {0})

@@ -9,12 +9,14 @@ use borrow.Author.Tests.{eqb-true}
 use lib.Dec.{eqb, leb, ltb}
 use lib.ListN.{length}
 use Rattle.calculus.specs.Relabelling.{Labels, relabel}
-use Rattle.rules.specs.Answer.{Bytes, byte, each, ◌⇒◌}
+use Rattle.rules.specs.Answer.{Bytes, byte, accepted, each, ◌⇒◌}
 use Rattle.rules.specs.Limits.{script_width}
 use Rattle.rules.specs.Groups.{rows, leq}
 use Rattle.rules.specs.Types.{end_after}
 use Rattle.rules.specs.Script.{records, kind, r, ir, zero_byte, number, c, ic, signature_of, is_object, arity, term, binders, depths, term_end, exactly, ok14, ok15, ok36_object, ok16, ok18, ok19, q13, q14, q15, q36_objects, q16, q17, q18, q19}
+use Rattle.rules.specs.Calls.{form_check}
 use Rattle.rules.proofs.Search.{each_same}
+use Rattle.demands.proofs.Answers.{then_same}
 use Rattle.demands.proofs.RelabelledBytes.{relabel_counts}
 
 -- `new` is `old` but for byte 1 of recursions
@@ -100,6 +102,18 @@ module _ {old new : Bytes} (x : Recalled old new) where
     q19_same =
         ap₂ (λ (n : ℕ) (bs : List ℕ). each 19 n (ok19 bs new)) count (ap binders e ∙ relabel_counts R _ _ _ 0 (term old))
         ∙ each_same 19 (records old) _ _ (λ i l. ok19_same (binders (term old)) i)
+
+  -- 14 to 18, where 15 is answered alike and the script, once it is one term, is read so
+  pub form_same : (g t : Bytes) (R : Labels) → q15 g new ≡ q15 g old → (q14 old ≡ accepted tt → q17 old ≡ accepted tt → term new ≡ relabel R (term old))
+      → form_check g t new ≡ form_check g t old
+  unfolding form_check
+  form_same g t R q15_same read =
+      then_same (q14 new) _ _ _ q14_same λ q14_yes.
+      then_same (q15 g new) _ _ _ q15_same λ q15_yes.
+      then_same (q36_objects g new) _ _ _ (q36_same g) λ q36_yes.
+      then_same (q16 t new) _ _ _ (q16_same t) λ q16_yes.
+      then_same (q17 new) _ _ _ q17_same λ q17_yes.
+      q18_same R (read q14_yes q17_yes)
 
   -- where byte 1 of a recursion is a group in both, 15 is answered alike
   module _ (g : Bytes) (was_group : (i : ℕ) → i < records old → kind old i ≡ 11 → ltb (r old i) (rows g) ≡ true)

@@ -5,10 +5,10 @@ use Rattle.rules.specs.Answer.{Bytes, byte, Octets, Answer, accepted, refused}
 use Rattle.rules.specs.Limits.{type_width, script_width, office_width}
 use Rattle.rules.specs.Script.{records, encode, c, ic}
 use Rattle.rules.specs.Callers.{write_callers_of, write_office_callers}
-use Rattle.rules.specs.Calls.{script_check, q27}
+use Rattle.rules.specs.Calls.{form_check, script_check, q27}
 use Rattle.rules.specs.Rewriting.{widen_types, widen_script, rewritten_after}
 use Rattle.rules.specs.Names.{Means}
-use Rattle.rules.specs.Office.{office_records, office_kind, nameless, named_term, q28, q30, form_check, imported, importing, exported, q28_of_export, exporting}
+use Rattle.rules.specs.Office.{office_records, office_kind, nameless, named_term, q28, q30, imported, importing, exported, q28_of_export, exporting}
 use Rattle.demands.specs.Questions.{question, of_groups, of_types, of_script, of_office, Decides}
 use Rattle.demands.specs.Migration.{document_01, new_script, Migrated}
 

@@ -1,25 +1,11 @@
--- Questions 14 to 18, which import asks without 19.
-use mathlib.Core.Path.{◌≡◌, refl}
+-- Questions 14 to 18, the form of a script.
+use mathlib.Core.Path.{◌≡◌}
 use mathlib.Core.List.{[]}
-use Rattle.rules.specs.Answer.{Bytes, Octets, Answer, accepted, refused, ◌>>◌}
-use Rattle.rules.specs.Script.{encode, term, q13, q14, q15, q36_objects, q16, q17, q18}
-use Rattle.rules.specs.Office.{form_check}
+use Rattle.rules.specs.Answer.{Bytes, Octets, accepted}
+use Rattle.rules.specs.Script.{q13, q14, q15, q36_objects, q16, q17, q18}
+use Rattle.rules.specs.Calls.{form_check}
 use Rattle.rules.proofs.Asked.{and_then}
 use Rattle.rules.proofs.Scripts.{Whole, whole}
-
--- what follows them, as one question after another
-pub form_then : {A : Type 0} (g t s : Bytes) (m : Answer A)
-    → ◌>>◌ (q14 s) (◌>>◌ (q15 g s) (◌>>◌ (q36_objects g s) (◌>>◌ (q16 t s) (◌>>◌ (q17 s) (◌>>◌ (q18 s) m))))) ≡ ◌>>◌ (form_check g t s) m
-unfolding form_check
-form_then {A} g t s m = go (q14 s) (q15 g s) (q36_objects g s) (q16 t s) (q17 s) (q18 s)
-  where
-    go : (a b c d e f : Answer (Unit {0})) → ◌>>◌ a (◌>>◌ b (◌>>◌ c (◌>>◌ d (◌>>◌ e (◌>>◌ f m))))) ≡ ◌>>◌ (◌>>◌ a (◌>>◌ b (◌>>◌ c (◌>>◌ d (◌>>◌ e f))))) m
-    go (refused q p) b c d e f = refl
-    go (accepted u) (refused q p) c d e f = refl
-    go (accepted u) (accepted v) (refused q p) d e f = refl
-    go (accepted u) (accepted v) (accepted w) (refused q p) e f = refl
-    go (accepted u) (accepted v) (accepted w) (accepted x) (refused q p) f = refl
-    go (accepted u) (accepted v) (accepted w) (accepted x) (accepted y) f = refl
 
 -- Each of them, where all are yes.
 pub record Formed (g t s : Bytes) : Type 0 where
@@ -39,6 +25,10 @@ form_yes g t s q =
     let d = and_then (q16 t s) _ c.1 in
     let e = and_then (q17 s) (q18 s) d.1 in
     record { fields = a.0; groups = b.0; creators = c.0; types = d.0; one_term = e.0; shallow = e.1 }
+
+pub yes_form : (g t s : Bytes) → Formed g t s → form_check g t s ≡ accepted tt
+unfolding form_check
+yes_form g t s f = rw (f.fields, f.groups, f.creators, f.types, f.one_term, f.shallow)
 
 -- then the script is a term
 pub form_whole : (g t s : Bytes) → Octets s → q13 [] s ≡ accepted tt → form_check g t s ≡ accepted tt → Whole s

@@ -8,7 +8,7 @@ use Rattle.calculus.specs.Common.{common}
 use Rattle.calculus.specs.Terms.{Term, subst, raise_value, is_value}
 use Rattle.calculus.specs.Numbers.{literal_of, reckoned}
 use Rattle.calculus.specs.Reduction.{step, operand_first, reading, apply, project, branch, unroll, calculate}
-use Rattle.rules.specs.Answer.{Bytes, Answer, accepted, refused, ◌>>=◌, ◌>>◌, ask, first_from, last_below}
+use Rattle.rules.specs.Answer.{Bytes, Answer, accepted, refused, ◌>>◌, ask, first_from, last_below}
 use Rattle.rules.specs.Limits.{work_length, answer_length, sheet_width}
 use Rattle.rules.specs.Groups.{rows, join, meet, ok3, ok4, ok5, ok6, ok7, q2, q3, q4, q5, q6, q7, properties_of}
 use Rattle.rules.specs.Types.{type_count, encode_type, type_at, ok9, ok10, ok36_type, ok11, ok12, q8, q9, q10, q36_types, q11, q12}
@@ -67,19 +67,31 @@ comparing g t i j = do
   q25 1 j (type_count t)
   accepted (comparison (properties_of g) (type_at t i) (type_at t j))
 
--- questions 2 to 19, with 36 after 15 too; `rooms` are the lengths of a run's buffers
-unfoldable pub script_check : List ℕ → Bytes → Bytes → Bytes → Answer (Unit {0})
-unfolding types_check first_from ok14 ok15 ok36_object ok16 term_end ok18 ok19 counts term
-script_check rooms g t s = do
-  types_check g t
-  q13 rooms s
+-- questions 14 to 18, with 36 after 15
+unfoldable pub form_check : Bytes → Bytes → Bytes → Answer (Unit {0})
+unfolding first_from ok14 ok15 ok36_object ok16 term_end ok18 counts term
+form_check g t s = do
   q14 s
   q15 g s
   q36_objects g s
   q16 t s
   q17 s
   q18 s
+
+-- questions 13 to 19: a script's own, over tables that have passed; `rooms` are the lengths of a run's buffers
+unfoldable pub own_check : List ℕ → Bytes → Bytes → Bytes → Answer (Unit {0})
+unfolding form_check first_from ok19 counts term
+own_check rooms g t s = do
+  q13 rooms s
+  form_check g t s
   q19 s
+
+-- questions 2 to 19
+unfoldable pub script_check : List ℕ → Bytes → Bytes → Bytes → Answer (Unit {0})
+unfolding types_check own_check
+script_check rooms g t s = do
+  types_check g t
+  own_check rooms g t s
 
 -- 1. Are work and answer buffer at least 96,768 and 378 bytes? (place 0)
 abbrev pub q1 : ℕ → ℕ → Answer (Unit {0})

@@ -11,7 +11,7 @@ use Rattle.rules.specs.Calls.{types_check, comparing, work_after, stepping, writ
 use Rattle.rules.specs.Rewriting.{rewriting_types, rewriting_script, rewritten_records, rewritten_after}
 use Rattle.rules.specs.Reach.{verdict}
 use Rattle.rules.specs.Cases.{ty, groups, types_with, types, loop, check}
-use Rattle.rules.specs.Examples.{unit, pair, proj, protect, diamond}
+use Rattle.rules.specs.Examples.{unit, pair, proj, diamond}
 
 -- a type record by all of its groups
 abbrev pub created : ℕ → ℕ → ℕ → ℕ → ℕ → Bytes

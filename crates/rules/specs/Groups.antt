@@ -4,7 +4,7 @@ use Rattle.std.specs.Bool.{beq}
 use Rattle.std.proofs.Math.Option.{Option, none, some}
 use Rattle.calculus.specs.Security.{Security}
 use Rattle.calculus.specs.Groups.{Groups, properties}
-use Rattle.rules.specs.Answer.{Bytes, byte, Answer, ◌>>◌, ask, each, first_from, first_below, last_below, all_below, ◌⇒◌}
+use Rattle.rules.specs.Answer.{Bytes, byte, Answer, ask, each, first_from, first_below, last_below, all_below, ◌⇒◌}
 use Rattle.rules.specs.Limits.{row_width, group_limit}
 
 -- "A groups table is 1 to 32 rows of 4 bytes, no header, each a little-endian word."

@@ -4,8 +4,8 @@ use Rattle.std.specs.Prelude.{Bool, not, ◌&&◌, ◌||◌, List, [], ◌∷◌
 use Rattle.calculus.specs.Terms.{first, second, plus, less, Term, var, unit, lam, pair, inj, app, proj, case, protect, mu, literal, reckon}
 use Rattle.rules.specs.Answer.{Bytes, byte, Answer, accepted, ◌>>◌, ask, each, first_from, ◌⇒◌}
 use Rattle.rules.specs.Limits.{old_script_width, office_width, office_limit}
-use Rattle.rules.specs.Script.{records, encode, size, term, counts, term_end, ok14, ok15, ok36_object, ok16, ok18, q14, q15, q36_objects, q16, q17, q18}
-use Rattle.rules.specs.Calls.{types_check, script_check, q27}
+use Rattle.rules.specs.Script.{records, encode, size, term}
+use Rattle.rules.specs.Calls.{types_check, form_check, script_check, q27}
 use Rattle.rules.specs.Rewriting.{widen_script}
 use Rattle.rules.specs.Names.{Named, named_var, named_unit, named_lam, named_pair, named_inj, named_app, named_proj, named_case, named_protect, named_mu, named_literal, named_reckon, nearest, meant, scopes, naming}
 
@@ -83,17 +83,6 @@ ok30 ns s i = eqb (office_kind s i) 0 ⇒ ltb (nearest (first_name s i) (get_or 
 
 abbrev pub q30 : Bytes → Answer (Unit {0})
 q30 s = each 30 (office_records s) (ok30 (scopes [] (named_term s)) s)
-
--- questions 14 to 18, with 36 after 15
-unfoldable pub form_check : Bytes → Bytes → Bytes → Answer (Unit {0})
-unfolding first_from ok14 ok15 ok36_object ok16 term_end ok18 counts term
-form_check g t s = do
-  q14 s
-  q15 g s
-  q36_objects g s
-  q16 t s
-  q17 s
-  q18 s
 
 -- the imported script: what the old one's term means
 unfoldable pub imported : Bytes → Bytes

@@ -12,12 +12,12 @@ use Rattle.rules.specs.Answer.{Bytes, Answer, accepted, refused, ◌>>=◌, ◌>
 use Rattle.rules.specs.Limits.{work_length, depth_limit, sheet_width}
 use Rattle.rules.specs.Groups.{rows, join, meet, properties_of}
 use Rattle.rules.specs.Types.{type_at}
-use Rattle.rules.specs.Script.{term, term_end, size, depth, counts, ok14, ok15, ok36_object, ok16, ok18, ok19, q13, q14, q15, q36_objects, q16, q17, q18, q19}
+use Rattle.rules.specs.Script.{term, size, depth, q13}
 use Rattle.rules.specs.Typing.{has_form, left, q21, typing}
 use Rattle.rules.specs.Step.{step_in, exceeds}
 use Rattle.rules.specs.Run.{Ran, run}
 use Rattle.rules.specs.Sheet.{sheet}
-use Rattle.rules.specs.Calls.{zeros, filled_after, q25, q26, q27, script_check, Report}
+use Rattle.rules.specs.Calls.{zeros, filled_after, q25, q26, q27, own_check, script_check, Report}
 use Rattle.rules.specs.Profile.{ok39, q39}
 
 -- "the script applied to the entry as that group", and its building by hand: the record of an application as the group, then the script
@@ -33,19 +33,6 @@ q1_work work = ask 1 0 (leb work_length work)
 unfoldable pub q39_if : ℕ → Bytes → Answer (Unit {0})
 unfolding first_from ok39
 q39_if profile s = cond (eqb profile 0) (accepted tt) (q39 s)
-
--- 13 to 19, with 36 after 15: "as in checking (13 without the run's buffers)". The tables have passed 2 to 12.
-unfoldable pub entry_check : Bytes → Bytes → Bytes → Answer (Unit {0})
-unfolding first_from ok14 ok15 ok36_object ok16 term_end ok18 ok19 counts term
-entry_check g t s = do
-  q13 [] s
-  q14 s
-  q15 g s
-  q36_objects g s
-  q16 t s
-  q17 s
-  q18 s
-  q19 s
 
 -- 37. "the script's type isn't a function"
 abbrev pub q37 : Ty → Answer (Unit {0})
@@ -80,13 +67,14 @@ application_check g script entry group first scratch s u = do
   q13 (first ∷ scratch ∷ []) (application group script entry)
   q18_whole (application group script entry)
 
--- "Both are checked by 1 to 24 .., script first", and then the application. With the lengths of the work, the first and the scratch buffer.
+-- "Both are checked by 1 to 24 .., script first", and then the application. The entry is put its own questions, "as in checking (13 without
+-- the run's buffers)": the tables have passed 2 to 12 with the script. With the lengths of the work, the first and the scratch buffer.
 unfoldable pub desk_check : Bytes → Bytes → Bytes → Bytes → ℕ → ℕ → ℕ → ℕ → ℕ → Answer (Unit {0})
-unfolding before_typing entry_check q39_if application_check typing size size_t subtype type_at term join meet last_below common
+unfolding before_typing own_check q39_if application_check typing size size_t subtype type_at term join meet last_below common
 desk_check g t script entry group profile work first scratch = do
   before_typing g t script profile work
   s ← typing (properties_of g) (type_at t) [] 0 (term script)
-  entry_check g t entry
+  own_check [] g t entry
   q39_if profile entry
   u ← typing (properties_of g) (type_at t) [] 0 (term entry)
   application_check g script entry group first scratch s u

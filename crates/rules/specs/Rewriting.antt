@@ -4,7 +4,7 @@
 -- records, so they are the same.
 use Rattle.std.specs.Prelude.{[], ◌∷◌, ℕ, ◌/◌, length}
 use Rattle.rules.specs.Answer.{Bytes, Answer, accepted, refused, ◌>>◌}
-use Rattle.rules.specs.Limits.{type_width, script_width, old_type_width, old_script_width}
+use Rattle.rules.specs.Limits.{old_type_width, old_script_width}
 use Rattle.rules.specs.Types.{q8_of}
 use Rattle.rules.specs.Script.{q13_of}
 use Rattle.rules.specs.Calls.{groups_check, types_check, script_check, q27, filled_after}
