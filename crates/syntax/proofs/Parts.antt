@@ -1,8 +1,6 @@
 -- The part that the look-up hands back, and a script that passes 13, 14 and 17.
-use Rattle.std.proofs.Common.{◌≡◌, ap, sym, ℕ, ◌*◌, ◌-◌, [], take, drop, arith}
-use Rattle.std.proofs.Math.Option.{some}
+use Rattle.std.proofs.Common.{◌≡◌, ap, sym, ℕ, []}
 use Rattle.rules.specs.Answer.{Bytes, Octets, accepted}
-use Rattle.rules.specs.Limits.{script_width}
 use Rattle.rules.specs.Script.{encode, term, part_if, slice, subterm, term_end, q13, q14, q17}
 use Rattle.rules.proofs.Scripts.{whole}
 use Rattle.syntax.specs.Check.{shape_check}

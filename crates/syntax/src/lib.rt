@@ -5,10 +5,9 @@
 ghost use Rattle.std.specs.Prelude.{◌≡◌, []};
 ghost use Rattle.rules.specs.Answer.{accepted};
 ghost use Rattle.rules.specs.Script.{q13, subterm};
-ghost use Rattle.rules.specs.Calls.{script_check};
-ghost use Rattle.rules.specs.Office.{form_check};
+ghost use Rattle.rules.specs.Calls.{form_check, own_check, script_check};
 ghost use Rattle.answer.specs.Said.{said};
-ghost use Rattle.syntax.specs.Check.{shape_check, later_check};
+ghost use Rattle.syntax.specs.Check.{shape_check};
 
 use answer::Checked;
 
@@ -29,7 +28,7 @@ pub fn shape_check(script: &[u8]) -> Checked
 }
 
 // Questions 14 to 18, in order, with 36 after 15.
-#[tactic(auto, using(answer::proofs::Passed::then_asked, answer::proofs::Passed::stopped), unfolding(rules::specs::Office::form_check))]
+#[tactic(auto, using(answer::proofs::Passed::then_asked, answer::proofs::Passed::stopped), unfolding(rules::specs::Calls::form_check))]
 pub fn form_check(groups: &[u8], types: &[u8], script: &[u8]) -> Checked
     requires { q13 [] script.now ≡ accepted tt }
     ensures { said result ≡ form_check groups.now types.now script.now }
@@ -57,12 +56,16 @@ pub fn form_check(groups: &[u8], types: &[u8], script: &[u8]) -> Checked
     scope::question_18(script)
 }
 
-// Questions 14 to 19.
-#[tactic(auto, using(answer::proofs::Passed::then_asked, answer::proofs::Passed::stopped), unfolding(crate::specs::Check::later_check))]
-fn later_check(groups: &[u8], types: &[u8], script: &[u8]) -> Checked
-    requires { q13 [] script.now ≡ accepted tt }
-    ensures { said result ≡ later_check groups.now types.now script.now }
+// Questions 13 to 19, a script's own, over tables that have passed. In a run `buffers` are the lengths of its two; elsewhere there are
+// none.
+#[tactic(auto, using(answer::proofs::Passed::then_asked, answer::proofs::Passed::stopped, script::proofs::Rooms::alone), unfolding(rules::specs::Calls::own_check))]
+pub fn own_check(groups: &[u8], types: &[u8], script: &[u8], buffers: &[usize]) -> Checked
+    ensures { said result ≡ own_check buffers.now groups.now types.now script.now }
 {
+    let fits = script::question_13(script, buffers);
+    let Ok(()) = fits else {
+        return fits;
+    };
     let form = form_check(groups, types, script);
     let Ok(()) = form else {
         return form;
@@ -70,8 +73,8 @@ fn later_check(groups: &[u8], types: &[u8], script: &[u8]) -> Checked
     scope::question_19(script)
 }
 
-// Questions 2 to 19, in order. In a run these are the lengths of its two buffers; elsewhere there are none.
-#[tactic(auto, using(answer::proofs::Passed::then_asked, answer::proofs::Passed::stopped, script::proofs::Rooms::alone), unfolding(rules::specs::Calls::script_check, crate::specs::Check::later_check))]
+// Questions 2 to 19, in order.
+#[tactic(auto, using(answer::proofs::Passed::then_asked, answer::proofs::Passed::stopped), unfolding(rules::specs::Calls::script_check))]
 pub fn script_check(groups: &[u8], types: &[u8], script: &[u8], buffers: &[usize]) -> Checked
     ensures { said result ≡ script_check buffers.now groups.now types.now script.now }
 {
@@ -79,11 +82,7 @@ pub fn script_check(groups: &[u8], types: &[u8], script: &[u8], buffers: &[usize
     let Ok(()) = tables else {
         return tables;
     };
-    let fits = script::question_13(script, buffers);
-    let Ok(()) = fits else {
-        return fits;
-    };
-    later_check(groups, types, script)
+    own_check(groups, types, script, buffers)
 }
 
 // The part of the script from its record `index` to the end of that record's last operand; the empty part where question 13,
