@@ -1,20 +1,18 @@
 -- A whole script: what its walk is given, and what stands in front of the lent buffer.
-use Rattle.std.proofs.Common.{◌≡◌, refl, sym, ap, ap₂, ◌∙◌, [], ℕ, ◌+◌, ◌*◌, ◌≤◌, arith, leb, leb-true, length}
+use Rattle.std.proofs.Common.{◌≡◌, refl, sym, ap, ap₂, ◌∙◌, [], ℕ, ◌*◌, ◌≤◌, arith, leb, leb-true, length}
 use Rattle.std.specs.Borrow.{MutBor}
-use Rattle.calculus.specs.Terms.{Term}
-use Rattle.rules.specs.Answer.{Bytes, Octets, Answer, accepted, ◌>>◌, ask}
+use Rattle.rules.specs.Answer.{Bytes, Octets, accepted, ◌>>◌, ask}
 use Rattle.rules.specs.Limits.{office_width, depth_limit}
-use Rattle.rules.specs.Script.{encode, term, size, depth, records, q13, q14, q15, q36_objects, q16, q17, q18, q19}
-use Rattle.rules.specs.Calls.{types_check, script_check, q27}
+use Rattle.rules.specs.Script.{encode, term, depth, records, q13, q18, q19}
+use Rattle.rules.specs.Calls.{types_check, form_check, own_check, script_check, q27}
 use Rattle.rules.specs.Office.{exported, exporting, q28_of_export}
 use Rattle.rules.proofs.Asked.{ask_true, and_then}
+use Rattle.rules.proofs.Form.{form_yes}
 use Rattle.rules.proofs.Depth.{q18_depth}
 use Rattle.rules.proofs.Scripts.{Whole, whole}
 use Rattle.rules.proofs.Exports.{office_length}
 use Rattle.memory.specs.Splice.{splice}
-use Rattle.memory.specs.Written.{Written}
 use Rattle.memory.specs.declared.Writer.{Writer}
-use Rattle.memory.proofs.Laws.{splice_front}
 use Rattle.records.proofs.Stands.{at_start}
 use Rattle.rewriting.specs.Widened.{fitting}
 use Rattle.exporting.specs.Export.{Ready, Exported}
@@ -29,18 +27,13 @@ module _ (g t s : Bytes) (octets : Octets s) (yes : accepted tt ≡ script_check
     low : depth (term s) ≤ depth_limit
 
   read : Read
-  unfolding script_check
+  unfolding own_check script_check
   read =
       let a = and_then (types_check g t) _ (sym yes) in
       let b = and_then (q13 [] s) _ a.1 in
-      let c = and_then (q14 s) _ b.1 in
-      let d = and_then (q15 g s) _ c.1 in
-      let e = and_then (q36_objects g s) _ d.1 in
-      let f = and_then (q16 t s) _ e.1 in
-      let h = and_then (q17 s) _ f.1 in
-      let i = and_then (q18 s) (q19 s) h.1 in
-      let w = whole [] s octets b.0 c.0 h.0 in
-      record { stands = w; low = q18_depth (term s) (ap q18 w.encoded ∙ i.0) }
+      let f = form_yes g t s (and_then (form_check g t s) (q19 s) b.1).0 in
+      let w = whole [] s octets b.0 f.fields f.one_term in
+      record { stands = w; low = q18_depth (term s) (ap q18 w.encoded ∙ f.shallow) }
 
   pub encoded : encode (term s) ≡ s
   encoded = read.stands.encoded

@@ -1,12 +1,11 @@
 -- The questions of an import, one after another, and what then stands in front of the two copies.
-use Rattle.std.proofs.Common.{◌≡◌, refl, sym, ap, ◌∙◌, [], ℕ, ◌+◌, ◌*◌, ◌/◌, ◌≤◌, arith, length, take, drop, take_at}
-use Rattle.calculus.specs.Terms.{Term}
+use Rattle.std.proofs.Common.{◌≡◌, refl, sym, ap, ◌∙◌, [], ℕ, ◌*◌, ◌≤◌, arith, length, take, drop, take_at}
 use Rattle.rules.specs.Answer.{Bytes, Octets, Answer, accepted, refused, ◌>>◌}
 use Rattle.rules.specs.Limits.{script_width, depth_limit, office_limit}
-use Rattle.rules.specs.Script.{encode, term, size, depth, q18}
-use Rattle.rules.specs.Calls.{types_check}
+use Rattle.rules.specs.Script.{encode, term, depth, q18}
+use Rattle.rules.specs.Calls.{types_check, form_check}
 use Rattle.rules.specs.Names.{meant}
-use Rattle.rules.specs.Office.{office_records, nameless, with_names, named_term, form_check, q28, q29, q30, imported, importing}
+use Rattle.rules.specs.Office.{office_records, nameless, with_names, named_term, q28, q29, q30, imported, importing}
 use Rattle.rules.proofs.Asked.{and_then}
 use Rattle.rules.proofs.PrefixLaws.{encode_length}
 use Rattle.rules.proofs.TermCode.{term_code}

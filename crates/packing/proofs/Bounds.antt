@@ -7,18 +7,18 @@ use Rattle.rules.specs.Answer.{Bytes, Octets, Answer, accepted, refused, ◌>>=�
 use Rattle.rules.specs.Limits.{row_width, type_width, script_width, old_type_width, old_script_width, group_limit, table_limit, script_limit, word_limit, words_length, last_question, work_length, answer_length, office_width, office_limit}
 use Rattle.rules.specs.Groups.{rows, properties_of, ok3, ok4, ok5, ok6, ok7, q2, q3, q4, q5, q6}
 use Rattle.rules.specs.Types.{type_count, type_at, ok9, ok10, ok36_type, ok11, ok12, q8_of, q8, q9, q10, q36_types, q11}
-use Rattle.rules.specs.Script.{records, arity, kind, term, size, depths, binders, term_end, exactly, ok14, ok15, ok36_object, ok16, ok18, ok19, q13_of, q13, q14, q15, q36_objects, q16, q17, q18, q19}
+use Rattle.rules.specs.Script.{records, arity, kind, term, size, depths, binders, term_end, exactly, ok14, ok15, ok36_object, ok16, ok18, ok19, q13_of, q13, q14, q15, q36_objects, q16, q17, q19}
 use Rattle.rules.specs.Typing.{of_typing, typing}
 use Rattle.rules.specs.Sheet.{sheet}
 use Rattle.rules.specs.Step.{End, end_number, end_count}
 use Rattle.rules.specs.Preview.{Preview, q35, previewing, moving}
 use Rattle.rules.specs.Words.{q32, q33, ok33, ok34, words_check}
-use Rattle.rules.specs.Calls.{q1, q25, q26, q27, groups_check, types_check, comparing, script_check, checking, stepping, running, sheeting}
+use Rattle.rules.specs.Calls.{q1, q25, q26, q27, groups_check, types_check, comparing, form_check, own_check, script_check, checking, stepping, running, sheeting}
 use Rattle.rules.specs.Profile.{ok39, q39, profile_checking}
 use Rattle.rules.specs.Rewriting.{widen_types, widen_script, old_types_check, old_script_check, rewriting_types, rewriting_script}
 use Rattle.rules.specs.Names.{scopes}
-use Rattle.rules.specs.Office.{office_records, nameless, named_term, form_check, ok29, ok30, q28, q29, q30, imported, importing, exported, q28_of_export, exporting}
-use Rattle.rules.proofs.Form.{form_then}
+use Rattle.rules.specs.Office.{office_records, nameless, named_term, ok29, ok30, q28, q29, q30, imported, importing, exported, q28_of_export, exporting}
+use Rattle.rules.proofs.Form.{form_yes}
 use Rattle.rules.proofs.Office.{q28_measured, nameless_records}
 use Rattle.rules.proofs.ScriptLength.{q13_fitting}
 use Rattle.rules.proofs.Scripts.{whole}
@@ -128,19 +128,25 @@ form_bounded g t s n =
     then (q17 s) _ (exactly_bounded (records s) (term_end s 0) n (λ e h. omega (arith, end_bound (λ j. arity (kind s j)) (records s - 0) 1 0 e h))) λ e17.
     each_bounded 18 (records s) (ok18 (depths (term s))) (omega arith) (omega arith) n
 
-pub script_bounded : (rooms : List ℕ) (g t s : Bytes) → Bounded (script_check rooms g t s)
-unfolding script_check
-script_bounded rooms g t s =
-    then (types_check g t) _ (types_bounded g t) λ e12.
+pub own_bounded : (rooms : List ℕ) (g t s : Bytes) → Bounded (own_check rooms g t s)
+unfolding own_check
+own_bounded rooms g t s =
     then (q13 rooms s) _ (at_13 script_width rooms s) λ e13.
     let n : records s ≤ script_limit = (q13_fitting rooms s e13).limited in
-    rw (form_then g t s (q19 s))
-    (then (form_check g t s) _ (form_bounded g t s n) λ e18. each_bounded 19 (records s) (ok19 (binders (term s)) s) (omega arith) (omega arith) n)
+    then (form_check g t s) _ (form_bounded g t s n) λ e18. each_bounded 19 (records s) (ok19 (binders (term s)) s) (omega arith) (omega arith) n
+
+pub script_bounded : (rooms : List ℕ) (g t s : Bytes) → Bounded (script_check rooms g t s)
+unfolding script_check
+script_bounded rooms g t s = then (types_check g t) _ (types_bounded g t) λ e12. own_bounded rooms g t s
 
 -- how many records a script has that passes
-script_records : (rooms : List ℕ) (g t s : Bytes) → script_check rooms g t s ≡ accepted tt → records s ≤ script_limit
+pub own_records : (rooms : List ℕ) (g t s : Bytes) → own_check rooms g t s ≡ accepted tt → records s ≤ script_limit
+unfolding own_check
+own_records rooms g t s e = (q13_fitting rooms s (and_then (q13 rooms s) _ e).0).limited
+
+pub script_records : (rooms : List ℕ) (g t s : Bytes) → script_check rooms g t s ≡ accepted tt → records s ≤ script_limit
 unfolding script_check
-script_records rooms g t s e = (q13_fitting rooms s (and_then (q13 rooms s) _ (and_then (types_check g t) _ e).1).0).limited
+script_records rooms g t s e = own_records rooms g t s (and_then (types_check g t) (own_check rooms g t s) e).1
 
 pub step_bounded : (g t s : Bytes) (room : ℕ) → Bounded (stepping g t s room)
 unfolding stepping
@@ -236,16 +242,11 @@ placed_bounded m (placed_no {q} {place} x c) l =
     bounded_no {q = q} {p = place} (omega (arith, r.0)) (omega (arith, r.1)) (omega arith)
 
 pub script_small : (rooms : List ℕ) (g t s : Bytes) → Octets s → script_check rooms g t s ≡ accepted tt → size (term s) ≤ script_limit
-unfolding script_check
+unfolding own_check script_check
 script_small rooms g t s o e =
-    let e13 = (and_then (types_check g t) _ e).1 in
-    let e14 = (and_then (q13 rooms s) _ e13).1 in
-    let e15 = (and_then (q14 s) _ e14).1 in
-    let e36 = (and_then (q15 g s) _ e15).1 in
-    let e16 = (and_then (q36_objects g s) _ e36).1 in
-    let e17 = (and_then (q16 t s) _ e16).1 in
-    let f13 = (and_then (q13 rooms s) _ e13).0 in
-    omega (arith, (whole rooms s o f13 (and_then (q14 s) _ e14).0 (and_then (q17 s) _ e17).0).sized, (q13_fitting rooms s f13).limited)
+    let e13 = and_then (q13 rooms s) _ (and_then (types_check g t) _ e).1 in
+    let f = form_yes g t s (and_then (form_check g t s) (q19 s) e13.1).0 in
+    omega (arith, (whole rooms s o e13.0 f.fields f.one_term).sized, (q13_fitting rooms s e13.0).limited)
 
 -- typing of a script that has passed the questions before it
 pub typing_bounded : (g t s : Bytes) → Octets s → script_check [] g t s ≡ accepted tt → Bounded (typing (properties_of g) (type_at t) [] 0 (term s))

@@ -12,9 +12,9 @@ use Rattle.rules.proofs.ScriptLength.{q13_fitting}
 use Rattle.rules.specs.Typing.{typing}
 use Rattle.rules.specs.Sheet.{sheet}
 use Rattle.rules.specs.Run.{Ran}
-use Rattle.rules.specs.Calls.{q1, q25, q26, q27, groups_check, types_check, script_check, checking, type_records, stepping, step_report, running, run_report, sheeting, sheet_records}
+use Rattle.rules.specs.Calls.{q1, q25, q26, q27, groups_check, types_check, own_check, script_check, checking, type_records, stepping, step_report, running, run_report, sheeting, sheet_records}
 use Rattle.rules.specs.Profile.{q39, profile_checking}
-use Rattle.rules.specs.Office.{importing, q28_of_export, exported, exporting}
+use Rattle.rules.specs.Office.{importing, exporting}
 use Rattle.rules.proofs.Office.{q28_measured}
 use Rattle.demands.proofs.Imports.{import_yes, imports}
 use Rattle.demands.proofs.Exports.{exports}
@@ -25,7 +25,7 @@ use Rattle.rules.proofs.Asked.{and_then, few_types}
 use Rattle.demands.proofs.TypesTable.{tables}
 use Rattle.packing.specs.Packed.{packed, compared, ended, step_ended, run_ended, preview_ended, half, end_of, count_of, StepCounted, PreviewCounted, preview_yes, preview_no, counted_yes, counted_no, Bounded, bounded_yes, bounded_no, Holds, holds_yes, holds_no}
 use Rattle.packing.proofs.Unpacked.{Reads, unended}
-use Rattle.packing.proofs.Bounds.{check_bounded, profile_bounded, run_bounded, page_bounded, preview_bounded, move_bounded, rewriting_types_bounded, rewriting_script_bounded, script_small, importing_bounded, exporting_bounded}
+use Rattle.packing.proofs.Bounds.{check_bounded, profile_bounded, run_bounded, page_bounded, preview_bounded, move_bounded, rewriting_types_bounded, rewriting_script_bounded, script_small, importing_bounded, exporting_bounded, script_records}
 use Rattle.packing.proofs.Sizes.{Small, small_yes, small_no, no_binders, typing_small, Within, within_move, step_within, Ends, run_within, sheet_length}
 
 pub records_bounded : (a : Answer Ty) → Bounded a → Bounded (type_records a)
@@ -104,7 +104,7 @@ types_rewritten g t b room e =
     subst (λ (x : Bytes). length x / type_width ≤ table_limit) (accepted_inj e27) few
 
 pub script_rewritten : (g t s b : Bytes) (room : ℕ) → rewriting_script g t s room ≡ accepted b → length b / script_width ≤ script_limit
-unfolding rewriting_script old_script_check script_check
+unfolding rewriting_script old_script_check own_check script_check
 script_rewritten g t s b room e =
     let e1 = and_then (old_script_check g t s) _ e in
     let e27 = (and_then (q27 (widen_script s) room) _ e1.1).1 in
@@ -132,15 +132,13 @@ importing_holds g t s room o =
     (λ b e. omega (arith, (imports g t s o).counted room b e, (q28_measured s (import_yes g t s room b e).length_yes).limited))
 
 pub exporting_holds : (g t s : Bytes) (room : ℕ) → Octets s → Holds (rewritten_records office_width (exporting g t s room))
-unfolding exporting script_check
+unfolding exporting
 exporting_holds g t s room o =
     rewritten_holds office_width (exporting g t s room) (exporting_bounded g t s room)
     (λ b e. omega (arith, (exports g t s o).counted room b e, few b e))
   where
     few : (b : Bytes) → exporting g t s room ≡ accepted b → records s ≤ script_limit
-    few b e =
-        let a = and_then (types_check g t) _ (and_then (script_check [] g t s) _ e).0 in
-        (q13_fitting [] s (and_then (q13 [] s) _ a.1).0).limited
+    few b e = script_records [] g t s (and_then (script_check [] g t s) _ e).0
 
 -- a run's end and count
 pub run_ends : (g t s : Bytes) (budget first scratch : ℕ) (x : Ran) → Octets s → running g t s budget first scratch ≡ accepted x → Ends x
@@ -169,12 +167,11 @@ count_small own wrong_kind l w = l
 count_small own too_big l w = l
 
 pub step_count : (g t s : Bytes) (room : ℕ) (x : End) → stepping g t s room ≡ accepted x → end_count (records s) x ≤ script_limit
-unfolding stepping script_check
+unfolding stepping
 step_count g t s room x e =
     let e1 = and_then (script_check [] g t s) _ e in
-    let e13 = (and_then (q13 [] s) _ (and_then (types_check g t) _ e1.0).1).0 in
     subst (λ (y : End). end_count (records s) y ≤ script_limit) (accepted_inj e1.1)
-    (count_small (records s) (step_in (properties_of g) (type_at t) room (term s)) (q13_fitting [] s e13).limited (step_within (properties_of g) (type_at t) room (term s)))
+    (count_small (records s) (step_in (properties_of g) (type_at t) room (term s)) (script_records [] g t s e1.0) (step_within (properties_of g) (type_at t) room (term s)))
 
 -- and so a preview's and a move's, and of a preview its end too
 pub previewed : (g t s : Bytes) (room steps : ℕ) (v : Preview) → previewing g t s room steps ≡ accepted v
