@@ -6,10 +6,10 @@ use Rattle.rules.specs.Groups.{properties_of}
 use Rattle.rules.specs.Types.{type_at}
 use Rattle.rules.specs.Script.{term}
 use Rattle.rules.specs.Typing.{typing}
-use Rattle.rules.specs.Calls.{types_check, script_check}
-use Rattle.rules.specs.Packet.{q39_if, entry_check}
+use Rattle.rules.specs.Calls.{types_check, own_check, script_check}
+use Rattle.rules.specs.Packet.{q39_if}
 use Rattle.rules.proofs.Asked.{and_then}
-use Rattle.demands.proofs.Answers.{accepted≢refused}
+use Rattle.demands.proofs.Answers.{accepted≢refused, go_on}
 use Rattle.demands.proofs.Checked.{script_passed}
 use Rattle.answer.specs.Numbers.{number}
 use Rattle.answer.specs.Said.{said}
@@ -20,7 +20,6 @@ use Rattle.inference.specs.Memory.{Meets}
 use Rattle.inference.proofs.Rules.{refused_as}
 use Rattle.packet.specs.Checks.{entry_asked, from_26, from_typing, Accepted19, SetApart, found_apart, refused_apart, Typed}
 use Rattle.packet.proofs.Apart.{type_found}
-use Rattle.packet.proofs.Passing.{entry_alone}
 
 -- a type that is set apart
 pub record Found (T : Answer Ty) (w : Bytes) : Type 0 where
@@ -71,8 +70,8 @@ module _ (g t script entry : Bytes) (group profile first scratch : ℕ) where
 
   -- an entry that is asked no more before its typing
   pub entry_passed : types_check g t ≡ accepted tt → accepted tt ≡ entry_asked g t entry profile → script_check [] g t entry ≡ accepted tt
-  unfolding entry_asked
-  entry_passed T h = entry_alone g t entry T ∙ (and_then (entry_check g t entry) (q39_if profile entry) (sym h)).0
+  unfolding entry_asked script_check
+  entry_passed T h = go_on T (and_then (own_check [] g t entry) (q39_if profile entry) (sym h)).0
 
   pub entry_untyped : {w v v' : Bytes} {x : Result ℕ Refusal} {e : Refusal} (r : Result (Unit {0}) Refusal) → Found script_typing w
       → accepted tt ≡ entry_asked g t entry profile → Meets entry_typing 0 v x v' → x ≡ Err e → IsErrAnd r (λ y. y ≡ e) → said r ≡ whole

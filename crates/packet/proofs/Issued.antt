@@ -8,8 +8,8 @@ use Rattle.rules.specs.Types.{type_at}
 use Rattle.rules.specs.Script.{records, encode, term, q13}
 use Rattle.rules.specs.Typing.{q21, typing}
 use Rattle.rules.specs.Run.{Ran, run}
-use Rattle.rules.specs.Calls.{zeros, q25, q26, script_check, first_after, scratch_after}
-use Rattle.rules.specs.Packet.{application, q1_work, q39_if, q37, q38, q18_whole, entry_check, before_typing, application_check, desk_check, desk_run, Packet as Paged, issued, issuing, packet_report, desk_work_after, packet_page_after}
+use Rattle.rules.specs.Calls.{zeros, q25, q26, own_check, script_check, first_after, scratch_after}
+use Rattle.rules.specs.Packet.{application, q1_work, q39_if, q37, q38, q18_whole, before_typing, application_check, desk_check, desk_run, Packet as Paged, issued, issuing, packet_report, desk_work_after, packet_page_after}
 use Rattle.rules.proofs.Asked.{ask_true, and_then, regroup}
 use Rattle.demands.specs.Packet.{PacketByHand}
 use Rattle.demands.proofs.Checked.{script_passed}
@@ -55,10 +55,10 @@ pieces g t script entry group profile work first scratch =
     then_same (before_typing g t script profile work)
     (bind_same (typing (properties_of g) (type_at t) [] 0 (term script)) _ _
     (λ s.
-    then_same (entry_check g t entry)
+    then_same (own_check [] g t entry)
     (then_same (q39_if profile entry)
     (bind_same typed _ _ (λ u. last_pieces g script entry group first scratch s u)))
-    ∙ sym (regroup (entry_check g t entry) (q39_if profile entry) (◌>>=◌ typed (λ u. from_26 g script entry group first scratch s u)))))
+    ∙ sym (regroup (own_check [] g t entry) (q39_if profile entry) (◌>>=◌ typed (λ u. from_26 g script entry group first scratch s u)))))
 
 module _ (g t script entry : Bytes) (G : Octets g) (O : Octets script) (E : Octets entry) (group budget profile : ℕ) (work first scratch sheet : Bytes) where
   abbrev begun : Answer (Unit {0})

@@ -1,13 +1,11 @@
 -- Questions one after another, by what each call has answered.
-use Rattle.std.proofs.Common.{◌≡◌, refl, sym, ap, ◌∙◌, [], ℕ, ◌<◌, ltb, ltb-true, Result, Ok, Err}
+use Rattle.std.proofs.Common.{◌≡◌, sym, ap, ◌∙◌, [], ℕ, ◌<◌, ltb, ltb-true, Result, Ok, Err}
 use Rattle.rules.specs.Answer.{Bytes, Answer, accepted, ◌>>◌}
-use Rattle.rules.specs.Calls.{q25, groups_check, types_check, script_check}
-use Rattle.rules.specs.Packet.{entry_check}
+use Rattle.rules.specs.Calls.{q25, groups_check, types_check}
 use Rattle.rules.specs.Groups.{rows}
 use Rattle.rules.proofs.Asked.{ask_true, and_then}
 use Rattle.demands.proofs.Checked.{script_passed}
 use Rattle.demands.proofs.Packet.{byte_group}
-use Rattle.demands.proofs.SecondDemand.{goes}
 use Rattle.answer.specs.declared.Refusal.{Refusal}
 use Rattle.answer.specs.Said.{said}
 use Rattle.answer.proofs.Passed.{then_asked, stopped}
@@ -21,14 +19,6 @@ after_yes a b i h k = then_asked a b (sym (said_yes a i h)) k
 
 pub at_no : (a b : Answer (Unit {0})) {x : Result (Unit {0}) Refusal} {e : Refusal} → x ≡ Err e → said x ≡ a → said x ≡ ◌>>◌ a b
 at_no a b i h = stopped a b i (sym (ap said i) ∙ h)
-
--- a script's questions, over tables that have passed
-own_questions : (g t s : Bytes) → script_check [] g t s ≡ ◌>>◌ (types_check g t) (entry_check g t s)
-unfolding script_check entry_check
-own_questions g t s = refl
-
-pub entry_alone : (g t s : Bytes) → types_check g t ≡ accepted tt → script_check [] g t s ≡ entry_check g t s
-entry_alone g t s h = own_questions g t s ∙ goes (types_check g t) (entry_check g t s) h
 
 -- what a script that has passed is
 pub whole_of : (g t s : Bytes) → Accepted19 g t s → Whole s

@@ -9,8 +9,8 @@ use Rattle.rules.specs.Groups.{rows, join, meet, properties_of}
 use Rattle.rules.specs.Types.{type_at}
 use Rattle.rules.specs.Script.{encode, term, size, depth, q13}
 use Rattle.rules.specs.Typing.{q21, typing}
-use Rattle.rules.specs.Calls.{q25, q26, script_check}
-use Rattle.rules.specs.Packet.{application, q39_if, entry_check, q37, q38, q18_whole}
+use Rattle.rules.specs.Calls.{q25, q26, own_check, script_check}
+use Rattle.rules.specs.Packet.{application, q39_if, q37, q38, q18_whole}
 use Rattle.redex.specs.declared.Found.{Found}
 use Rattle.redex.specs.declared.Found.TheVariants.{Value, Redex, Denied, Stuck}
 use Rattle.types.specs.Held.{Held}
@@ -24,8 +24,10 @@ says_value Stuck = false
 
 -- the entry's 13 to 19 and 39
 unfoldable pub entry_asked : Bytes → Bytes → Bytes → ℕ → Answer (Unit {0})
-unfolding entry_check q39_if
-entry_asked g t entry profile = ◌>>◌ (entry_check g t entry) (q39_if profile entry)
+unfolding own_check q39_if
+entry_asked g t entry profile = do
+  own_check [] g t entry
+  q39_if profile entry
 
 -- 37, 21 and 38, of the types found of script and entry
 unfoldable pub call_check : Bytes → ℕ → Ty → Ty → Answer (Unit {0})

@@ -11,7 +11,7 @@ ghost use Rattle.rules.specs.Types.{type_at};
 ghost use Rattle.rules.specs.Script.{records, term, depth, q13};
 ghost use Rattle.rules.specs.Typing.{q21, typing};
 ghost use Rattle.rules.specs.Run.{run};
-ghost use Rattle.rules.specs.Calls.{q25, q26, types_check, first_after, scratch_after};
+ghost use Rattle.rules.specs.Calls.{q25, q26, first_after, scratch_after};
 ghost use Rattle.rules.specs.Packet.{application, q1_work, q39_if, q37, q38, q18_whole, before_typing, desk_run, issued, issuing, packet_report, desk_work_after, packet_page_after};
 ghost use Rattle.demands.specs.Packet.{PacketByHand};
 ghost use Rattle.answer.specs.Said.{said};
@@ -95,12 +95,12 @@ fn type_apart(
     Ok(())
 }
 
-// The entry's 13 to 19 and 39. The tables have passed 2 to 12 with the script, and pass them again.
+// The entry's 13 to 19 and 39. The tables have passed 2 to 12 with the script.
+#[tactic(auto, using(answer::proofs::Passed::then_asked, answer::proofs::Passed::stopped), unfolding(crate::specs::Checks::entry_asked))]
 fn entry_check(groups: &[u8], types: &[u8], entry: &[u8], profile: u64) -> Checked
-    requires { types_check groups.now types.now ≡ accepted tt }
     ensures { said result ≡ entry_asked groups.now types.now entry.now profile }
 {
-    let passed = syntax::script_check(groups, types, entry, &[]);
+    let passed = syntax::own_check(groups, types, entry, &[]);
     let Ok(()) = passed else {
         return passed;
     };

@@ -9,9 +9,10 @@ use Rattle.calculus.specs.Numbers.{side}
 use Rattle.rules.specs.Answer.{Bytes, Octets, accepted}
 use Rattle.rules.specs.Limits.{table_limit}
 use Rattle.rules.specs.Types.{type_count, type_at, q8}
-use Rattle.rules.specs.Script.{records, sum_of_units, ok16, q13, q14, q15, q36_objects, q16, encode, term}
-use Rattle.rules.specs.Calls.{types_check, groups_check, script_check}
+use Rattle.rules.specs.Script.{records, sum_of_units, ok16, q13, q16, q19, encode, term}
+use Rattle.rules.specs.Calls.{types_check, groups_check, form_check, own_check, script_check}
 use Rattle.rules.proofs.Asked.{and_then, few_types}
+use Rattle.rules.proofs.Form.{form_yes}
 use Rattle.rules.proofs.TypePlaces.{Standing, left_side, right_side, r_at, ir_at, c_at, ic_at}
 use Rattle.rules.proofs.UnitSums.{UnitSum}
 use Rattle.rules.proofs.Search.{each_all}
@@ -41,14 +42,11 @@ unfolding types_check
 table_small g t h = few_types t (and_then (q8 t) _ (and_then (groups_check g) _ h).1).0
 
 types_named : (rooms : List ℕ) (g t s : Bytes) → script_check rooms g t s ≡ accepted tt → q16 t s ≡ accepted tt
-unfolding script_check
+unfolding own_check script_check
 types_named rooms g t s h =
     let a = and_then (types_check g t) _ h in
     let b = and_then (q13 rooms s) _ a.1 in
-    let c = and_then (q14 s) _ b.1 in
-    let d = and_then (q15 g s) _ c.1 in
-    let e = and_then (q36_objects g s) _ d.1 in
-    (and_then (q16 t s) _ e.1).0
+    (form_yes g t s (and_then (form_check g t s) (q19 s) b.1).0).types
 
 -- of any rooms: a step asks for none, a run for two
 pub passed_started : (rooms : List ℕ) (g t s : Bytes) → Octets g → Octets s → script_check rooms g t s ≡ accepted tt → Started g t s

@@ -1,5 +1,5 @@
 -- A packet's refusal has a question of the documents and a place of at most 8,192, and its count is no more: one number holds either.
-use Rattle.std.proofs.Common.{◌≡◌, refl, sym, ap, ◌∙◌, subst, Bool, true, false, cond, [], ◌∷◌, ℕ, ◌*◌, ◌/◌, ◌≤◌, min, arith, eqb, leb, ltb, length}
+use Rattle.std.proofs.Common.{◌≡◌, refl, sym, ◌∙◌, subst, Bool, true, false, cond, [], ◌∷◌, ℕ, ◌/◌, ◌≤◌, min, arith, eqb, leb, ltb, length}
 use Rattle.calculus.specs.Types.{Ty, function, top}
 use Rattle.calculus.specs.Subtyping.{subtype, below}
 use Rattle.calculus.specs.Terms.{is_value}
@@ -11,18 +11,16 @@ use Rattle.rules.specs.Script.{records, term, size, depth, q13}
 use Rattle.rules.specs.Typing.{has_form, left, q21, typing}
 use Rattle.rules.specs.Run.{Ran, run}
 use Rattle.rules.specs.Sheet.{sheet}
-use Rattle.rules.specs.Calls.{q25, q26, q27, types_check, script_check, running}
+use Rattle.rules.specs.Calls.{q25, q26, q27, own_check, script_check}
 use Rattle.rules.specs.Profile.{ok39, q39}
-use Rattle.rules.specs.Packet.{application, q1_work, q39_if, q37, q38, q18_whole, entry_check, before_typing, application_check, desk_check, desk_run, Packet, issued, issuing, packet_count, packet_report}
+use Rattle.rules.specs.Packet.{application, q1_work, q39_if, q37, q38, before_typing, application_check, desk_check, Packet, issued, issuing, packet_count, packet_report}
 use Rattle.rules.proofs.Asked.{and_then}
-use Rattle.rules.proofs.ScriptLength.{q13_fitting}
-use Rattle.demands.proofs.Answers.{accepted_inj}
+use Rattle.demands.proofs.Answers.{go_on}
 use Rattle.demands.proofs.Checked.{script_passed}
-use Rattle.demands.proofs.SecondDemand.{goes}
-use Rattle.demands.proofs.Packet.{own_questions, packet_by_hand, ready}
+use Rattle.demands.proofs.Packet.{packet_by_hand, ready}
 use Rattle.demands.proofs.PacketQuestions.{issuing_is}
 use Rattle.packing.specs.Packed.{Bounded, bounded_yes, bounded_no, counted_yes, counted_no, RunCounted}
-use Rattle.packing.proofs.Bounds.{then, front, each_bounded, at_13, at_27, script_bounded, typing_bounded}
+use Rattle.packing.proofs.Bounds.{then, front, each_bounded, at_13, at_27, own_bounded, script_bounded, own_records, script_records, typing_bounded}
 use Rattle.packing.proofs.Exported.{run_ends}
 use Rattle.sheet.proofs.Sheets.{sheet_length}
 use Rattle.sheet.proofs.Values.{lines_size}
@@ -30,10 +28,6 @@ use Rattle.sheet.proofs.Values.{lines_size}
 after_type : (m : Answer Ty) (f : Ty → Answer (Unit {0})) → Bounded m → ((s : Ty) → Bounded (f s)) → Bounded (◌>>=◌ m f)
 after_type (accepted s) f b h = h s
 after_type (refused q p) f (bounded_no l m n) h = bounded_no l m n
-
-script_length : (g t s : Bytes) → script_check [] g t s ≡ accepted tt → records s ≤ script_limit
-unfolding script_check
-script_length g t s e = (q13_fitting [] s (and_then (q13 [] s) _ (and_then (types_check g t) _ e).1).0).limited
 
 bounded_39 : (profile : ℕ) (s : Bytes) → records s ≤ script_limit → Bounded (q39_if profile s)
 unfolding q39_if
@@ -44,9 +38,6 @@ bounded_39 profile s l = go (eqb profile 0)
     go false = each_bounded 39 (records s) (ok39 s) (omega arith) (omega arith) l
 
 module _ (g t script entry : Bytes) (O : Octets script) (E : Octets entry) (group profile work first scratch : ℕ) where
-  own_check : types_check g t ≡ accepted tt → script_check [] g t entry ≡ entry_check g t entry
-  own_check T = own_questions g t entry ∙ goes (types_check g t) (entry_check g t entry) T
-
   application_bounded : (s u : Ty) → Bounded (application_check g script entry group first scratch s u)
   unfolding application_check
   application_bounded s u =
@@ -64,23 +55,22 @@ module _ (g t script entry : Bytes) (O : Octets script) (E : Octets entry) (grou
   unfolding before_typing
   begun_bounded =
       then (q1_work work) _ (front 1 (leb work_length work) (omega arith) (omega arith)) λ e1.
-      then (script_check [] g t script) _ (script_bounded [] g t script) λ e19. bounded_39 profile script (script_length g t script e19)
+      then (script_check [] g t script) _ (script_bounded [] g t script) λ e19. bounded_39 profile script (script_records [] g t script e19)
 
   begun_passed : before_typing g t script profile work ≡ accepted tt → script_check [] g t script ≡ accepted tt
   unfolding before_typing
   begun_passed h = (and_then (script_check [] g t script) (q39_if profile script) (and_then (q1_work work) _ h).1).0
 
   desk_bounded : Bounded (desk_check g t script entry group profile work first scratch)
-  unfolding desk_check
+  unfolding desk_check script_check
   desk_bounded =
       then (before_typing g t script profile work) _ begun_bounded λ b.
       let p = begun_passed b in
       let T = (script_passed [] g t script O p).types in
       after_type (typing (properties_of g) (type_at t) [] 0 (term script)) _ (typing_bounded g t script O p) λ s.
-      then (entry_check g t entry) _ (subst Bounded (own_check T) (script_bounded [] g t entry)) λ e.
-      let q = own_check T ∙ e in
-      then (q39_if profile entry) _ (bounded_39 profile entry (script_length g t entry q)) λ e39.
-      after_type (typing (properties_of g) (type_at t) [] 0 (term entry)) _ (typing_bounded g t entry E q) λ u. application_bounded s u
+      then (own_check [] g t entry) _ (own_bounded [] g t entry) λ e.
+      then (q39_if profile entry) _ (bounded_39 profile entry (own_records [] g t entry e)) λ e39.
+      after_type (typing (properties_of g) (type_at t) [] 0 (term entry)) _ (typing_bounded g t entry E (go_on T e)) λ u. application_bounded s u
 
 issued_bounded : (g : Bytes) (group room : ℕ) (x : Ran) → Bounded (issued g group room x)
 issued_bounded g group room x = go (eqb x.end 0)

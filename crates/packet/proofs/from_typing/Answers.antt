@@ -11,11 +11,6 @@ returns-in_err-type_apart c =
     script_untyped a.groups.now a.types.now a.script.now a.entry.now a.group a.profile a.first a.scratch c.from_residual.result c.type_apart.ensures
     c.in_err-type_apart.was c.from_residual.ensures.1
 
-pub entry_check-requires : goal.entry_check-requires
-entry_check-requires c =
-    let a = c.args in
-    tables_passed a.groups.now a.types.now a.script.now a.entry.now a.group a.profile a.first a.scratch c.requires.0
-
 pub returns-in_err-entry_check : goal.returns-in_err-entry_check
 returns-in_err-entry_check c =
     let a = c.args in
