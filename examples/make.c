@@ -1,13 +1,13 @@
 /*
- * Writes the example folders' files groups, types and script, words where a studio has its own, and scripts and amendments where one
- * amends its scripts:
+ * Writes the example folders' files groups, types and script, words where a studio has its own, scripts and amendments where one
+ * amends its scripts, and entries where a loan desk applies its script to them:
  *
  *     ./archives wigneld_office
  *     cc -std=c99 -Iinclude -o make examples/make.c target/staticlib/libwigneld_office.a && ./make examples
  *
  * A script is written in its own order, each record followed by its operands; the indent below follows the operands. All but
- * whose-hands, drying-days and gallery-screen were saved in an older form (WIGNELD_FORMAT) or by the old office program: they are
- * written as they were and rewritten or imported by the engine's own calls.
+ * whose-hands, drying-days, gallery-screen and loan-desk were saved in an older form (WIGNELD_FORMAT) or by the old office program:
+ * they are written as they were and rewritten or imported by the engine's own calls.
  * A second folder, if one is named, gets an example as it was saved in form 1.
  */
 #include <stdint.h>
@@ -17,7 +17,7 @@
 #include "wigneld_office.h"
 
 #if WIGNELD_FORMAT != 4
-#error "whose-hands, drying-days and gallery-screen are written in form 4"
+#error "whose-hands, drying-days, gallery-screen and loan-desk are written in form 4"
 #endif
 
 /* Who reads: anyone; the bench, where objects are treated; the lender's office; the registrar, who may read what either may. */
@@ -673,6 +673,60 @@ static void screen_script(void)
             present_choice(1, BENCH, CASE_DAY + 2);
 }
 
+/* ---- a loan desk's packet: in form 4; the script stands alone, and each entry in a file of its own */
+
+enum { TRAVELS = 0, REQUEST = 3, OBJECT_REMARK = 7 };
+
+static void desk_types(void)
+{
+    present_choice_type(ANYONE);    /* TRAVELS: yes, or no */
+    present_type(2, ANYONE);        /* REQUEST: the days that the object was away this year, its value and the bench's remark */
+        present_type(4, ANYONE);
+        present_type(2, ANYONE);
+            present_type(4, LENDER);
+            present_choice_type(BENCH); /* OBJECT_REMARK: the usual frame, or one of our own */
+}
+
+/* The value or the remark of a request. */
+static void rest_of_request(unsigned second)
+{
+    passed(7 + second, ANYONE, 0);
+        passed(8, ANYONE, 0);
+            passed(0, 0, 0);
+}
+
+/* Only the lender's office and the registrar make packets. Who may read the page is said by what stands in it. */
+static void desk_script(void)
+{
+    record(2, LENDER, ANYONE, REQUEST);
+    byte(0);
+    byte(0);
+        present(3, ANYONE, 0);
+            passed(14, ANYONE, TRAVELS); /* away for less than 90 days: it may travel */
+                passed(7, ANYONE, 0);
+                    passed(0, 0, 0);
+                present(12, ANYONE, 90);
+            present(3, ANYONE, 0);
+                passed(13, LENDER, 0); /* what to insure: the object's value and the crate's */
+                    rest_of_request(0);
+                    present(12, ANYONE, 3);
+                rest_of_request(1); /* the remark, as it is */
+}
+
+static void request_with_days_for(unsigned who)
+{
+    present(3, ANYONE, 0);
+        present(12, who, 42);
+        present(3, ANYONE, 0);
+            present(12, LENDER, 250);
+            present_choice(1, BENCH, OBJECT_REMARK);
+}
+
+static void desk_entry(void) { request_with_days_for(ANYONE); }
+
+/* The days kept for the bench: the page would tell them to anyone. */
+static void bench_entry(void) { request_with_days_for(BENCH); }
+
 /* ---- */
 
 static void put(struct bytes *into, void (*what)(void))
@@ -767,6 +821,11 @@ int main(int count, char **words)
     as_written(words[1], "whose-hands", hands_types, hands_script);
     as_written(words[1], "drying-days", days_types, days_script);
     as_written(words[1], "gallery-screen", screen_types, screen_script);
+    as_written(words[1], "loan-desk", desk_types, desk_script);
+    put(&bytes, desk_entry);
+    save(words[1], "loan-desk", "entry", &bytes);
+    put(&bytes, bench_entry);
+    save(words[1], "loan-desk", "bench-entry", &bytes);
     if (count == 3)
         as_written(words[2], ".", panel_types, first_panel_script);
     return 0;

@@ -21,8 +21,9 @@
 extern "C" {
 #endif
 
-/* The free stack that the function needs, whatever it is lent, as wigneld.h means it. */
-#define WIGNELD_PACKET_STACK_BYTES 131072
+/* The free stack that the function needs, whatever it is lent, as wigneld.h means it. The deepest scripts and entries, typed or run,
+   were seen to take 83,280 bytes; the number is this and at least a sixteenth more, in whole pages. */
+#define WIGNELD_PACKET_STACK_BYTES 90112
 
 /* In the place of the profile: any script, or those that always finish (wigneld_check_profile in wigneld_office.h). */
 #define WIGNELD_PROFILE_NONE 0
@@ -40,6 +41,8 @@ extern "C" {
  *     38    the entry's type is at or below the function's left side
  *     13    the application, of one record more than script and entry together, has at most 8,192, and both run buffers hold it
  *     18    it is at most 256 levels deep
+ *
+ * A refusal doesn't say of which of them it is; wigneld_check does of the script and of the entry.
  *
  * Then it is built in `first` and run with the budget, as wigneld_run would. It never ends with WIGNELD_END_MAY_NOT or
  * WIGNELD_END_WRONG_KIND. Only where it ends with WIGNELD_END_VALUE is 27 asked and the sheet written, as wigneld_sheet would for the group;

@@ -10,17 +10,39 @@ use wigneld_tests::limits::{
 pub enum Call {
     Check,
     Run,
+    /// A run of budget 0: what a run costs before its first step, and after its last.
+    Start,
     Step,
     Sheet,
 }
+
+pub const CALLS: [Call; 5] = [Call::Check, Call::Run, Call::Start, Call::Step, Call::Sheet];
 
 impl Call {
     pub fn name(self) -> &'static str {
         match self {
             Call::Check => "check",
             Call::Run => "run",
+            Call::Start => "start",
             Call::Step => "step",
             Call::Sheet => "sheet",
+        }
+    }
+
+    /// The call whose shapes it is made with.
+    pub fn shaped(self) -> Call {
+        if self == Call::Start {
+            Call::Run
+        } else {
+            self
+        }
+    }
+
+    fn budget(self) -> u64 {
+        if self == Call::Start {
+            0
+        } else {
+            REPORT_BUDGET
         }
     }
 }
@@ -37,6 +59,9 @@ pub const IMPLEMENTATIONS: &[Implementation] = &[
     #[cfg(feature = "engine")]
     Implementation::Engine,
 ];
+
+/// The engine where it is built in.
+pub const MAIN: Implementation = IMPLEMENTATIONS[IMPLEMENTATIONS.len() - 1];
 
 impl Implementation {
     pub fn name(self) -> &'static str {
@@ -104,9 +129,9 @@ fn second(call: Call, inputs: &Inputs, lent: &mut Lent) -> u64 {
         Call::Check => calls::check(groups, types, script, &mut lent.work, &mut lent.answer)
             .expect("accepted")
             .into(),
-        Call::Run => {
+        Call::Run | Call::Start => {
             let (first, scratch) = (&mut lent.first, &mut lent.scratch);
-            let report = calls::run(groups, types, script, REPORT_BUDGET, first, scratch)
+            let report = calls::run(groups, types, script, call.budget(), first, scratch)
                 .expect("not refused");
             lent.steps = report.steps.to_le_bytes();
             ended(report.end as u64, report.records)
@@ -131,9 +156,9 @@ fn engine(call: Call, inputs: &Inputs, lent: &mut Lent) -> u64 {
     let Inputs { groups, types, script } = inputs;
     match call {
         Call::Check => engine::check(groups, types, script, &mut lent.work, &mut lent.answer),
-        Call::Run => {
+        Call::Run | Call::Start => {
             let (first, scratch) = (&mut lent.first, &mut lent.scratch);
-            engine::run(groups, types, script, REPORT_BUDGET, first, scratch, &mut lent.steps)
+            engine::run(groups, types, script, call.budget(), first, scratch, &mut lent.steps)
         }
         Call::Step => engine::step(groups, types, script, &mut lent.first),
         Call::Sheet => engine::sheet(groups, types, script, GROUP, &mut lent.sheet),
@@ -152,6 +177,10 @@ pub fn in_words(call: Call, answer: u64, lent: &Lent) -> String {
             assert!(end <= 1 && lent.steps() > 0, "a run that reaches no value and isn't spent");
             let how = if end == 0 { "value" } else { "spent" };
             format!("{how}, {} steps", lent.steps())
+        }
+        Call::Start => {
+            assert_eq!((end, lent.steps()), (1, 0), "a run of budget 0 that moves, or of a value");
+            format!("not begun at {records}")
         }
         Call::Step => {
             assert_eq!(end, 1, "a step that doesn't move");

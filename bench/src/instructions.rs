@@ -2,7 +2,7 @@
 
 use std::process::Command;
 
-use crate::calls::{in_words, measured_call, Implementation, Lent, IMPLEMENTATIONS};
+use crate::calls::{in_words, measured_call, Call, Implementation, Lent, CALLS, IMPLEMENTATIONS};
 use crate::shapes::{Shape, SHAPES};
 use crate::SIZES;
 
@@ -11,21 +11,22 @@ pub const ONCE: &str = "--once";
 
 pub fn once(words: &[String]) {
     let [call, name, size, who] = words else { panic!("{ONCE} CALL SHAPE SIZE IMPLEMENTATION") };
-    let shape = SHAPES.iter().find(|own| own.call.name() == call && own.name == name);
-    let shape = shape.expect("a call and one of its shapes");
+    let call = *CALLS.iter().find(|own| own.name() == call).expect("a call");
+    let shape = SHAPES.iter().find(|own| own.call == call.shaped() && own.name == name);
+    let shape = shape.expect("one of the call's shapes");
     let who = IMPLEMENTATIONS.iter().find(|own| own.name() == who).expect("an implementation");
     let inputs = (shape.inputs)(size.parse().expect("a size"));
     let mut lent = Lent::new();
-    let answer = measured_call(*who, shape.call, &inputs, &mut lent);
-    println!("{}", in_words(shape.call, answer, &lent));
+    let answer = measured_call(*who, call, &inputs, &mut lent);
+    println!("{}", in_words(call, answer, &lent));
 }
 
 /// Callgrind counts each byte of a string instruction, so long copies are made by others.
 const TUNABLES: &str =
     "glibc.cpu.x86_rep_movsb_threshold=100000000:glibc.cpu.x86_rep_stosb_threshold=100000000";
 
-fn instructions(shape: &Shape, size: usize, who: Implementation) -> u64 {
-    let words = [ONCE, shape.call.name(), shape.name, &size.to_string(), who.name()];
+pub fn instructions(call: Call, shape: &Shape, size: usize, who: Implementation) -> u64 {
+    let words = [ONCE, call.name(), shape.name, &size.to_string(), who.name()];
     counted("measured_call", &words)
 }
 
@@ -54,8 +55,8 @@ pub fn table() {
     for shape in &SHAPES {
         let mut before = None;
         for size in SIZES {
-            let counts: Vec<u64> =
-                IMPLEMENTATIONS.iter().map(|&who| instructions(shape, size, who)).collect();
+            let own = |&who| instructions(shape.call, shape, size, who);
+            let counts: Vec<u64> = IMPLEMENTATIONS.iter().map(own).collect();
             let second = counts[0];
             let beside = counts.get(1).map_or("– | – | –".into(), |&engine| {
                 let added = before.replace((engine, size)).map_or("–".into(), |(less, fewer)| {

@@ -14,7 +14,9 @@ pub struct Panel {
     pub lines: Vec<Line>,
 }
 
-const COLOURS: [&str; 6] = ["#1b6ca8", "#c8553d", "#4f8a3b", "#7b4fa3", "#8a6d1b", "#2a8c8c"];
+/// One for each shape of a call.
+const COLOURS: [&str; 8] =
+    ["#1b6ca8", "#c8553d", "#4f8a3b", "#7b4fa3", "#8a6d1b", "#2a8c8c", "#b0417f", "#555555"];
 
 /// Of a panel, its legend beside it included.
 const WIDTH: f64 = 660.0;
@@ -118,7 +120,7 @@ fn grid(axes: &Axes) -> String {
 }
 
 fn line(axes: &Axes, line: &Line, index: usize) -> String {
-    let colour = COLOURS[line.colour % COLOURS.len()];
+    let colour = COLOURS[line.colour];
     let dash = if line.dashed { " stroke-dasharray=\"5 4\"" } else { "" };
     let style = format!("stroke=\"{colour}\" stroke-width=\"2\"{dash}");
     let at: Vec<(f64, f64)> = line.points.iter().map(|&(s, t)| (axes.x(s), axes.y(t))).collect();

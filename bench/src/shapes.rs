@@ -2,10 +2,12 @@
 
 use std::rc::Rc;
 
+use wigneld_tests::calls;
 use wigneld_tests::cases::Inputs;
 use wigneld_tests::generate::{chain_groups, unit, wide, wide_type, LOW, LOW_RAISE};
 use wigneld_tests::limits::{
-    MOST_DEPTH, MOST_SCRIPT_RECORDS, MOST_TABLE_RECORDS, OWN_TYPE, SCRIPT_BYTES, TYPE_BYTES,
+    ANSWER_BYTES, MOST_DEPTH, MOST_SCRIPT_RECORDS, MOST_TABLE_RECORDS, OWN_TYPE, SCRIPT_BYTES,
+    TYPE_BYTES, WORK_BYTES,
 };
 use wigneld_tests::script::{Side, Term};
 use wigneld_tests::types::{Form, Type};
@@ -19,7 +21,7 @@ pub struct Shape {
     pub inputs: fn(usize) -> Inputs,
 }
 
-pub static SHAPES: [Shape; 15] = [
+pub static SHAPES: [Shape; 20] = [
     Shape { call: Call::Check, name: "typical", inputs: typical },
     Shape { call: Call::Check, name: "worst: chain", inputs: chain },
     Shape { call: Call::Check, name: "worst: first operands", inputs: first_operands },
@@ -30,6 +32,11 @@ pub static SHAPES: [Shape; 15] = [
     Shape { call: Call::Run, name: "typical", inputs: typical },
     Shape { call: Call::Run, name: "numbers", inputs: numbers },
     Shape { call: Call::Run, name: "worst: far redexes", inputs: far },
+    Shape { call: Call::Run, name: "counting", inputs: counting },
+    Shape { call: Call::Run, name: "counting, much before it", inputs: counting_after },
+    Shape { call: Call::Run, name: "counting, much behind it", inputs: counting_before },
+    Shape { call: Call::Run, name: "a function called often", inputs: called_often },
+    Shape { call: Call::Run, name: "lets around a large body", inputs: lets },
     Shape { call: Call::Step, name: "typical", inputs: typical },
     Shape { call: Call::Step, name: "worst: substitution", inputs: substitution },
     Shape { call: Call::Sheet, name: "typical", inputs: values },
@@ -37,11 +44,13 @@ pub static SHAPES: [Shape; 15] = [
     Shape { call: Call::Sheet, name: "numbers", inputs: shown_numbers },
 ];
 
-/// Of the types table: a sum of units, a function and a sum of 63 records, and a number, all groups 0.
+/// Of the types table: a sum of units, a function and a sum of 63 records, and a number, all groups 0. Where a
+/// shape counts, a function from a number to a number follows.
 const SUM: u16 = 0;
 const FUNCTION_63: u16 = 3;
 const SUM_63: u16 = 66;
 const NUMBER: u16 = 129;
+const COUNTING: u16 = 130;
 
 /// A side of the types of 63 records.
 const SIDE: usize = 31;
@@ -99,7 +108,7 @@ fn decisions(size: usize) -> Rc<Term> {
     }
     let turned = case(SUM, variable(0), inject(Side::Second), inject(Side::First));
     let function = Rc::new(Term::Function(LOW, SUM, turned));
-    Rc::new(Term::Application(0, function, decisions(size - 8)))
+    apply(function, decisions(size - 8))
 }
 
 /// Check, run and step.
@@ -225,6 +234,19 @@ fn literal(number: usize) -> Rc<Term> {
     Rc::new(Term::Literal(LOW, number as u16))
 }
 
+fn add(left: Rc<Term>, right: Rc<Term>) -> Rc<Term> {
+    Rc::new(Term::Addition(0, left, right))
+}
+
+fn apply(function: Rc<Term>, argument: Rc<Term>) -> Rc<Term> {
+    Rc::new(Term::Application(0, function, argument))
+}
+
+/// A function of a number.
+fn of_number(body: Rc<Term>) -> Rc<Term> {
+    Rc::new(Term::Function(LOW, NUMBER, body))
+}
+
 /// A number: sums halved down to literals, every few of them chosen by a comparison, `(λx. case x < n of x + n | x)` of
 /// a number.
 fn number(size: usize) -> Rc<Term> {
@@ -232,15 +254,14 @@ fn number(size: usize) -> Rc<Term> {
         1 => literal(size),
         2 => protect(1, literal(size)),
         14..=40 => {
-            let more = Term::Addition(0, variable(1), literal(size));
             let test = Term::LessThan(0, SUM, variable(0), literal(size * size));
-            let chosen = case(NUMBER, Rc::new(test), Rc::new(more), variable(1));
-            let function = Rc::new(Term::Function(LOW, NUMBER, chosen));
-            Rc::new(Term::Application(0, function, number(size - 10)))
+            let more = add(variable(1), literal(size));
+            let chosen = case(NUMBER, Rc::new(test), more, variable(1));
+            apply(of_number(chosen), number(size - 10))
         }
         _ => {
             let left = (size - 1) / 2;
-            Rc::new(Term::Addition(0, number(left), number(size - 1 - left)))
+            add(number(left), number(size - 1 - left))
         }
     }
 }
@@ -289,6 +310,82 @@ fn far(size: usize) -> Inputs {
     inputs(term, size)
 }
 
+/// Rounds of each loop: what is under way stands in three protects more after each, so the depth allows few more.
+const ROUNDS: usize = 50;
+
+/// A loop, `(μf. λx. case x < n of f more | x) 0`: 11 records and what it goes on with.
+fn looping(more: Rc<Term>) -> Rc<Term> {
+    let test = Term::LessThan(0, SUM, variable(0), literal(ROUNDS));
+    let again = apply(variable(2), more);
+    let body = of_number(case(NUMBER, Rc::new(test), again, variable(1)));
+    apply(Rc::new(Term::Recursion(LOW.r, COUNTING, body)), literal(0))
+}
+
+/// One more than the loop's number.
+fn next() -> Rc<Term> {
+    add(variable(1), literal(1))
+}
+
+/// Two loops: nearly all of the budget is spent in them.
+fn loops() -> Rc<Term> {
+    add(looping(next()), looping(next()))
+}
+
+/// Such a script over the types that loops name. Typing accepts it.
+fn accepted(term: Rc<Term>, size: usize) -> Inputs {
+    let number = Rc::new(Type { marks: LOW, form: Form::Number });
+    let function = Type { marks: LOW, form: Form::Function(number.clone(), number) };
+    let mut own = inputs(term, size);
+    own.types.extend(function.write());
+    let (mut work, mut answer) = (vec![0; WORK_BYTES], vec![0; ANSWER_BYTES]);
+    let found = calls::check(&own.groups, &own.types, &own.script, &mut work, &mut answer);
+    found.expect("a shape that typing accepts");
+    own
+}
+
+/// A case that goes on with this term. The rest of the script is the branch that isn't taken, gone with the first step.
+fn taken(term: Rc<Term>, size: usize) -> Inputs {
+    let rest = number(size - 3 - term.size());
+    accepted(case(NUMBER, inject(Side::First), term, rest), size)
+}
+
+/// The same of loops in a large term, which is given the records that are left for it. A sixteenth of the script is the
+/// other branch, so that the loops have room at the largest size.
+fn within(large: impl FnOnce(Rc<Term>, usize) -> Rc<Term>, size: usize) -> Inputs {
+    let (loops, other) = (loops(), size / 16);
+    let left = size - 3 - other - loops.size();
+    taken(large(loops, left), size)
+}
+
+/// Many steps over a small term, whatever the size of the script.
+fn counting(size: usize) -> Inputs {
+    taken(loops(), size)
+}
+
+/// The same over a large one, whose other records are a value before the loops: `let x = loops in …`.
+fn counting_after(size: usize) -> Inputs {
+    within(|loops, left| apply(of_number(number(left - 2)), loops), size)
+}
+
+/// The same over a large one, whose other records come after the loops and aren't evaluated yet: `loops + …`.
+fn counting_before(size: usize) -> Inputs {
+    within(|loops, left| add(loops, number(left - 1)), size)
+}
+
+/// A loop whose function holds a large value, a quarter of the script, of which each call makes a copy.
+fn called_often(size: usize) -> Inputs {
+    let both = pair(next(), of_number(number(size / 4 - 1)));
+    taken(looping(Rc::new(Term::Projection(Side::First, 0, both))), size)
+}
+
+/// `let x1 = 1 in let x2 = 2 in …` around a large function: each redex is nearly the whole term.
+fn lets(size: usize) -> Inputs {
+    let levels = (size / 12).min(100);
+    let body = add(variable(levels), number(size - 3 * levels - 3));
+    let around = |inner, level| apply(of_number(inner), literal(level));
+    accepted((1..=levels).rev().fold(of_number(body), around), size)
+}
+
 /// Pairs halved down to leaves, of which the first `variables` are variable 0 and the others units.
 fn body(leaves: usize, variables: usize) -> Rc<Term> {
     if leaves == 1 {
@@ -305,5 +402,5 @@ fn substitution(size: usize) -> Inputs {
     let argument = size - 2 - own;
     let most = (MOST_SCRIPT_RECORDS - 1 - own) / (argument - 1).max(1);
     let function = Rc::new(Term::Function(LOW, SUM, body(leaves, most.min(leaves))));
-    inputs(Rc::new(Term::Application(0, function, value(argument))), size)
+    inputs(apply(function, value(argument)), size)
 }

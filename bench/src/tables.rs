@@ -1,6 +1,6 @@
 //! The tables of a measurement, in Markdown, and the panels of its plot.
 
-use crate::calls::{Call, Implementation, IMPLEMENTATIONS};
+use crate::calls::{Call, Implementation, IMPLEMENTATIONS, MAIN};
 use crate::plot::{Line, Panel};
 use crate::shapes::{Shape, SHAPES};
 use crate::times::{measure, Measured};
@@ -19,9 +19,8 @@ impl Row {
         Some(self.measured.times[at])
     }
 
-    /// That of the engine where it is built in.
     fn main_time(&self) -> f64 {
-        *self.measured.times.last().expect("at least one implementation")
+        self.time(MAIN).expect("an implementation that is built in")
     }
 }
 
@@ -95,6 +94,23 @@ pub fn copies(rows: &[Row]) {
             step / copy.time
         );
     }
+}
+
+/// A panel of the engine's runs in what an earlier measurement printed: the rows of `times`, which alone start with a run.
+pub fn earlier_runs(printed: &str) -> Panel {
+    let rows = printed.lines().filter_map(|line| {
+        let cells: Vec<&str> = line.split('|').map(str::trim).collect();
+        let [_, "run", shape, size, _, _, engine, ..] = cells[..] else { return None };
+        Some((shape, size.parse().ok()?, engine.parse().ok()?))
+    });
+    let rows: Vec<(&str, f64, f64)> = rows.collect();
+    let of = |(colour, shape): (usize, &Shape)| {
+        let own = rows.iter().filter(|row| row.0 == shape.name);
+        let points = own.map(|&(_, size, time)| (size, time)).collect();
+        Line { name: format!("{}, engine", shape.name), colour, dashed: false, points }
+    };
+    let lines = SHAPES.iter().filter(|shape| shape.call == Call::Run).enumerate().map(of);
+    Panel { title: "run, before".into(), lines: lines.collect() }
 }
 
 /// A panel for each call, a line for each shape and implementation.

@@ -7,7 +7,7 @@ use std::time::{Duration, Instant};
 use wigneld_tests::cases::Inputs;
 use wigneld_tests::limits::SCRIPT_BYTES;
 
-use crate::calls::{in_words, measured_call, Call, Lent, IMPLEMENTATIONS};
+use crate::calls::{in_words, measured_call, Call, Implementation, Lent, CALLS, IMPLEMENTATIONS};
 use crate::shapes::SHAPES;
 use crate::{lists, SIZES};
 
@@ -77,9 +77,11 @@ pub fn compare() {
     for shape in &SHAPES {
         for size in SIZES {
             let inputs = (shape.inputs)(size);
-            let (answer, lent) = answers(shape.call, &inputs);
-            in_words(shape.call, answer, &lent);
-            alike += 1;
+            for call in CALLS.into_iter().filter(|call| call.shaped() == shape.call) {
+                let (answer, lent) = answers(call, &inputs);
+                in_words(call, answer, &lent);
+                alike += 1;
+            }
         }
     }
     alike += lists::compare();
@@ -119,6 +121,19 @@ pub fn middle_times(mut turns: Vec<Box<dyn FnMut() + '_>>) -> Vec<f64> {
     times.into_iter().map(middle).collect()
 }
 
+/// A call of one implementation, made again and again in memory of its own.
+fn turn(who: Implementation, call: Call, inputs: &Inputs) -> Box<dyn FnMut() + '_> {
+    let mut own = Lent::new();
+    Box::new(move || {
+        black_box(measured_call(who, call, black_box(inputs), &mut own));
+    })
+}
+
+/// Microseconds of one implementation.
+pub fn alone(who: Implementation, call: Call, inputs: &Inputs) -> f64 {
+    middle_times(vec![turn(who, call, inputs)])[0]
+}
+
 pub fn measure(call: Call, inputs: &Inputs) -> Measured {
     let (told, lent) = answers(call, inputs);
     let answer = in_words(call, told, &lent);
@@ -129,13 +144,8 @@ pub fn measure(call: Call, inputs: &Inputs) -> Measured {
         _ => (&[][..], 0),
     };
     let mut copied = vec![0; term.len()];
-    let mut turns: Vec<Box<dyn FnMut() + '_>> = Vec::new();
-    for &who in IMPLEMENTATIONS {
-        let mut own = Lent::new();
-        turns.push(Box::new(move || {
-            black_box(measured_call(who, call, black_box(inputs), &mut own));
-        }));
-    }
+    let mut turns: Vec<Box<dyn FnMut() + '_>> =
+        IMPLEMENTATIONS.iter().map(|&who| turn(who, call, inputs)).collect();
     turns.push(Box::new(|| black_box(&mut copied[..]).copy_from_slice(black_box(term))));
     let mut times = middle_times(turns);
     let time = times.pop().expect("the copy's own");

@@ -719,7 +719,7 @@ static void places(void)
 
         HOLD(kind <= WIGNELD_PLACE_ENTRY && counted[question] == "-gtsew a"[kind]);
         HOLD(kind == WIGNELD_PLACE_EITHER_RECORD || wigneld_place_kind_over(question, NULL, 0, NULL, 0) == kind);
-        HOLD((strcmp(wigneld_asked(question), "no such question") == 0) == (question == 37 || question == 38));
+        HOLD(strcmp(wigneld_asked(question), "no such question") != 0);
     }
     HOLD(strcmp(wigneld_asked(WIGNELD_LAST_QUESTION + 1), "no such question") == 0);
     HOLD(wigneld_place_kind(WIGNELD_LAST_QUESTION + 1) == WIGNELD_PLACE_NOTHING);

@@ -2,8 +2,8 @@
  * The stack that each function needs, held against the headers.
  *
  * For each function, many scripts as deep as a script may be: each kind of record on the way down, and below it what goes
- * deepest, over types as deep as 63 records can be; for the comparison these types themselves. A script is tried in child
- * processes, in a thread with ever less free stack, until the least that it doesn't crash with is known. The header's number is
+ * deepest, over types as deep as 63 records can be; for the comparison these types themselves; for the packet such a script, or such
+ * an entry, or a script that is run as deep. A script is tried in child processes, in a thread with ever less free stack, until the least that it doesn't crash with is known. The header's number is
  * the most of these and a margin. Then each of the scripts is run in a thread with just what the header says, and in one of the
  * size that the header advises.
  */
@@ -18,6 +18,7 @@
 #include <sys/wait.h>
 #include <unistd.h>
 
+#include "wigneld_desk.h"
 #include "wigneld_office.h"
 
 static void fail(const char *what)
@@ -293,19 +294,21 @@ static void sheet_script(struct script *s, enum way way)
 
 enum call {
     CHECK, RUN, SHEET, PREVIEW, MOVE, COMPARE, IN_FORCE, WRITE_CALLERS, REWRITE_SCRIPT, REWRITE_TYPES, CHECK_PROFILE, IMPORT, EXPORT,
-    WRITE_OFFICE_CALLERS, CALLS
+    WRITE_OFFICE_CALLERS, PACKET, CALLS
 };
 
 static const char *const names[CALLS] = { "wigneld_check", "wigneld_run", "wigneld_sheet", "wigneld_preview", "wigneld_move",
                                           "wigneld_compare", "wigneld_in_force", "wigneld_write_callers",
                                           "wigneld_rewrite_script", "wigneld_rewrite_types", "wigneld_check_profile",
-                                          "wigneld_import", "wigneld_export", "wigneld_write_office_callers" };
+                                          "wigneld_import", "wigneld_export", "wigneld_write_office_callers",
+                                          "wigneld_packet" };
 static const size_t promised[CALLS] = { WIGNELD_CHECK_STACK_BYTES, WIGNELD_RUN_STACK_BYTES, WIGNELD_SHEET_STACK_BYTES,
                                         WIGNELD_PREVIEW_STACK_BYTES, WIGNELD_MOVE_STACK_BYTES, WIGNELD_COMPARE_STACK_BYTES,
                                         WIGNELD_IN_FORCE_STACK_BYTES, WIGNELD_WRITE_CALLERS_STACK_BYTES,
                                         WIGNELD_REWRITE_SCRIPT_STACK_BYTES, WIGNELD_REWRITE_TYPES_STACK_BYTES,
                                         WIGNELD_CHECK_PROFILE_STACK_BYTES, WIGNELD_IMPORT_STACK_BYTES,
-                                        WIGNELD_EXPORT_STACK_BYTES, WIGNELD_WRITE_OFFICE_CALLERS_STACK_BYTES };
+                                        WIGNELD_EXPORT_STACK_BYTES, WIGNELD_WRITE_OFFICE_CALLERS_STACK_BYTES,
+                                        WIGNELD_PACKET_STACK_BYTES };
 
 /* No promise up to this is too high: it is less than a caller's own frames are apart. */
 enum { NEXT_TO_NONE = 512 };
@@ -324,6 +327,9 @@ static uint8_t first[WIGNELD_RUN_BYTES], scratch[WIGNELD_RUN_BYTES], steps[WIGNE
 
 /* What a move takes back. */
 static uint64_t shown;
+
+/* What a packet applies its script to. */
+static struct script entry;
 
 static uint64_t preview(const struct script *script)
 {
@@ -390,6 +396,11 @@ __attribute__((noinline)) static void make_call(struct job *job)
         break;
     case WRITE_OFFICE_CALLERS:
         job->answer = wigneld_write_office_callers(types, sizeof types, office_script, office_length);
+        break;
+    case PACKET:
+        job->answer = wigneld_packet(groups, sizeof groups, types, sizeof types, script, length, entry.bytes,
+                                     entry.count * WIGNELD_SCRIPT_RECORD_BYTES, 0, 1000, WIGNELD_PROFILE_NONE, work, sizeof work,
+                                     first, sizeof first, scratch, sizeof scratch, steps, sizeof steps, sheet, sizeof sheet);
         break;
     case CALLS: break;
     }
@@ -516,15 +527,49 @@ static size_t need(enum call call, const struct script *script, size_t known)
     return high;
 }
 
+static int script_of(enum call call, unsigned number, struct script *s);
+
+/* How many scripts a check has. */
+enum { KINDS = WIGNELD_TYPE_FUNCTION - WIGNELD_TYPE_SUM + 1, CHECKED = WAYS * COMPARISONS * KINDS * 2 };
+
+/* A packet's script and entry: a check's script and a unit, a function and a check's script, and at last those that are applied, as deep
+   as an application may be, by the ways down that have a type. */
+static int packet_of(unsigned number, struct script *s)
+{
+    static const enum way typed[] = { OWN_FIRST, PROTECT };
+    unsigned run = number - 2 * CHECKED, of_unit = comb(WIGNELD_TYPE_SUM, 1) + 1;
+
+    memset(&entry, 0, sizeof entry);
+    if (number < CHECKED) {
+        record(&entry, WIGNELD_KIND_UNIT, 0);
+        return script_of(CHECK, number, s);
+    }
+    memset(s, 0, sizeof *s);
+    record(s, WIGNELD_KIND_FUNCTION, of_unit);
+    if (number < 2 * CHECKED) {
+        record(s, WIGNELD_KIND_VARIABLE, 0);
+        return script_of(CHECK, number - CHECKED, &entry);
+    }
+    if (run >= sizeof typed / sizeof typed[0])
+        return 0;
+    record(&entry, WIGNELD_KIND_UNIT, 0);
+    s->depth = 2; /* under the application too */
+    s->binders = 1;
+    descend(s, typed[run], WIGNELD_MOST_DEPTH - 2);
+    record(s, WIGNELD_KIND_PROTECT, 0);
+    outermost(s);
+    pay(s);
+    return 1;
+}
+
 /* The script of this number for a call; 0 where there are no more. */
 static int script_of(enum call call, unsigned number, struct script *s)
 {
-    enum { KINDS = WIGNELD_TYPE_FUNCTION - WIGNELD_TYPE_SUM + 1 };
     static const enum way values[] = { PAIR_FIRST, PAIR_SECOND, FIRST_INJECTION, SECOND_INJECTION, FUNCTION };
 
     switch (call) {
     case CHECK:
-        if (number >= WAYS * COMPARISONS * KINDS * 2)
+        if (number >= CHECKED)
             return 0;
         check_script(s, (enum way)(number % WAYS), (enum comparison)(number / WAYS % COMPARISONS),
                      WIGNELD_TYPE_SUM + number / WAYS / COMPARISONS % KINDS, (int)(number / WAYS / COMPARISONS / KINDS));
@@ -563,6 +608,7 @@ static int script_of(enum call call, unsigned number, struct script *s)
                && wigneld_export(groups, sizeof groups, types, sizeof types, s->bytes, s->count * WIGNELD_SCRIPT_RECORD_BYTES,
                                  office_script, sizeof office_script)
                       == s->count;
+    case PACKET: return packet_of(number, s);
     case CALLS: break;
     }
     return 0;
@@ -601,9 +647,12 @@ static unsigned hold(enum call call)
         in_advised_thread(&job);
         if (answer != job.answer)
             fail("two threads, two answers");
-        /* Refused before anything goes deep, a script tries nothing. */
-        if (wigneld_question(answer) != 0 && (wigneld_question(answer) < 20 || wigneld_question(answer) == 36))
+        /* Refused before anything goes deep, a script tries nothing. Of a packet 18 is the application's, with both types found. */
+        if (wigneld_question(answer) != 0 && (wigneld_question(answer) < 20 || wigneld_question(answer) == 36)
+            && !(call == PACKET && wigneld_question(answer) == 18))
             fail("a script is no whole term of depth 256");
+        if (call == PACKET && number >= 2 * CHECKED && wigneld_run_end(answer) != WIGNELD_END_VALUE)
+            fail("a packet is not issued");
         if ((wigneld_question(answer) == 39) != (call == CHECK_PROFILE && recursions(&s) != 0))
             fail("39 is not asked of recursions alone");
         if (call == MOVE && answer != shown)

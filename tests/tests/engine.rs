@@ -15,7 +15,7 @@ use wigneld_tests::generate::*;
 use wigneld_tests::groups::bit;
 use wigneld_tests::limits::*;
 use wigneld_tests::script::{Side, Term};
-use wigneld_tests::steps::End;
+use wigneld_tests::steps::{step, End};
 use wigneld_tests::strip::ONE_GROUP;
 use wigneld_tests::types::Marks;
 use wigneld_tests::words::read_words;
@@ -553,40 +553,43 @@ fn boundary_sizes() {
     });
 }
 
+/// Over the groups and types of the cases: terms that double or deepen until they are too big.
+fn growing() -> [Rc<Term>; 6] {
+    let variable = |number| Rc::new(Term::Variable(number));
+    let apply = |function, argument| Rc::new(Term::Application(0, function, argument));
+    let function = |body| Rc::new(Term::Function(LOW, 1, body));
+    let pair = |left, right| Rc::new(Term::Pair(LOW, left, right));
+    let recursion = |body| Rc::new(Term::Recursion(0, 3, body));
+    // μf. λx. f <x, x>
+    let doubling =
+        apply(recursion(function(apply(variable(1), pair(variable(0), variable(0))))), unit());
+    // μf. λx. f (first x)
+    let deepening = apply(
+        recursion(function(apply(
+            variable(1),
+            Rc::new(Term::Injection(Side::First, LOW, 0, variable(0))),
+        ))),
+        unit(),
+    );
+    // (λx. x x) (λx. x x), and with a pair around each call.
+    let own = function(apply(variable(0), variable(0)));
+    let omega = apply(own.clone(), own);
+    let wider = function(pair(apply(variable(0), variable(0)), variable(0)));
+    let widening = apply(wider.clone(), wider);
+    // μf. f, and μf. <f, f>: unrolling outside a function.
+    let looping = recursion(variable(0));
+    let split = recursion(pair(variable(0), variable(0)));
+    [doubling, deepening, omega, widening, looping, split]
+}
+
 #[test]
 fn growing_runs() {
-    // Terms that double or deepen until they are too big, each in several buffers.
+    // Each in several buffers.
     comparisons(once, |rng| {
-        let groups = words(&[3, 2]);
-        let types = cases::case_types();
-        let variable = |number| Rc::new(Term::Variable(number));
-        let apply = |function, argument| Rc::new(Term::Application(0, function, argument));
-        let function = |body| Rc::new(Term::Function(LOW, 1, body));
-        let pair = |left, right| Rc::new(Term::Pair(LOW, left, right));
-        let recursion = |body| Rc::new(Term::Recursion(0, 3, body));
-        // μf. λx. f <x, x>
-        let doubling =
-            apply(recursion(function(apply(variable(1), pair(variable(0), variable(0))))), unit());
-        // μf. λx. f (first x)
-        let deepening = apply(
-            recursion(function(apply(
-                variable(1),
-                Rc::new(Term::Injection(Side::First, LOW, 0, variable(0))),
-            ))),
-            unit(),
-        );
-        // (λx. x x) (λx. x x), and with a pair around each call.
-        let own = function(apply(variable(0), variable(0)));
-        let omega = apply(own.clone(), own);
-        let wider = function(pair(apply(variable(0), variable(0)), variable(0)));
-        let widening = apply(wider.clone(), wider);
-        // μf. f, and μf. <f, f>: unrolling outside a function.
-        let looping = recursion(variable(0));
-        let split = recursion(pair(variable(0), variable(0)));
+        let world = World::of(cases::two_groups(), cases::case_types());
         let mut made = 0;
-        for term in [doubling, deepening, omega, widening, looping, split] {
-            let inputs =
-                Inputs { groups: groups.clone(), types: types.clone(), script: term.write() };
+        for term in growing() {
+            let inputs = inputs_of(&world, &term);
             for budget in [0, 1, 2, 3, 10, 100, 1000] {
                 for room in [inputs.script.len(), 300, 3000, REPORT_RUN_BYTES, 80_000] {
                     let (first, scratch) = (room.max(inputs.script.len()), 80_000);
@@ -598,6 +601,103 @@ fn growing_runs() {
             made += compare_all(rng, &inputs);
         }
         made
+    });
+}
+
+/// A script that passes 2 to 19, of any of the kinds that are run here.
+fn script_to_run(rng: &mut Rng) -> (World, Rc<Term>) {
+    let world = World::random(rng);
+    let fuel = rng.below(100);
+    let term = match rng.below(20) {
+        0 => {
+            let grown = World::of(cases::two_groups(), cases::case_types());
+            return (grown, rng.pick(&growing()).clone());
+        }
+        1 => deep(rng.between(MOST_DEPTH - 8, MOST_DEPTH)),
+        2 | 3 => {
+            // Its last level may be one deeper.
+            let depth = rng.between(MOST_DEPTH - 9, MOST_DEPTH - 1);
+            deep_script(rng, &world.tables, depth)
+        }
+        4 if rng.one_in(4) => large_typed_script(rng, &world.tables, 2000),
+        5..=9 => untyped_script(rng, &world.tables, fuel),
+        _ => typed(rng, &world),
+    };
+    (world, term)
+}
+
+/// The steps of a script in the largest buffers.
+struct Way {
+    steps: u64,
+    /// No more steps would move.
+    ended: bool,
+    /// Bytes of the longest term on the way.
+    longest: usize,
+}
+
+fn way(world: &World, script: &Rc<Term>, budget: u64) -> Way {
+    let mut term = script.clone();
+    let mut own = Way { steps: 0, ended: false, longest: term.size() * SCRIPT_BYTES };
+    while own.steps < budget && !own.ended {
+        let (end, next) = step(&world.tables, &term, MOST_SCRIPT_RECORDS);
+        own.ended = end != End::Moved;
+        own.steps += u64::from(!own.ended);
+        own.longest = own.longest.max(next.size() * SCRIPT_BYTES);
+        term = next;
+    }
+    own
+}
+
+/// A buffer's length: mostly one that the script or the longest term on the way only just has room in, or just hasn't.
+fn run_length(rng: &mut Rng, script: usize, longest: usize) -> usize {
+    match rng.below(8) {
+        0 => near(rng, script),
+        1 | 2 => near(rng, longest),
+        3 => script + rng.below(2 * SCRIPT_BYTES),
+        4 => rng.between(script, longest),
+        5 => REPORT_RUN_BYTES + rng.below(20),
+        _ => longest + rng.below(3000),
+    }
+}
+
+/// None, few, just as many steps as there are, one less or more, and, where a run ends by itself, any number.
+fn run_budget(rng: &mut Rng, way: &Way) -> u64 {
+    match rng.below(8) {
+        0 => 0,
+        1 => rng.below(10) as u64,
+        2 => way.steps,
+        3 => way.steps.saturating_sub(1),
+        4 => way.steps + 1,
+        5 if way.ended => u64::MAX - rng.below(2) as u64,
+        6 if way.ended => rng.word(),
+        _ => rng.below(way.steps as usize + 1) as u64,
+    }
+}
+
+#[test]
+fn drawn_runs_in_drawn_buffers() {
+    const RUNS: usize = 4;
+    with_large_stack(|| {
+        let (mut ends, mut refused) = ([0; 5], 0);
+        let enough = examples(1000, |rng| {
+            let (world, term) = script_to_run(rng);
+            let inputs = inputs_of(&world, &term);
+            let way = way(&world, &term, 300);
+            for _ in 0..RUNS {
+                let budget = run_budget(rng, &way);
+                let lengths = [(); 2].map(|_| run_length(rng, inputs.script.len(), way.longest));
+                let [first, scratch] = lengths.map(|length| rng.bytes(length));
+                match run_with(&inputs, budget, first, scratch).0 {
+                    Ok(report) => ends[report.end as usize] += 1,
+                    Err(refusal) => {
+                        assert_eq!(refusal.question, 13, "only a buffer is too short");
+                        refused += 1;
+                    }
+                }
+            }
+        });
+        let all = refused > 0 && ends.iter().all(|&count| count > 0);
+        assert!(!enough || all, "all five ends and refusals: {ends:?}, {refused}");
     });
 }
 

@@ -1,10 +1,14 @@
-//! The example folders: what the report prints in each, whole.
+//! The example folders: what the report prints in each, whole, and the loan desk's packets.
 
 use std::fs;
 use std::path::{Path, PathBuf};
-use wigneld_tests::limits::SCRIPT_BYTES;
+use wigneld_tests::limits::{
+    REPORT_RUN_BYTES, REPORT_SHEET_BYTES, SCRIPT_BYTES, SHEET_BYTES, WORK_BYTES,
+};
 use wigneld_tests::office::{import, write_office_callers};
+use wigneld_tests::packet::{packet, Lent, Request};
 use wigneld_tests::report::report;
+use wigneld_tests::steps::End;
 
 fn path(name: &str, file: &str) -> PathBuf {
     Path::new(env!("CARGO_MANIFEST_DIR")).join("../examples").join(name).join(file)
@@ -134,6 +138,56 @@ fn old_panel() {
     // Without that it is anyone, who may not call it.
     assert_eq!(import(&groups, &types, &office, &mut script), Ok((length / SCRIPT_BYTES) as u32));
     assert_eq!(printed(name, &script[..length]), "refused 21 at 6\n");
+}
+
+/// The lines of a packet for this group that `packet.c` prints, but for a refusal's words.
+fn packet_lines(name: &str, group: u64, budget: u64, entry: &str) -> Result<String, u32> {
+    let (script, entry) = (read(name, "script"), read(name, entry));
+    let request = Request { script, entry, group, budget, profile: 0 };
+    let (mut work, mut sheet) = (vec![0; WORK_BYTES], vec![0; REPORT_SHEET_BYTES]);
+    let (mut first, mut scratch) = (vec![0; REPORT_RUN_BYTES], vec![0; REPORT_RUN_BYTES]);
+    let lent =
+        Lent { work: &mut work, first: &mut first, scratch: &mut scratch, sheet: &mut sheet };
+    let issued = packet(&read(name, "groups"), &read(name, "types"), &request, lent)
+        .map_err(|refusal| refusal.question)?;
+    if issued.end != End::Value {
+        assert_eq!(issued.end, End::Moved);
+        return Ok(format!(
+            "end 1, the budget is spent, after {} steps\nno packet; the last term has {} records\n",
+            issued.steps, issued.records
+        ));
+    }
+    let mut lines =
+        format!("end 0, a value, after {} steps\nthe packet for group {group}:\n", issued.steps);
+    for record in sheet.chunks(SHEET_BYTES).take(issued.records as usize) {
+        let groups = format!(" ({},{})", record[1], record[2]);
+        lines += &match record[0] {
+            0 => format!("  unit{groups}\n"),
+            1 => format!("  first{groups}\n"),
+            2 => format!("  second{groups}\n"),
+            3 => format!("  pair{groups}\n"),
+            5 => "  closed\n".to_owned(),
+            6 => format!("  number {}{groups}\n", u16::from_le_bytes([record[4], record[5]])),
+            kind => panic!("no page here has kind {kind}"),
+        };
+    }
+    Ok(lines)
+}
+
+#[test]
+fn loan_desk() {
+    let name = "loan-desk";
+    prints_expected(name);
+    let stored = |file: &str| String::from_utf8(read(name, file)).expect("plain text");
+    let lines = |group, budget, entry: &str| packet_lines(name, group, budget, entry);
+    assert_eq!(lines(2, 1000, "entry"), Ok(stored("packet")));
+    assert_eq!(lines(2, 10, "entry"), Ok(stored("packet-spent")));
+    assert_eq!(lines(2, 1000, "bench-entry"), Err(38));
+    assert!(stored("packet-refused").starts_with("refused 38 at 0: "));
+    // The registrar's packet has the bench's remark too; the bench and anyone may not have one made, and there is no group 4.
+    let registrars = lines(3, 1000, "entry").expect("a packet");
+    assert!(registrars.ends_with("  second (1,1)\n  unit (1,1)\n"));
+    assert_eq!([0, 1, 4].map(|group| lines(group, 1000, "entry")), [Err(21), Err(21), Err(25)]);
 }
 
 #[test]

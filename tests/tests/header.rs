@@ -1,6 +1,7 @@
-//! `include/wigneld.h` and `include/wigneld_office.h`: every constant is the engine's, by its Rattle sources, and the second
-//! implementation's; every prototype is that of an exported function, and none is missing. The stack's numbers are held by
-//! `c/stack.c`, the readers of answers by `c/client.c` and `c/office.c`, which holds the comparison's numbers too.
+//! `include/wigneld.h`, `include/wigneld_office.h` and `include/wigneld_desk.h`: every constant is the engine's, by its Rattle
+//! sources, and the second implementation's; every prototype is that of an exported function, and none is missing. The stack's
+//! numbers are held by `c/stack.c`, the readers of answers by `c/client.c`, `c/office.c`, which holds the comparison's numbers
+//! too, and `c/desk.c`, which holds the profiles'.
 
 use std::collections::BTreeMap;
 use std::fs;
@@ -277,6 +278,9 @@ const OFFICE_OTHERS: [&str; 13] = [
     "COMPARE_REFUSED",
 ];
 
+/// The desk's, which are held elsewhere.
+const DESK_OTHERS: [&str; 3] = ["PACKET_STACK_BYTES", "PROFILE_NONE", "PROFILE_FINISHES"];
+
 /// The widths of a row and of type, script and sheet records in each record format, from 1 on. In the second a recursion has a group
 /// in byte 1, in the third types and scripts have creators, in the fourth sheets tell numbers.
 const FORMATS: [[usize; 4]; 4] = [[4, 4, 6, 4], [4, 4, 6, 4], [4, 6, 8, 4], [4, 6, 8, 6]];
@@ -317,6 +321,7 @@ fn every_constant_is_the_engines() {
     holds_all("wigneld", &all, &OTHERS);
     let offices = [owned(&LISTS), owned(&OLD_WIDTHS), owned(&OFFICE)].concat();
     holds_all("wigneld_office", &offices, &OFFICE_OTHERS);
+    holds_all("wigneld_desk", &[], &DESK_OTHERS);
 }
 
 #[test]
@@ -419,7 +424,7 @@ fn exports(archive: &str) -> BTreeMap<String, String> {
 
 #[test]
 fn every_prototype_is_an_exported_functions() {
-    for archive in ["wigneld", "wigneld_office"] {
+    for archive in ["wigneld", "wigneld_office", "wigneld_desk"] {
         assert!(!prototypes(archive).is_empty());
         assert_eq!(prototypes(archive), exports(archive));
     }

@@ -1,5 +1,5 @@
 -- What a plan's contractum is: counted, and as bytes.
-use Rattle.std.proofs.Common.{◌≡◌, refl, sym, ap, ◌∙◌, cond, true, false, Bool, [], ◌++◌, ℕ, suc, ◌+◌, ◌-◌, ◌*◌, ◌≤◌, ◌<◌, arith, length, take, drop, length-drop, take_all, drop_at}
+use Rattle.std.proofs.Common.{◌≡◌, refl, sym, ap, ◌∙◌, cond, true, false, Bool, [], ◌++◌, ℕ, suc, ◌+◌, ◌*◌, ◌≤◌, ◌<◌, arith, drop, drop_at}
 use Rattle.std.proofs.Math.Bool.{So}
 use Rattle.std.proofs.lemmas.Bool.{false≢true}
 use Rattle.std.proofs.Common.{subst as transport}
@@ -199,11 +199,9 @@ pub few : (v b : Term) → size v ≤ value_limit → size b ≤ script_limit �
 few v b l h = omega (arith, subst_bound v l b 0)
 
 -- a term's bytes after its own record are those of its operands
-operand_bytes : (e : Term) → take (length (encode e) - script_width) (drop script_width (encode e)) ≡ joined encode (term_operands e)
+operand_bytes : (e : Term) → drop script_width (encode e) ≡ joined encode (term_operands e)
 operand_bytes e =
-    take_all (length (encode e) - script_width) (drop script_width (encode e)) (simp length-drop (omega arith))
-    ∙ ap (drop script_width) (term_encode_is e)
-    ∙ drop_at (term_head e) (joined encode (term_operands e)) script_width (term_head_length e)
+    ap (drop script_width) (term_encode_is e) ∙ drop_at (term_head e) (joined encode (term_operands e)) script_width (term_head_length e)
 
 -- a raised value: its own record with other groups, and its operands as they are
 raised_bytes : (S : Security) (v : Term) (m : Indirect) → So (is_value v)
@@ -224,10 +222,9 @@ raised_bytes S (literal k n) m h = rw (two_bytes n) (sym (term_encode_is (litera
 raised_bytes S (reckon o w a b) m h = absurd (false≢true h)
 
 -- as the code puts it together
-pub raised_from : (S : Security) (v : Term) (m : Indirect) → So (is_value v) → {k n : ℕ} {p : Property} {own bytes : Bytes} → own ≡ object_record k p n → k ≡ kind_of v
-    → p ≡ S.raise (property_of v) m → n ≡ number_of v → bytes ≡ encode v
-    → own ++ take (length bytes - script_width) (drop script_width bytes) ≡ encode (raise_value S v m)
-raised_from S v m h o k p n b = rw (o, b, k, p, n, operand_bytes v) (raised_bytes S v m h)
+pub raised_from : (S : Security) (v : Term) (m : Indirect) → So (is_value v) → {k n : ℕ} {p : Property} {own : Bytes} → own ≡ object_record k p n → k ≡ kind_of v
+    → p ≡ S.raise (property_of v) m → n ≡ number_of v → encode (raise_value S v m) ≡ own ++ drop script_width (encode v)
+raised_from S v m h o k p n = rw (o, k, p, n, operand_bytes v) (sym (raised_bytes S v m h))
 
 -- the unrolled function: two records, the recursion, a variable
 pub rolled_bytes : (g : Bytes) (w : Reader) (i : ℕ) (k : Property) (b : Term)

@@ -2,11 +2,13 @@
 
 #![tactic(auto)]
 
-ghost use Rattle.std.specs.Prelude.{◌≡◌, cond, ℕ, ◌+◌, ◌^◌, ◌<◌};
+ghost use Rattle.std.specs.Prelude.{◌≡◌, cond, ◌++◌, ℕ, ◌+◌, ◌^◌, ◌<◌, drop};
+ghost use Rattle.std.proofs.Math.Bool.{So};
 ghost use Rattle.calculus.specs.Security.{Security};
 ghost use Rattle.calculus.specs.Types.{Ty, top};
-ghost use Rattle.calculus.specs.Terms.{Term, protect, mu, literal, reckon, subst, raise_value};
+ghost use Rattle.calculus.specs.Terms.{Term, protect, mu, literal, reckon, is_value, subst, raise_value};
 ghost use Rattle.calculus.specs.Reduction.{unrolled};
+ghost use Rattle.rules.specs.Limits.{script_width};
 ghost use Rattle.rules.specs.Groups.{properties_of};
 ghost use Rattle.rules.specs.Types.{type_at};
 ghost use Rattle.rules.specs.Script.{records as record_count, encode};
@@ -159,9 +161,9 @@ fn only_reader(r: Reader) -> Property
 }
 
 // The protect that a step leaves: what the destructor at record `at` leaves on its result when it reads the object after it.
-fn write_protect(groups: &[u8], script: &[u8], at: usize, out: &mut Writer)
-    requires { (at + 1 < record_count script.now) × Room (protect_record (protection groups.now script.now at)) out.old }
-    ensures { Written (protect_record (protection groups.now script.now at)) out.old out.new }
+pub fn protect_record(groups: &[u8], script: &[u8], at: usize) -> [u8; SCRIPT_WIDTH]
+    requires { at + 1 < record_count script.now }
+    ensures { result ≡ protect_record (protection groups.now script.now at) }
 {
     let read = records::property(script, at + 1);
     let left = read.influence(groups, records::reader(script, at));
@@ -171,7 +173,15 @@ fn write_protect(groups: &[u8], script: &[u8], at: usize, out: &mut Writer)
         c: Creator(0),
         ic: left.ic,
     };
-    out.put(&records::record(Kind::Protect, property, 0));
+    records::record(Kind::Protect, property, 0)
+}
+
+// That protect, written.
+fn write_protect(groups: &[u8], script: &[u8], at: usize, out: &mut Writer)
+    requires { (at + 1 < record_count script.now) × Room (protect_record (protection groups.now script.now at)) out.old }
+    ensures { Written (protect_record (protection groups.now script.now at)) out.old out.new }
+{
+    out.put(&protect_record(groups, script, at));
 }
 
 // A protected part of what the destructor at record `at` takes apart.
@@ -197,6 +207,20 @@ fn write_body(groups: &[u8], script: &[u8], at: usize, body: usize, value: usize
     substitution::write(script, body, &[], operand, &[], 0, out);
 }
 
+// The own record of the value at record `at` + 1, raised by the protect at record `at`.
+pub fn raised_record(groups: &[u8], script: &[u8], at: usize) -> [u8; SCRIPT_WIDTH]
+    requires { Here script.now (at + 1) }
+    ensures { (v : Term) → At script.now (at + 1) v → So (is_value v)
+        → encode (raise_value (properties_of groups.now) v (influence_at script.now at)) ≡ result ++ drop script_width (encode v) }
+{
+    let x = at + 1;
+    let by = records::influence(script, at);
+    let raised = records::property(script, x).raised(groups, by);
+    let kind = records::kind_of(script, x);
+    let number = records::number(script, x);
+    records::record(kind, raised, number)
+}
+
 // The value at record `at` + 1, raised by the protect at record `at`: the groups of its own record, and none deeper.
 fn write_raised(groups: &[u8], script: &[u8], at: usize, out: &mut Writer)
     requires { RaisedRoom groups.now script.now at out.old }
@@ -205,13 +229,8 @@ fn write_raised(groups: &[u8], script: &[u8], at: usize, out: &mut Writer)
         (encode (raise_value (properties_of groups.now) q.value (influence_at script.now at)))
         out.old out.new }
 {
-    let x = at + 1;
-    let by = records::influence(script, at);
-    let raised = records::property(script, x).raised(groups, by);
-    let kind = records::kind_of(script, x);
-    let number = records::number(script, x);
-    let value = term_bytes(script, x);
-    out.put(&records::record(kind, raised, number));
+    let value = term_bytes(script, at + 1);
+    out.put(&raised_record(groups, script, at));
     out.put(&value[SCRIPT_WIDTH..]);
 }
 

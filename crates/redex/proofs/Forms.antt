@@ -133,15 +133,22 @@ reckoned_form P (mu w i e) h p = absurd (false≢true h)
 reckoned_form P (literal k n) h p = absurd (false≢true h)
 reckoned_form P (reckon o w a b) h p = p o w a b
 
+-- which has two operands
+pub reckoned_operands : (e : Term) → So (is_reckoning (kind_of e)) → 2 ≤ operands e
+reckoned_operands e h = reckoned_form (λ x. 2 ≤ operands x) e h (λ o w a b. omega arith)
+
 -- nodes whose own turn it is, and their fate
 pub variable_turn : (S : Security) (tab : ℕ → Ty) (e : Term) → kind_of e ≡ kinds.variable → So (ready e) × (fate S tab e ≡ wrong_kind)
 unfolding ready fate
 variable_turn S tab e h = by_kind (λ x. So (ready x) × (fate S tab x ≡ wrong_kind)) kinds.variable e h (refl, refl)
 
-pub protect_turn : (S : Security) (tab : ℕ → Ty) (e : Term) → kind_of e ≡ kinds.protect → So (is_value (first_operand e)) → So (ready e) × (fate S tab e ≡ goes)
-unfolding ready fate
-protect_turn S tab e h =
-    by_kind (λ x. So (is_value (first_operand x)) → So (ready x) × (fate S tab x ≡ goes)) kinds.protect e h (λ v. (v, refl))
+pub protect_goes : (S : Security) (tab : ℕ → Ty) (e : Term) → kind_of e ≡ kinds.protect → fate S tab e ≡ goes
+unfolding fate
+protect_goes S tab e h = by_kind (λ x. fate S tab x ≡ goes) kinds.protect e h refl
+
+pub protect_turn : (e : Term) → kind_of e ≡ kinds.protect → So (is_value (first_operand e)) → So (ready e)
+unfolding ready
+protect_turn e h = by_kind (λ x. So (is_value (first_operand x)) → So (ready x)) kinds.protect e h (λ v. v)
 
 pub recursion_turn : (S : Security) (tab : ℕ → Ty) (e : Term) → kind_of e ≡ kinds.recursion
     → So (ready e) × (fate S tab e ≡ cond (is_function (tab (number_of e))) goes wrong_kind)
@@ -149,6 +156,26 @@ unfolding ready fate
 recursion_turn S tab e h =
     by_kind (λ x. So (ready x) × (fate S tab x ≡ cond (is_function (tab (number_of x))) goes wrong_kind)) kinds.recursion e h
     (refl, rw (two_bytes (number_of e)))
+
+-- the only node whose turn it is by no other kind
+pub variable_left : (e : Term) → So (ready e) → (kind_of e ≡ kinds.protect → ⊥) → (kind_of e ≡ kinds.recursion → ⊥) → (kind_of e ≡ kinds.sum → ⊥)
+    → (kind_of e ≡ kinds.less → ⊥) → (kind_of e ≡ kinds.application → ⊥) → (kind_of e ≡ kinds.first_projection → ⊥)
+    → (kind_of e ≡ kinds.second_projection → ⊥) → (kind_of e ≡ kinds.case → ⊥) → kind_of e ≡ kinds.variable
+unfolding ready
+variable_left (var n) h m r s l a p q c = refl
+variable_left (unit k) h m r s l a p q c = absurd (false≢true h)
+variable_left (lam k i e) h m r s l a p q c = absurd (false≢true h)
+variable_left (pair k e f) h m r s l a p q c = absurd (false≢true h)
+variable_left (inj d k i e) h m r s l a p q c = absurd (false≢true h)
+variable_left (app w f e) h m r s l a p q c = absurd (a refl)
+variable_left (proj first w e) h m r s l a p q c = absurd (p refl)
+variable_left (proj second w e) h m r s l a p q c = absurd (q refl)
+variable_left (case w i e f g) h m r s l a p q c = absurd (c refl)
+variable_left (protect i e) h m r s l a p q c = absurd (m refl)
+variable_left (mu w i e) h m r s l a p q c = absurd (r refl)
+variable_left (literal k n) h m r s l a p q c = absurd (false≢true h)
+variable_left (reckon plus w e f) h m r s l a p q c = absurd (s refl)
+variable_left (reckon (less i) w e f) h m r s l a p q c = absurd (l refl)
 
 pub application_turn : (e : Term) → kind_of e ≡ kinds.application → So (is_value (first_operand e)) → So (is_value (second_operand e)) → So (ready e)
 unfolding ready

@@ -70,6 +70,12 @@ pub record Reckoning (s : Bytes) (i j : ℕ) : Type 0 where
   pub tree : Term
   pub stands : Reckons s i j tree
 
+-- a node whose turn it is stands at record i
+pub record Turning (s : Bytes) (i : ℕ) : Type 0 where
+  pub tree : Term
+  pub stands : At s i tree
+  pub turn : So (ready tree)
+
 -- Does a destructor of this kind take apart a value of that kind: an application a function, a projection a pair, a case an injection?
 abbrev pub takes_apart : ℕ → ℕ → Bool
 takes_apart destructor value =

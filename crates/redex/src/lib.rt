@@ -13,8 +13,8 @@ ghost use Rattle.rules.specs.Script.{records, kind, r};
 ghost use Rattle.records.specs.Kinds as kinds;
 ghost use Rattle.records.specs.Numbers.{kind_number};
 ghost use Rattle.records.specs.Place.{At, Here};
-ghost use Rattle.redex.specs.Fates.{is_function, reading_fate, fate};
-ghost use Rattle.redex.specs.Found.{Shallow, Finds, answer, is_destructor, takes_apart, Reckons, Reckoning};
+ghost use Rattle.redex.specs.Fates.{is_function, ready, reading_fate, fate};
+ghost use Rattle.redex.specs.Found.{Shallow, Finds, answer, is_destructor, takes_apart, Reckons, Reckoning, Turning};
 
 use lattice::Group;
 use records::Kind;
@@ -131,6 +131,29 @@ fn unrolling(types: &[u8], script: &[u8], at: usize, depth: usize) -> Found
     Found::Redex {
         place: at,
         around: depth,
+    }
+}
+
+// The answer of the node at record `at`, whose turn it is: its evaluated operands are values.
+pub fn turn(groups: &[u8], types: &[u8], script: &[u8], at: usize, depth: usize) -> Found
+    requires { Turning script.now at }
+    ensures { (e : Term) → At script.now at e → So (ready e)
+        → result ≡ answer (fate (properties_of groups.now) (type_at types.now) e) at depth }
+{
+    match records::kind_of(script, at) {
+        Kind::Protect => Found::Redex {
+            place: at,
+            around: depth,
+        },
+        Kind::Recursion => unrolling(types, script, at, depth),
+        Kind::Sum | Kind::Less => {
+            let second = records::end_of(script, at + 1);
+            reckoning(groups, script, at, second, depth)
+        }
+        Kind::Application | Kind::FirstProjection | Kind::SecondProjection | Kind::Case => {
+            reading(groups, script, at, depth)
+        }
+        _ => Found::Stuck,
     }
 }
 

@@ -63,7 +63,7 @@ struct NextStep {
 }
 
 // Too big: more than 8,192 records, more than the room that is lent divided by 8, or depth over 256.
-fn exceeds(room: usize, records: usize, depth: usize) -> bool
+pub fn exceeds(room: usize, records: usize, depth: usize) -> bool
     ensures { result ≡ (ltb script_limit records || (ltb (room / script_width) records || ltb depth_limit depth)) }
 {
     (script::SCRIPT_LIMIT < records)

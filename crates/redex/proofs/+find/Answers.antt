@@ -12,7 +12,7 @@ use Rattle.records.proofs.Weights.{weights, stands_weight}
 use Rattle.records.proofs.Stands.{kind_of, there, stands_kind, here}
 use Rattle.redex.specs.Found.{finds_value, is_destructor}
 use Rattle.redex.proofs.Forms.{Second, alone_value, function_value, pair_value, injection_value}
-use Rattle.redex.proofs.Forms.{variable_turn, recursion_turn, protect_turn, application_turn, reckoning_turn, destructor_turn, application_reads, one_reads}
+use Rattle.redex.proofs.Forms.{variable_turn, recursion_turn, protect_turn, protect_goes, application_turn, reckoning_turn, destructor_turn, application_reads, one_reads}
 use Rattle.redex.proofs.Searches.{position_shallow, lift, fired}
 use Rattle.redex.proofs.Stages.{kind_read, alone_read, Opened, opened, is_kind, injects, reads_one, reckons, first_at, first_of, FirstValue, first_value, second_of, second_at, applies, reckoning_at, value_found}
 use Rattle.records.specs.Numbers.{kind_number}
@@ -101,8 +101,8 @@ returns-in-Protect t c e a =
     let tab = type_at c.args.types.now in
     let r = goal.at.returns-in-Protect t c in
     let f = first_is t r.In-Value (evaluating t r.In_default a) in
-    let v = protect_turn S tab e (is_kind f.own c.in-Protect.is) f.value in
-    fired S tab _ _ e v.0 (rw v.1)
+    let k = is_kind f.own c.in-Protect.is in
+    fired S tab _ _ e (protect_turn e k f.value) (rw (protect_goes S tab e k))
 
 pub reading-requires : goal.reading-requires
 reading-requires t c =
