@@ -6,13 +6,12 @@ use Rattle.rules.specs.Limits.{type_width, script_width, old_type_width, old_scr
 use Rattle.rules.specs.Groups.{rows, properties_of}
 use Rattle.rules.specs.Types.{type_at, q8, q8_of}
 use Rattle.rules.specs.Comparison.{Comparison, same, below, neither}
-use Rattle.rules.specs.Script.{records, term, size, q13, q13_of}
+use Rattle.rules.specs.Script.{records, term, size, q13_of}
 use Rattle.rules.specs.Step.{End, at_value, moves, may_not, wrong_kind, too_big, end_number, end_count, step_in}
-use Rattle.rules.proofs.ScriptLength.{q13_fitting}
 use Rattle.rules.specs.Typing.{typing}
 use Rattle.rules.specs.Sheet.{sheet}
 use Rattle.rules.specs.Run.{Ran}
-use Rattle.rules.specs.Calls.{q1, q25, q26, q27, groups_check, types_check, own_check, script_check, checking, type_records, stepping, step_report, running, run_report, sheeting, sheet_records}
+use Rattle.rules.specs.Calls.{q1, q25, q26, q27, groups_check, types_check, script_check, checking, type_records, stepping, step_report, running, run_report, sheeting, sheet_records}
 use Rattle.rules.specs.Profile.{q39, profile_checking}
 use Rattle.rules.specs.Office.{importing, exporting}
 use Rattle.rules.proofs.Office.{q28_measured}
@@ -104,12 +103,12 @@ types_rewritten g t b room e =
     subst (λ (x : Bytes). length x / type_width ≤ table_limit) (accepted_inj e27) few
 
 pub script_rewritten : (g t s b : Bytes) (room : ℕ) → rewriting_script g t s room ≡ accepted b → length b / script_width ≤ script_limit
-unfolding rewriting_script old_script_check own_check script_check
+unfolding rewriting_script old_script_check
 script_rewritten g t s b room e =
     let e1 = and_then (old_script_check g t s) _ e in
     let e27 = (and_then (q27 (widen_script s) room) _ e1.1).1 in
     let e13 = (and_then (q13_of old_script_width [] s) _ (and_then (old_types_check g t) _ e1.0).1).1 in
-    let few = (q13_fitting [] (widen_script s) (and_then (q13 [] (widen_script s)) _ (and_then (types_check g (widen_types t)) _ e13).1).0).limited in
+    let few = script_records [] g (widen_types t) (widen_script s) e13 in
     subst (λ (x : Bytes). length x / script_width ≤ script_limit) (accepted_inj e27) few
 
 rewritten_holds : (width : ℕ) (a : Answer Bytes) → Bounded a → ((b : Bytes) → a ≡ accepted b → length b / width ≤ script_limit) → Holds (rewritten_records width a)
