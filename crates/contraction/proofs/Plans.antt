@@ -8,6 +8,7 @@ use Rattle.calculus.specs.Types.{Ty, top}
 use Rattle.calculus.specs.Terms.{first, second, Operation, plus, less, Term, var, unit, lam, pair, inj, app, proj, case, protect, mu, literal, reckon, is_value, subst, raise_value}
 use Rattle.calculus.specs.Numbers.{Literal, literal_of, of_both, side, reckoned}
 use Rattle.calculus.specs.Reduction.{unrolled}
+use Rattle.calculus.proofs.Booleans.{and_left, and_right}
 use Rattle.rules.specs.Answer.{Bytes}
 use Rattle.rules.specs.Limits.{script_width, script_limit}
 use Rattle.rules.specs.Groups.{properties_of}
@@ -24,7 +25,7 @@ use Rattle.records.specs.Numbers.{kind_number}
 use Rattle.records.specs.declared.Kind.{Kind}
 use Rattle.records.specs.declared.Kind.TheVariants.{Sum}
 use Rattle.redex.proofs.Stages.{kind_read}
-use Rattle.redex.specs.Fates.{only_reader, property_of, is_function, goes, wrong_kind, fate, contractum}
+use Rattle.redex.specs.Fates.{only_reader, property_of, is_function, goes, wrong_kind, ready, fate, contractum}
 use Rattle.records.proofs.Made.{number_of, number_at, influence_of}
 use Rattle.types.specs.Held.{type_property}
 use Rattle.redex.proofs.Answers.{function_top}
@@ -41,20 +42,38 @@ use Rattle.contraction.specs.Plans.{Planned, applied, projected, branched, lifte
 abbrev pub protection_of : Security → Term → Indirect
 protection_of S e = S.influence (property_of (first_operand e)) (property_of e).r
 
+-- What is projected is a component, and its protect takes no more room than the projection.
 pub record PartPlan (s : Bytes) (e : Term) (x : ℕ) : Type 0 where
   pub part : Term
   pub stands : At s x part
-  pub small : size part ≤ size e
-  pub shallow : depth part ≤ depth e
+  pub small : size part + 1 ≤ size e
+  pub shallow : depth part + 1 ≤ depth e
+  pub value : So (ready e) → So (is_value part)
   pub operand : 1 ≤ operands e
   pub is : (S : Security) (tab : ℕ → Ty) → contractum S tab e ≡ protect (protection_of S e) part
 
 pub part_plan : {s : Bytes} {e : Term} {x : ℕ} → Planned s e (Part x) → PartPlan s e x
-unfolding contractum size depth
+unfolding contractum size depth ready is_value
 part_plan (projected {d = first} {a = a} h) =
-    record { part = a; stands = h; small = omega arith; shallow = omega arith; operand = omega arith; is = λ S tab. refl }
-part_plan (projected {d = second} {b = b} h) =
-    record { part = b; stands = h; small = omega arith; shallow = omega arith; operand = omega arith; is = λ S tab. refl }
+    record {
+      part = a;
+      stands = h;
+      small = omega arith;
+      shallow = omega arith;
+      value = λ r. and_left _ _ r;
+      operand = omega arith;
+      is = λ S tab. refl;
+    }
+part_plan (projected {d = second} {a = a} {b = b} h) =
+    record {
+      part = b;
+      stands = h;
+      small = omega arith;
+      shallow = omega arith;
+      value = λ r. and_right (is_value a) _ r;
+      operand = omega arith;
+      is = λ S tab. refl;
+    }
 
 pub record BodyPlan (s : Bytes) (e : Term) (x y : ℕ) : Type 0 where
   pub body : Term
@@ -110,7 +129,7 @@ pub record LiftPlan (s : Bytes) (at : ℕ) (e : Term) : Type 0 where
   pub value : Term
   pub stands : At s (at + 1) value
   pub is_one : So (is_value value)
-  pub small : size value ≤ size e
+  pub small : size e ≡ 1 + size value
   pub shallow : depth value ≤ depth e
   pub is : (S : Security) (tab : ℕ → Ty) → contractum S tab e ≡ raise_value S value (influence_of e)
 
@@ -121,7 +140,7 @@ lift_plan {s} {at} a (lifted {v = v} h) =
       value = v;
       stands = at_first s at _ a (omega arith);
       is_one = h;
-      small = omega arith;
+      small = refl;
       shallow = omega arith;
       is = λ S tab. refl;
     }
