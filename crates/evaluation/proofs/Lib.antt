@@ -1,3 +1,4 @@
 pub mod Buffers
-pub mod Runs
+pub mod Rooms
+pub mod Gathered
 pub mod Answers

@@ -1,5 +1,5 @@
 -- A run: what it is given, and what it reports.
-use Rattle.std.specs.Prelude.{◌≡◌, ℕ, ◌*◌, ◌≤◌, take, Option, None, Some, Result, Ok, Err, MatchResult}
+use Rattle.std.specs.Prelude.{◌≡◌, ℕ, ◌*◌, ◌≤◌, take, Some, Result, Ok, Err, MatchResult}
 use Rattle.calculus.specs.Types.{Ty}
 use Rattle.calculus.specs.Terms.{Term}
 use Rattle.rules.specs.Answer.{Bytes, Answer, accepted, refused}
@@ -8,10 +8,9 @@ use Rattle.rules.specs.Script.{encode, term, size}
 use Rattle.rules.specs.Run.{Ran}
 use Rattle.rules.specs.Calls.{Report, run_report, first_after, scratch_after}
 use Rattle.demands.specs.Demands.{Demand3}
-use Rattle.redex.specs.declared.Found.{Found}
-use Rattle.redex.specs.declared.Found.TheVariants as found
+use Rattle.refocusing.specs.declared.Point.{Point}
+use Rattle.refocusing.specs.declared.Ended.{Ended}
 use Rattle.evaluation.specs.declared.Halt.{Halt}
-use Rattle.reduction.specs.declared.Stop.{Stop}
 use Rattle.reduction.specs.declared.Stop.TheVariants.{Value}
 use Rattle.reduction.specs.Steps.{Startable, end_number}
 use Rattle.answer.specs.Numbers.{number}
@@ -26,12 +25,10 @@ pub record Loaded (g t a : Bytes) (n room : ℕ) : Type 0 where
   pub start : Startable g t (take (script_width * n) a)
   pub fits : script_width * n ≤ room
 
--- the end of a run at its budget
-abbrev pub spent_on : Found → Option Stop
-spent_on (found.Value end) = Some Value
-spent_on (found.Redex place around) = None
-spent_on found.Denied = None
-spent_on found.Stuck = None
+-- the end of a run of a whole term, which settles to a value or has ended before
+abbrev pub end_of : Result Point Ended → Ended
+end_of (Ok p) = record { stop = Some Value; point = p }
+end_of (Err x) = x
 
 -- a tells the run's end, steps and record count
 pub record Told (x : Ran) (a : Halt) : Type 0 where

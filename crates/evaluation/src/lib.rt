@@ -2,20 +2,23 @@
 
 #![tactic(auto)]
 
-ghost use Rattle.std.specs.Prelude.{◌≡◌, ◌-◌, ◌≤◌, min, length};
+ghost use Rattle.std.specs.Prelude.{◌≡◌, ◌+◌, ◌-◌, ◌*◌, ◌≤◌, min, length, drop};
 ghost use Rattle.calculus.specs.Types.{Ty};
 ghost use Rattle.rules.specs.Groups.{properties_of};
 ghost use Rattle.rules.specs.Types.{type_at};
+ghost use Rattle.rules.specs.Limits.{script_width};
+ghost use Rattle.rules.specs.Script.{records as record_count};
 ghost use Rattle.rules.specs.Run.{run};
 ghost use Rattle.rules.specs.Reach.{Accepted};
 ghost use Rattle.rules.specs.Calls.{running, run_report, first_after, scratch_after};
-ghost use Rattle.evaluation.specs.Runs.{front, Loaded, Halted, Ends, spent_on, said_run};
+ghost use Rattle.memory.specs.Splice.{splice};
+ghost use Rattle.evaluation.specs.Runs.{front, Loaded, Halted, Ends, end_of, said_run};
 ghost use Rattle.evaluation.specs.Runs.{Demanded};
 
 use answer::Refusal;
 use records::SCRIPT_WIDTH;
-use redex::Found;
 use reduction::Stop;
+use refocusing::{Ended, Point};
 
 // How a run of a term ends: why no step moves its last term, or nothing if the budget is spent on a term that is no value; the steps
 // made, and the records of the last term.
@@ -26,59 +29,66 @@ pub struct Halt {
     pub records: usize,
 }
 
-// What stops a run whose budget is spent: its term is a value. Of any other term it isn't asked what its next step would say.
-fn spent_on(found: Found) -> Option<Stop>
-    ensures { result ≡ spent_on found }
+// The end of the run of a whole term: the run of one that is settled ends at a value.
+fn end_of(settled: Result<Point, Ended>) -> Ended
+    ensures { result ≡ end_of settled }
 {
-    match found {
-        Found::Value(_) => Some(Stop::Value),
-        Found::Redex { .. } | Found::Denied | Found::Stuck => None,
+    match settled {
+        Ok(point) => Ended {
+            stop: Some(Stop::Value),
+            point,
+        },
+        Err(ended) => ended,
     }
 }
 
-// Steps of the term at the front of `first`, each written to the scratch and copied back. Too big is judged with the scratch, which
-// is not the longer one.
+// The records right of the gap, put after those left of it: so many there are.
+fn gather(point: Point, a: &mut [u8], b: &[u8]) -> usize
+    requires { (script_width * point.right ≤ length b.now)
+        × (script_width * point.left + (length b.now - script_width * point.right) ≤ length a.old) }
+    ensures { (result ≡ point.left + (record_count b.now - point.right))
+        × (a.new ≡ splice (script_width * point.left) (drop (script_width * point.right) b.now) a.old) }
+{
+    memory::put(
+        &b[SCRIPT_WIDTH * point.right..],
+        a,
+        SCRIPT_WIDTH * point.left,
+    );
+    point.left + (records::record_count(b) - point.right)
+}
+
+// A run of the term at the front of `a`, in two buffers of one length. It is the term in focus, and goes over to the end of `b`.
 fn walk(
     groups: &[u8],
     types: &[u8],
     records: usize,
     budget: u64,
-    first: &mut [u8],
-    scratch: &mut [u8],
+    a: &mut [u8],
+    b: &mut [u8],
 ) -> Halt
-    requires { Loaded groups.now types.now first.old records (length scratch.old) × (length scratch.old ≤ length first.old) }
+    requires { Loaded groups.now types.now a.old records (length a.old) × (length b.old ≡ length a.old)
+        × (script_width * record_count b.old ≡ length b.old) }
     ensures { Halted
-        (run (properties_of groups.now) (type_at types.now) (length scratch.old) budget (front first.old records))
-        (length scratch.old) result first.new }
+        (run (properties_of groups.now) (type_at types.now) (length a.old) budget (front a.old records))
+        (length a.old) result a.new }
 {
-    let mut n = records;
-    for steps in 0..budget {
-        let bytes = SCRIPT_WIDTH * n;
-        match reduction::step_term(groups, types, &first[..bytes], scratch) {
-            Ok(moved) => {
-                memory::put(&scratch[..SCRIPT_WIDTH * moved], first, 0);
-                n = moved;
-            }
-            Err(stop) => {
-                return Halt {
-                    stop: Some(stop),
-                    steps,
-                    records: n,
-                };
-            }
-        }
-    }
-    let bytes = SCRIPT_WIDTH * n;
-    let found = redex::find(groups, types, &first[..bytes], 0, 0);
+    let right = records::record_count(b) - records;
+    memory::put(&a[..SCRIPT_WIDTH * records], b, SCRIPT_WIDTH * right);
+    let begun = Point {
+        left: 0,
+        right,
+        steps: 0,
+    };
+    let ended = end_of(refocusing::settle(groups, types, budget, 0, begun, a, b));
     Halt {
-        stop: spent_on(found),
-        steps: budget,
-        records: n,
+        stop: ended.stop,
+        steps: ended.point.steps,
+        records: gather(ended.point, a, b),
     }
 }
 
-// A run of the term that the first buffer starts with, of this many records. Too big is judged with the shorter buffer.
-// Afterwards the first buffer holds the last term, then zeros, and the scratch is all zeros.
+// A run of the term that the first buffer starts with, of this many records. Too big is judged with the shorter buffer, of which
+// the whole records count. Afterwards the first buffer holds the last term, then zeros, and the scratch is all zeros.
 pub fn run_term(
     groups: &[u8],
     types: &[u8],
@@ -93,8 +103,15 @@ pub fn run_term(
         (min (length first.old) (length scratch.old)) budget (front first.old records))
         first.old scratch.old result first.new scratch.new }
 {
-    let room = first.len().min(scratch.len());
-    let x = walk(groups, types, records, budget, first, &mut scratch[..room]);
+    let room = SCRIPT_WIDTH * (first.len().min(scratch.len()) / SCRIPT_WIDTH);
+    let x = walk(
+        groups,
+        types,
+        records,
+        budget,
+        &mut first[..room],
+        &mut scratch[..room],
+    );
     let end = SCRIPT_WIDTH * x.records;
     memory::clear_from(first, end);
     memory::clear(scratch);

@@ -1,0 +1,10 @@
+pub mod Refocusing
+pub mod Gaps
+pub mod Runs
+pub mod Shifts
+pub mod Redexes
+pub mod Contractions
+pub mod Passing
+pub mod Nodes
+pub mod Stages
+pub mod Settling

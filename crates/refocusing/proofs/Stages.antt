@@ -1,0 +1,181 @@
+-- What is known of the term in focus at each stage of its passing, and what comes of it: its operands are settled in turn, a branch is
+-- passed as it is, and then it is a value or it is its turn.
+use Rattle.std.proofs.Common.{◌≡◌, refl, sym, ap, subst, ◌∙◌, [], append-nil, ℕ, ◌+◌, ◌*◌, ◌≤◌, ◌<◌, ◌⊎◌, inl, inr, arith, length, take, drop, take_at, Result, Ok, Err}
+use Rattle.std.proofs.Math.Bool.{So}
+use Rattle.calculus.specs.Terms.{first, second, Term, var, unit, lam, pair, inj, app, proj, case, protect, mu, literal, reckon, is_value}
+use Rattle.calculus.proofs.Booleans.{both}
+use Rattle.calculus.specs.Reduction.{Context, plug}
+use Rattle.calculus.proofs.Contexts.{compose}
+use Rattle.rules.specs.Answer.{Bytes}
+use Rattle.rules.specs.Limits.{script_width}
+use Rattle.rules.specs.Script.{kind, encode, size}
+use Rattle.rules.proofs.PrefixLaws.{encode_length}
+use Rattle.rules.proofs.TermCode.{term_code}
+use Rattle.records.specs.Kinds as kinds
+use Rattle.records.specs.Place.{At}
+use Rattle.records.specs.Operands.{first_operand, second_operand, third_operand}
+use Rattle.records.proofs.Made.{by_kind}
+use Rattle.records.proofs.Stands.{kind_of, operands, at_second, at_third}
+use Rattle.memory.specs.Splice.{splice}
+use Rattle.redex.specs.Contexts.{after, level}
+use Rattle.redex.specs.Fates.{ready}
+use Rattle.redex.proofs.Plugs.{compose_level}
+use Rattle.redex.proofs.Forms.{Position, Evaluates, Twofold, alone_value, function_value}
+use Rattle.redex.proofs.Stages.{kind_read, Opened, is_kind}
+use Rattle.records.specs.Numbers.{kind_number}
+use Rattle.records.specs.declared.Kind.{Kind}
+use Rattle.records.specs.declared.Kind.TheVariants.{Unit, Function, Literal, Protect, FirstProjection, SecondProjection}
+use Rattle.refocusing.specs.Focus.{Stands, Standing, Focused, value, turn, left_to_do, Ends, Advances, goes_on, has_ended, Settled, at_value, run_ended}
+use Rattle.refocusing.specs.declared.Point.{Point}
+use Rattle.refocusing.specs.declared.Focus.{Focus}
+use Rattle.refocusing.specs.declared.Focus.TheVariants.{Ahead, Turn, Value}
+use Rattle.refocusing.specs.declared.Ended.{Ended}
+use Rattle.refocusing.proofs.Nodes.{FirstPassed}
+use Rattle.refocusing.proofs.Passing.{Passed, passed, stands, went_on, entered}
+
+-- what the settling of a term promises
+abbrev pub Settles : (g t : Bytes) (budget around : ℕ) (p : Point) (a b a' b' : Bytes) → Result Point Ended → Type 0
+Settles g t budget around p a b a' b' r =
+    (whole : Term) (E : Context) (e : Term) → Stands g t (length b) budget whole E e [] (encode e) p a b → around ≡ level E
+    → Settled g t (length b) budget whole E (left_to_do budget (Ahead p)) a' b' r
+
+-- the term that comes next, before any of it is passed
+module _ {g t : Bytes} {room budget : ℕ} {whole : Term} {E : Context} {e : Term} {p : Point} {a b : Bytes}
+    (s : Stands g t room budget whole E e [] (encode e) p a b) where
+  pub begun : Passed g t room budget whole E e 0 p a b
+  begun = passed 0 s refl refl
+
+  pub ahead_at : At b p.right e
+  ahead_at = record { rest = after E; stands = s.gap.back }
+
+-- the bytes of the term at a record
+at_bytes : {b : Bytes} {i : ℕ} {z : Term} → At b i z → encode z ≡ take (script_width * size z) (drop (script_width * i) b)
+at_bytes {z = z} h = sym (ap (take (script_width * size z)) h.stands ∙ take_at (encode z) h.rest (script_width * size z) (encode_length term_code z))
+
+module _ {g t : Bytes} {room budget : ℕ} {whole : Term} {E : Context} {e : Term} {n : ℕ} {p : Point} {a b : Bytes}
+    (s : Passed g t room budget whole E e n p a b) where
+  -- a term that comes next, passed as it is
+  pub term_passed : (z : Term) {p' : Point} {a' : Bytes} → At b p.right z → n + size z ≤ size e
+      → (p'.left ≡ p.left + size z) × (p'.right ≡ p.right + size z) × (p'.steps ≡ p.steps) × (a' ≡ splice (script_width * p.left) (encode z) a)
+      → Passed g t room budget whole E e (n + size z) p' a' b
+  term_passed z {p'} h l f = went_on s (size z) l p' (f.0, f.1, f.2, f.3 ∙ ap (λ m. splice (script_width * p.left) m a) (at_bytes h))
+
+  module _ {z : Term} {m : ℕ} (q : Position e z n m) (same : length b ≡ room) (around : ℕ) (deep : around ≡ level E + m) where
+    here : Stands g t (length b) budget whole (compose E q.context) z [] (encode z) p a b
+    here = stands [] (encode z) (entered (subst (λ r. Passed g t r budget whole E e n p a b) (sym same) s) q) refl refl
+
+    deeper : around ≡ level (compose E q.context)
+    deeper = omega (arith, deep, q.under, compose_level E q.context)
+
+    -- an operand that comes next, and is evaluated
+    pub operand_stands : length a ≡ room → Standing g t budget around p a b
+    operand_stands l = record {
+      whole = whole;
+      context = compose E q.context;
+      term = z;
+      stands = here;
+      around_is = deeper;
+      same_length = l ∙ sym same;
+    }
+
+    pub operand_settles : {a' b' : Bytes} {r : Result Point Ended} → Settles g t budget around p a b a' b' r
+        → Settled g t room budget whole (compose E q.context) (left_to_do budget (Ahead p)) a' b' r
+    operand_settles {a'} {b'} {r} f =
+        subst (λ n. Settled g t n budget whole (compose E q.context) (left_to_do budget (Ahead p)) a' b' r) same
+        (f whole (compose E q.context) z here deeper)
+
+  -- a term that is passed
+  pub comes_to_value : {m : ℕ} → n ≡ size e → So (is_value e) → left_to_do budget (Value p) < m → Advances g t room budget whole E m a b (Ok (Value p))
+  comes_to_value l v h = goes_on (value e v (stands (encode e) [] s (append-nil (encode e)) (omega (arith, encode_length term_code e)))) h
+
+  pub comes_to_turn : {m : ℕ} → n ≡ size e → So (ready e) → left_to_do budget (Turn p) < m → Advances g t room budget whole E m a b (Ok (Turn p))
+  comes_to_turn l v h = goes_on (turn e v (stands (encode e) [] s (append-nil (encode e)) (omega (arith, encode_length term_code e)))) h
+
+-- an operand that is settled, or the run has ended
+module _ {g t : Bytes} {room budget : ℕ} {whole : Term} {E : Context} {m : ℕ} {a b : Bytes} where
+  pub settled_value : {r : Result Point Ended} {p : Point} → Settled g t room budget whole E m a b r → r ≡ Ok p
+      → Focused g t room budget whole E a b (Value p) × (left_to_do budget (Value p) < m)
+  settled_value {p = p} s h = by (subst (λ r. Settled g t room budget whole E m a b r) h s)
+    where
+      by : Settled g t room budget whole E m a b (Ok p) → Focused g t room budget whole E a b (Value p) × (left_to_do budget (Value p) < m)
+      by (at_value f l) = (f, l)
+
+  pub settled_end : {r : Result Point Ended} {x : Ended} → Settled g t room budget whole E m a b r → r ≡ Err x → Ends g t room budget whole a b x
+  settled_end {x = x} s h = by (subst (λ r. Settled g t room budget whole E m a b r) h s)
+    where
+      by : Settled g t room budget whole E m a b (Err x) → Ends g t room budget whole a b x
+      by (run_ended z) = z
+
+pub ends_so : {g t : Bytes} {room budget : ℕ} {whole : Term} {E : Context} {m : ℕ} {a b : Bytes} {r : Result Focus Ended} {x y : Ended} → r ≡ Err x → x ≡ y
+    → Ends g t room budget whole a b y → Advances g t room budget whole E m a b r
+ends_so {g} {t} {room} {budget} {whole} {E} {m} {a} {b} p q h =
+    subst (λ r. Advances g t room budget whole E m a b r) (sym (p ∙ ap Err q)) (has_ended h)
+
+-- a node of one operand, and a case
+abbrev pub OfOne : ℕ → Type 0
+OfOne k = (k ≡ kinds.protect) ⊎ ((k ≡ kinds.first_projection) ⊎ (k ≡ kinds.second_projection))
+
+pub one_size : (e : Term) → OfOne (kind_of e) → size e ≡ 1 + size (first_operand e)
+unfolding size
+one_size e (inl h) = by_kind (λ x. size x ≡ 1 + size (first_operand x)) kinds.protect e h refl
+one_size e (inr (inl h)) = by_kind (λ x. size x ≡ 1 + size (first_operand x)) kinds.first_projection e h refl
+one_size e (inr (inr h)) = by_kind (λ x. size x ≡ 1 + size (first_operand x)) kinds.second_projection e h refl
+
+case_operands : (e : Term) → kind_of e ≡ kinds.case
+    → (3 ≤ operands e) × (size e ≡ 1 + size (first_operand e) + size (second_operand e) + size (third_operand e))
+unfolding size
+case_operands e h =
+    by_kind (λ x. (3 ≤ operands x) × (size x ≡ 1 + size (first_operand x) + size (second_operand x) + size (third_operand x))) kinds.case e h (omega arith, omega arith)
+
+-- the kinds that are values as they stand
+pub lone_value : {s : Bytes} {i : ℕ} {k : Kind} {e : Term} → kind_number k ≡ kind s i → At s i e → (k ≡ Unit) ⊎ ((k ≡ Literal) ⊎ (k ≡ Function)) → So (is_value e)
+lone_value is a (inl h) = (alone_value _ (inl (kind_read is a h))).0
+lone_value is a (inr (inl h)) = (alone_value _ (inr (kind_read is a h))).0
+lone_value is a (inr (inr h)) = function_value _ (kind_read is a h)
+
+pub of_one : {s : Bytes} {i : ℕ} {k : Kind} {e : Term} → Opened s i k e → (k ≡ Protect) ⊎ ((k ≡ FirstProjection) ⊎ (k ≡ SecondProjection)) → OfOne (kind_of e)
+of_one o (inl h) = inl (is_kind o h)
+of_one o (inr (inl h)) = inr (inl (is_kind o h))
+of_one o (inr (inr h)) = inr (inr (is_kind o h))
+
+pub one_turn : (e : Term) → OfOne (kind_of e) → So (is_value (first_operand e)) → So (ready e)
+unfolding ready
+one_turn e (inl h) = by_kind (λ x. So (is_value (first_operand x)) → So (ready x)) kinds.protect e h (λ v. v)
+one_turn e (inr (inl h)) = by_kind (λ x. So (is_value (first_operand x)) → So (ready x)) kinds.first_projection e h (λ v. v)
+one_turn e (inr (inr h)) = by_kind (λ x. So (is_value (first_operand x)) → So (ready x)) kinds.second_projection e h (λ v. v)
+
+-- a node whose second operand is its last, and which is no pair
+pub both_turn : (e : Term) → Evaluates e → Twofold e → (kind_of e ≡ kinds.pair → ⊥) → So (is_value (first_operand e)) → So (is_value (second_operand e))
+    → So (ready e)
+unfolding ready
+both_turn (var n) h w p = absurd (h.0 refl)
+both_turn (unit k) h w p = absurd (h.1 refl)
+both_turn (lam k i e) h w p = absurd (h.3 refl)
+both_turn (pair k a b) h w p = absurd (p refl)
+both_turn (inj first k i e) h w p = absurd (w.0 refl)
+both_turn (inj second k i e) h w p = absurd (w.1 refl)
+both_turn (app u f a) h w p = both
+both_turn (proj first u e) h w p = absurd (w.2 refl)
+both_turn (proj second u e) h w p = absurd (w.3 refl)
+both_turn (case u i e a b) h w p = absurd (w.4 refl)
+both_turn (protect m e) h w p = absurd (w.5 refl)
+both_turn (mu u i e) h w p = absurd (h.4 refl)
+both_turn (literal k n) h w p = absurd (h.2 refl)
+both_turn (reckon o u a b) h w p = both
+
+-- the branches of a case
+pub record Branches (s : Bytes) (next : ℕ) (e : Term) : Type 0 where
+  pub second : At s next (second_operand e)
+  pub third : (j : ℕ) → j ≡ next + size (second_operand e) → At s j (third_operand e)
+  pub sizes : size e ≡ 1 + size (first_operand e) + size (second_operand e) + size (third_operand e)
+
+pub branches : {g t : Bytes} {room budget : ℕ} {whole : Term} {E : Context} {k : Kind} {p : Point} {a b : Bytes} (f : FirstPassed g t room budget whole E k p a b)
+    → kind_of f.node ≡ kinds.case → Branches (encode (plug E f.node)) p.left f.node
+branches {E = E} {p = p} f h =
+    let c = case_operands f.node h in
+    let w = f.value.own.stands in
+    record {
+      second = at_second _ _ f.node w p.left (omega (arith, c.0)) f.value.ends;
+      third = λ j l. at_third _ _ f.node w j c.0 (omega (arith, f.value.ends, l));
+      sizes = c.1;
+    }

@@ -1,0 +1,4 @@
+pub mod Gap
+pub mod Focus
+pub mod Contracted
+pub mod Refocusing
