@@ -138,31 +138,3 @@ compose_level (in_protect m E) F = omega (arith, compose_level E F)
 compose_level (in_case w i E a b) F = omega (arith, compose_level E F)
 compose_level (reckon_left o w E b) F = omega (arith, compose_level E F)
 compose_level (reckon_right o w v h E) F = omega (arith, compose_level E F)
-
-pub compose_before : (E F : Context) → before (compose E F) ≡ before E ++ before F
-unfolding compose before
-compose_before hole F = refl
-compose_before (app_left w E a) F = rw (compose_before E F)
-compose_before (app_right w v h E) F = rw (compose_before E F) (simp append_assoc)
-compose_before (in_proj d w E) F = rw (compose_before E F)
-compose_before (in_inj d k i E) F = rw (compose_before E F)
-compose_before (pair_left k E b) F = rw (compose_before E F)
-compose_before (pair_right k v h E) F = rw (compose_before E F) (simp append_assoc)
-compose_before (in_protect m E) F = rw (compose_before E F)
-compose_before (in_case w i E a b) F = rw (compose_before E F)
-compose_before (reckon_left o w E b) F = rw (compose_before E F) (simp append_assoc)
-compose_before (reckon_right o w v h E) F = rw (compose_before E F) (simp append_assoc)
-
-pub compose_after : (E F : Context) → after (compose E F) ≡ after F ++ after E
-unfolding compose after
-compose_after hole F = sym (append-nil (after F))
-compose_after (app_left w E a) F = rw (compose_after E F) (simp append_assoc)
-compose_after (app_right w v h E) F = compose_after E F
-compose_after (in_proj d w E) F = compose_after E F
-compose_after (in_inj d k i E) F = compose_after E F
-compose_after (pair_left k E b) F = rw (compose_after E F) (simp append_assoc)
-compose_after (pair_right k v h E) F = compose_after E F
-compose_after (in_protect m E) F = compose_after E F
-compose_after (in_case w i E a b) F = rw (compose_after E F) (simp append_assoc)
-compose_after (reckon_left o w E b) F = rw (compose_after E F) (simp append_assoc)
-compose_after (reckon_right o w v h E) F = compose_after E F

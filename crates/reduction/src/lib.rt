@@ -1,5 +1,5 @@
-// One step of a script's term, in two pieces: it is planned, and what was planned is written. A step and a run take both, a preview
-// the first, and a move both again, with a question between them.
+// One step of a script's term, in two pieces: it is planned, and what was planned is written. A step takes both, a preview the first,
+// and a move both, with a question between them.
 
 #![tactic(auto)]
 
@@ -146,7 +146,7 @@ fn counted(next: Result<NextStep, Stop>) -> Result<usize, Stop>
 }
 
 // One step of a term that stands alone in `script`, which passes the questions; the new term to the front of `written`.
-pub fn step_term(
+fn step_term(
     groups: &[u8],
     types: &[u8],
     script: &[u8],

@@ -1,9 +1,8 @@
 -- The contractum in the place of its redex: what stands on both sides of the gap, and where evaluation goes on.
-use Rattle.std.proofs.Common.{◌≡◌, refl, sym, ap, ap₂, ◌∙◌, true, false, [], ◌++◌, append-nil, ℕ, ◌+◌, ◌-◌, ◌*◌, ◌≤◌, ◌<◌, arith, length, Some, None}
+use Rattle.std.proofs.Common.{◌≡◌, sym, ap, ap₂, ◌∙◌, [], ◌++◌, append-nil, ℕ, ◌+◌, ◌*◌, ◌≤◌, ◌<◌, arith, length, Some}
 use Rattle.std.proofs.Common.{subst as transport}
 use Rattle.std.proofs.Math.Bool.{So}
 use Rattle.calculus.specs.Security.{Security}
-use Rattle.calculus.specs.Types.{Ty}
 use Rattle.calculus.specs.Terms.{Term, protect, is_value, raise_value}
 use Rattle.calculus.specs.Reduction.{Context, plug}
 use Rattle.calculus.proofs.Values.{raised_stands}
@@ -11,12 +10,11 @@ use Rattle.rules.specs.Answer.{Bytes, Octets}
 use Rattle.rules.specs.Limits.{script_width}
 use Rattle.rules.specs.Groups.{properties_of}
 use Rattle.rules.specs.Types.{type_at}
-use Rattle.rules.specs.Script.{encode, size, depth, records}
-use Rattle.rules.specs.Step.{exceeds}
+use Rattle.rules.specs.Script.{encode, size, depth}
 use Rattle.records.specs.Place.{At}
 use Rattle.records.specs.Labels.{influence_at}
-use Rattle.records.proofs.Made.{influence_of, influence_stands}
-use Rattle.records.proofs.Stands.{operands, at_first}
+use Rattle.records.proofs.Made.{influence_stands}
+use Rattle.records.proofs.Stands.{at_first}
 use Rattle.redex.specs.Contexts.{before, after, offset, level}
 use Rattle.redex.specs.Fates.{goes, ready, fate, contractum}
 use Rattle.redex.proofs.Places.{groups_at, reader_at}
@@ -27,13 +25,12 @@ use Rattle.substitution.proofs.Reading.{term_length}
 use Rattle.contraction.specs.Plans.{Fires, Planned, protection}
 use Rattle.contraction.specs.declared.Plan.{Plan}
 use Rattle.contraction.specs.declared.Plan.TheVariants.{Part, Raised}
-use Rattle.contraction.proofs.Plans.{PartPlan, part_plan, LiftPlan, lift_plan, protection_of, protect_size, raise_size}
+use Rattle.contraction.proofs.Plans.{part_plan, LiftPlan, lift_plan, protect_size, raise_size}
 use Rattle.contraction.proofs.Redexes.{left_side}
 use Rattle.refocusing.specs.declared.Point.{Point}
 use Rattle.refocusing.specs.declared.Focus.TheVariants.{Ahead, Turn, Value}
-use Rattle.refocusing.specs.Gap.{Gap}
 use Rattle.refocusing.specs.Focus.{Stands, Focused, ahead, turn, value}
-use Rattle.refocusing.specs.Contracted.{Foremost, Ahead as WrittenAhead, comes_next, too_big}
+use Rattle.refocusing.specs.Contracted.{Foremost, Ahead as WrittenAhead, comes_next}
 use Rattle.refocusing.proofs.Gaps.{left_size, whole_octets, put_ahead, put_back}
 use Rattle.refocusing.proofs.Runs.{smaller_fits, contracted}
 use Rattle.refocusing.proofs.Redexes.{lies_left}

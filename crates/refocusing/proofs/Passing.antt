@@ -18,7 +18,7 @@ use Rattle.redex.proofs.Forms.{Position}
 use Rattle.reduction.proofs.Starts.{started}
 use Rattle.refocusing.specs.Focus.{Reached, Stands}
 use Rattle.refocusing.specs.declared.Point.{Point}
-use Rattle.refocusing.proofs.Gaps.{left_size, whole_bytes}
+use Rattle.refocusing.proofs.Gaps.{put_there, left_size, whole_bytes}
 
 -- A run of `whole` has come to e in E, and n records of e are passed.
 pub record Passed (g t : Bytes) (room budget : ℕ) (whole : Term) (E : Context) (e : Term) (n : ℕ) (p : Point) (a b : Bytes) : Type 0 where
@@ -98,9 +98,9 @@ module _ {g t : Bytes} {room budget : ℕ} {whole : Term} {E : Context} {e : Ter
       let c : length m ≡ script_width * k = length-take-le (script_width * k) (drop (script_width * p.right) b) (omega (arith, r.0, length-drop (script_width * p.right) b)) in
       let d : length f ≡ script_width * p.left = length-take-le (script_width * p.left) a q.inside_a in
       let i : length (f ++ m) ≡ script_width * p'.left = omega (arith, length-append f m, c, d, h.0) in
+      let o : script_width * p'.left ≡ script_width * p.left + length m = omega (arith, c, h.0) in
       let u : take (script_width * p'.left) a' ≡ f ++ m =
-      ap (take (script_width * p'.left)) (h.3 ∙ sym (append_assoc f m (drop (script_width * p.left + length m) a)))
-      ∙ take_at (f ++ m) (drop (script_width * p.left + length m) a) (script_width * p'.left) i in
+      ap (take (script_width * p'.left)) h.3 ∙ ap (λ i. take i (splice (script_width * p.left) m a)) o ∙ put_there (script_width * p.left) m a q.inside_a in
       let j : script_width * p'.right ≡ script_width * p.right + script_width * k = omega (arith, h.1) in
       record {
         reached = subst (λ k. Reached g t room budget whole (plug E e) k) (sym h.2) q.reached;

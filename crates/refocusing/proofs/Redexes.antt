@@ -1,16 +1,13 @@
 -- A redex that lies left, in its whole term: what its contractum is counted and written by.
-use Rattle.std.proofs.Common.{◌≡◌, refl, sym, ap, ◌∙◌, false, ◌||◌, [], append-nil, ℕ, ◌+◌, ◌-◌, ◌*◌, ◌/◌, ◌≤◌, ◌<◌, arith, ltb, length}
+use Rattle.std.proofs.Common.{◌≡◌, sym, ap, ◌∙◌, false, ◌||◌, [], append-nil, ℕ, ◌+◌, ◌-◌, ◌/◌, ◌≤◌, arith, ltb, length}
 use Rattle.std.proofs.Common.{subst as transport}
-use Rattle.std.proofs.Math.Bool.{So}
-use Rattle.calculus.specs.Security.{Security}
-use Rattle.calculus.specs.Types.{Ty}
 use Rattle.calculus.specs.Terms.{Term}
 use Rattle.calculus.specs.Reduction.{Context, plug}
 use Rattle.rules.specs.Answer.{Bytes}
 use Rattle.rules.specs.Limits.{script_width, script_limit, depth_limit}
 use Rattle.rules.specs.Groups.{properties_of}
 use Rattle.rules.specs.Types.{type_at}
-use Rattle.rules.specs.Script.{encode, term, size, depth, records}
+use Rattle.rules.specs.Script.{encode, term, size, records}
 use Rattle.rules.specs.Step.{exceeds}
 use Rattle.rules.proofs.Scripts.{term_encode}
 use Rattle.demands.proofs.Steps.{within_limits}

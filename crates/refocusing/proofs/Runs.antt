@@ -1,5 +1,5 @@
 -- A run goes on: what a step of the term in a context does to the run that is left of it, and how the run ends.
-use Rattle.std.proofs.Common.{◌≡◌, refl, sym, ap, ◌∙◌, Bool, true, false, cond, ◌||◌, [], ◌++◌, ℕ, zero, suc, ◌+◌, ◌-◌, ◌*◌, ◌/◌, ◌≤◌, ◌<◌, arith, ltb, Option, Some, None, Result, Ok, Err}
+use Rattle.std.proofs.Common.{◌≡◌, refl, sym, ap, ◌∙◌, Bool, true, false, cond, ◌++◌, ℕ, zero, suc, ◌+◌, ◌-◌, ◌*◌, ◌/◌, ◌≤◌, ◌<◌, arith, ltb, Option, Some, None, Result, Ok, Err}
 use Rattle.std.proofs.Common.{subst as transport}
 use Rattle.std.proofs.Math.Bool.{So}
 use Rattle.std.proofs.Math.Decide.{dec_lt}
@@ -22,8 +22,7 @@ use Rattle.demands.proofs.Checked.{Fit}
 use Rattle.demands.proofs.Steps.{limited_moves, within_limits, fit_moves}
 use Rattle.redex.specs.Fates.{Fate, goes, not_permitted, wrong_kind as of_wrong_kind, ready, fate, contractum, fated}
 use Rattle.redex.specs.Found.{answer}
-use Rattle.redex.proofs.Plugs.{plug_size, plug_depth}
-use Rattle.redex.proofs.Turns.{fires, plug_turn, plug_moves}
+use Rattle.redex.proofs.Turns.{plug_turn, plug_moves}
 use Rattle.reduction.specs.declared.Stop.{Stop}
 use Rattle.reduction.specs.declared.Stop.TheVariants.{Value, TooBig}
 use Rattle.reduction.specs.Steps.{Startable, told, stop_number, end_number}
@@ -35,7 +34,7 @@ use Rattle.refocusing.specs.Gap.{Gap}
 use Rattle.refocusing.specs.Focus.{later, Reached, Stands, Ends}
 use Rattle.refocusing.specs.Contracted.{why_not}
 use Rattle.refocusing.proofs.Refocusing.{run_moves, refocusing}
-use Rattle.refocusing.proofs.Gaps.{whole_bytes, whole_octets}
+use Rattle.refocusing.proofs.Gaps.{whole_bytes}
 
 -- The runs of a term: it moves, it doesn't, its budget is spent, and it is a value.
 module _ (S : Security) (tab : ℕ → Ty) (room : ℕ) where

@@ -1,11 +1,11 @@
 -- A term moved within a buffer: with another record for its own, and behind a record.
-use Rattle.std.proofs.Common.{◌≡◌, refl, sym, ap, ◌∙◌, ◌++◌, append_assoc, ℕ, ◌+◌, ◌*◌, ◌≤◌, arith, length, take, drop, length-append, length-drop, length-take-le, take_at, drop_at, drop-drop, take-take}
+use Rattle.std.proofs.Common.{◌≡◌, refl, sym, ap, ◌∙◌, ◌++◌, append_assoc, ℕ, ◌+◌, ◌*◌, ◌≤◌, arith, length, take, drop, length-append, length-drop, length-take-le, take_at, drop_at, drop-drop}
 use Rattle.std.proofs.Math.Seq.{drop-append-le}
 use Rattle.calculus.specs.Security.{Indirect}
 use Rattle.calculus.specs.Terms.{Term, protect}
 use Rattle.rules.specs.Answer.{Bytes}
 use Rattle.rules.specs.Limits.{script_width}
-use Rattle.rules.specs.Script.{encode, size, full_record}
+use Rattle.rules.specs.Script.{encode, size}
 use Rattle.memory.specs.Splice.{splice}
 use Rattle.memory.proofs.Laws.{take_before, join_before}
 use Rattle.records.specs.Place.{At}

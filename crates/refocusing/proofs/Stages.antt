@@ -1,6 +1,6 @@
 -- What is known of the term in focus at each stage of its passing, and what comes of it: its operands are settled in turn, a branch is
 -- passed as it is, and then it is a value or it is its turn.
-use Rattle.std.proofs.Common.{◌≡◌, refl, sym, ap, subst, ◌∙◌, [], append-nil, ℕ, ◌+◌, ◌*◌, ◌≤◌, ◌<◌, ◌⊎◌, inl, inr, arith, length, take, drop, take_at, Result, Ok, Err}
+use Rattle.std.proofs.Common.{◌≡◌, refl, sym, ap, subst, ◌∙◌, [], append-nil, ℕ, ◌+◌, ◌*◌, ◌≤◌, ◌<◌, ◌⊎◌, inl, inr, arith, length, Result, Ok, Err}
 use Rattle.std.proofs.Math.Bool.{So}
 use Rattle.calculus.specs.Terms.{first, second, Term, var, unit, lam, pair, inj, app, proj, case, protect, mu, literal, reckon, is_value}
 use Rattle.calculus.proofs.Booleans.{both}
@@ -20,7 +20,7 @@ use Rattle.memory.specs.Splice.{splice}
 use Rattle.redex.specs.Contexts.{after, level}
 use Rattle.redex.specs.Fates.{ready}
 use Rattle.redex.proofs.Plugs.{compose_level}
-use Rattle.redex.proofs.Forms.{Position, Evaluates, Twofold, alone_value, function_value}
+use Rattle.redex.proofs.Forms.{Position, Evaluates, Twofold, alone_value, function_value, destructor_turn}
 use Rattle.redex.proofs.Stages.{kind_read, Opened, is_kind}
 use Rattle.records.specs.Numbers.{kind_number}
 use Rattle.records.specs.declared.Kind.{Kind}
@@ -30,6 +30,7 @@ use Rattle.refocusing.specs.declared.Point.{Point}
 use Rattle.refocusing.specs.declared.Focus.{Focus}
 use Rattle.refocusing.specs.declared.Focus.TheVariants.{Ahead, Turn, Value}
 use Rattle.refocusing.specs.declared.Ended.{Ended}
+use Rattle.refocusing.proofs.Shifts.{term_taken}
 use Rattle.refocusing.proofs.Nodes.{FirstPassed}
 use Rattle.refocusing.proofs.Passing.{Passed, passed, stands, went_on, entered}
 
@@ -48,17 +49,13 @@ module _ {g t : Bytes} {room budget : ℕ} {whole : Term} {E : Context} {e : Ter
   pub ahead_at : At b p.right e
   ahead_at = record { rest = after E; stands = s.gap.back }
 
--- the bytes of the term at a record
-at_bytes : {b : Bytes} {i : ℕ} {z : Term} → At b i z → encode z ≡ take (script_width * size z) (drop (script_width * i) b)
-at_bytes {z = z} h = sym (ap (take (script_width * size z)) h.stands ∙ take_at (encode z) h.rest (script_width * size z) (encode_length term_code z))
-
 module _ {g t : Bytes} {room budget : ℕ} {whole : Term} {E : Context} {e : Term} {n : ℕ} {p : Point} {a b : Bytes}
     (s : Passed g t room budget whole E e n p a b) where
   -- a term that comes next, passed as it is
   pub term_passed : (z : Term) {p' : Point} {a' : Bytes} → At b p.right z → n + size z ≤ size e
       → (p'.left ≡ p.left + size z) × (p'.right ≡ p.right + size z) × (p'.steps ≡ p.steps) × (a' ≡ splice (script_width * p.left) (encode z) a)
       → Passed g t room budget whole E e (n + size z) p' a' b
-  term_passed z {p'} h l f = went_on s (size z) l p' (f.0, f.1, f.2, f.3 ∙ ap (λ m. splice (script_width * p.left) m a) (at_bytes h))
+  term_passed z {p'} h l f = went_on s (size z) l p' (f.0, f.1, f.2, f.3 ∙ ap (λ m. splice (script_width * p.left) m a) (sym (term_taken h)))
 
   module _ {z : Term} {m : ℕ} (q : Position e z n m) (same : length b ≡ room) (around : ℕ) (deep : around ≡ level E + m) where
     here : Stands g t (length b) budget whole (compose E q.context) z [] (encode z) p a b
@@ -141,8 +138,8 @@ of_one o (inr (inr h)) = inr (inr (is_kind o h))
 pub one_turn : (e : Term) → OfOne (kind_of e) → So (is_value (first_operand e)) → So (ready e)
 unfolding ready
 one_turn e (inl h) = by_kind (λ x. So (is_value (first_operand x)) → So (ready x)) kinds.protect e h (λ v. v)
-one_turn e (inr (inl h)) = by_kind (λ x. So (is_value (first_operand x)) → So (ready x)) kinds.first_projection e h (λ v. v)
-one_turn e (inr (inr h)) = by_kind (λ x. So (is_value (first_operand x)) → So (ready x)) kinds.second_projection e h (λ v. v)
+one_turn e (inr (inl h)) = destructor_turn e (inl h)
+one_turn e (inr (inr h)) = destructor_turn e (inr (inl h))
 
 -- a node whose second operand is its last, and which is no pair
 pub both_turn : (e : Term) → Evaluates e → Twofold e → (kind_of e ≡ kinds.pair → ⊥) → So (is_value (first_operand e)) → So (is_value (second_operand e))

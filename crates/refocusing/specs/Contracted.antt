@@ -12,7 +12,7 @@ use Rattle.rules.specs.Step.{exceeds}
 use Rattle.memory.specs.Splice.{splice}
 use Rattle.records.specs.Place.{At}
 use Rattle.redex.specs.Contexts.{offset, level}
-use Rattle.redex.specs.Fates.{goes, ready, fate, contractum}
+use Rattle.redex.specs.Fates.{goes, ready, fate}
 use Rattle.redex.specs.declared.Found.{Found}
 use Rattle.redex.specs.declared.Found.TheVariants.{Value, Redex, Denied, Stuck}
 use Rattle.contraction.specs.Plans.{Planned}

@@ -1,3 +1,4 @@
+-- A term is passed operand by operand, each settled in its own context, and settled turn by turn of the loop.
 use Rattle.std.proofs.Common.{◌≡◌, refl, sym, ap, ◌∙◌, [], ℕ, ◌-◌, ◌≤◌, inr, arith, length}
 use Rattle.std.proofs.lemmas.Result.{err_from_is_err_and}
 use Rattle.calculus.specs.Terms.{Term}
