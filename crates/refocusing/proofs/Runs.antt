@@ -27,7 +27,7 @@ use Rattle.reduction.specs.declared.Stop.{Stop}
 use Rattle.reduction.specs.declared.Stop.TheVariants.{Value, TooBig}
 use Rattle.reduction.specs.Steps.{Startable, told, stop_number, end_number}
 use Rattle.reduction.proofs.Starts.{started, formed_startable}
-use Rattle.reduction.proofs.Ends.{ends_moved, ends_too_big}
+use Rattle.reduction.proofs.Ends.{ends_too_big}
 use Rattle.refocusing.specs.declared.Point.{Point}
 use Rattle.refocusing.specs.declared.Ended.{Ended}
 use Rattle.refocusing.specs.Gap.{Gap}
