@@ -166,14 +166,14 @@ extern "C" {
 /*
  * The free stack that each function needs, whatever it is lent: the bytes between the caller's stack pointer, before the
  * arguments are put down, and the end of the stack. The deepest scripts, of depth 256 with types of 63 records, were seen to take
- * 82,480, 61,920, 37,040, 61,744 and 61,808 bytes; the numbers are these and at least a sixteenth more, in whole pages.
+ * 82,480, 127,360, 37,040, 61,728 and 61,904 bytes; the numbers are these and at least a sixteenth more, in whole pages.
  *
  * A thread's stack holds more than that: its own frames, and what the C library keeps there. With glibc
  * pthread_attr_setstacksize(&attributes, PTHREAD_STACK_MIN + WIGNELD_CHECK_STACK_BYTES) is enough for a thread that calls
  * wigneld_check from a shallow function.
  */
 #define WIGNELD_CHECK_STACK_BYTES 90112
-#define WIGNELD_RUN_STACK_BYTES 69632
+#define WIGNELD_RUN_STACK_BYTES 139264
 #define WIGNELD_SHEET_STACK_BYTES 40960
 #define WIGNELD_PREVIEW_STACK_BYTES 69632
 #define WIGNELD_MOVE_STACK_BYTES 69632

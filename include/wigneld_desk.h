@@ -22,8 +22,8 @@ extern "C" {
 #endif
 
 /* The free stack that the function needs, whatever it is lent, as wigneld.h means it. The deepest scripts and entries, typed or run,
-   were seen to take 83,280 bytes; the number is this and at least a sixteenth more, in whole pages. */
-#define WIGNELD_PACKET_STACK_BYTES 90112
+   were seen to take 135,536 bytes; the number is this and at least a sixteenth more, in whole pages. */
+#define WIGNELD_PACKET_STACK_BYTES 147456
 
 /* In the place of the profile: any script, or those that always finish (wigneld_check_profile in wigneld_office.h). */
 #define WIGNELD_PROFILE_NONE 0

@@ -52,6 +52,7 @@ module _ {g t s : Bytes} {at : ℕ} {p : Plan} {out : Writer} (q : Fit g t s at 
 
   abbrev pub part_room : {x : ℕ} → p ≡ Part x → PartRoom g s at x out
   part_room h = record {
+    order = q.order;
     part = (part_of h).part;
     stands = (part_of h).stands;
     operand = operand_there q.ready.stands (part_of h).operand;
@@ -67,6 +68,7 @@ module _ {g t s : Bytes} {at : ℕ} {p : Plan} {out : Writer} (q : Fit g t s at 
 
   abbrev pub body_room : {x y : ℕ} → p ≡ Body x y → BodyRoom g s at x y out
   body_room h = record {
+    order = q.order;
     body = (body_of h).body;
     value = (body_of h).value;
     at_body = (body_of h).at_body;
@@ -84,6 +86,7 @@ module _ {g t s : Bytes} {at : ℕ} {p : Plan} {out : Writer} (q : Fit g t s at 
 
   abbrev pub raised_room : p ≡ Raised → RaisedRoom g s at out
   raised_room h = record {
+    order = q.order;
     value = (lift_of h).value;
     stands = (lift_of h).stands;
     is_one = (lift_of h).is_one;
@@ -128,6 +131,7 @@ module _ {g t s : Bytes} {at : ℕ} {p : Plan} {out : Writer} (q : Fit g t s at 
 
   abbrev pub reckoned_room : p ≡ Reckoned → ReckonedRoom g t s at out
   reckoned_room h = record {
+    order = q.order;
     literals = literals h;
     sides = λ i o. q.sides i
         ((reckon_of h).is

@@ -21,6 +21,7 @@ use Rattle.memory.specs.declared.Writer.{Writer}
 use Rattle.contraction.specs.declared.Plan.{Plan}
 use Rattle.contraction.specs.declared.Plan.TheVariants.{Part, Body, Raised, Unrolled, Reckoned}
 use Rattle.substitution.specs.declared.Size.{Size}
+use Rattle.contraction.specs.Order.{InOrder}
 
 -- the left sides of table 1, apart from who may read
 pub data Left : Term → Type 0 where
@@ -124,12 +125,14 @@ flag tab i k is_less = inj (side_of is_less) k i (unit (top (side (side_of is_le
 -- whether a number is less, and for what is reckoned. A destructor
 -- at record `at` has an operand, and so a record after its own.
 pub record PartRoom (g s : Bytes) (at x : ℕ) (out : Writer) : Type 0 where
+  pub order : InOrder g
   pub part : Term
   pub stands : At s x part
   pub operand : at + 1 < record_count s
   pub room : Room (encode (protect (protection g s at) part)) out
 
 pub record BodyRoom (g s : Bytes) (at x y : ℕ) (out : Writer) : Type 0 where
+  pub order : InOrder g
   pub body : Term
   pub value : Term
   pub at_body : At s x body
@@ -139,6 +142,7 @@ pub record BodyRoom (g s : Bytes) (at x y : ℕ) (out : Writer) : Type 0 where
   pub room : Room (encode (protect (protection g s at) (subst 0 value body))) out
 
 pub record RaisedRoom (g s : Bytes) (at : ℕ) (out : Writer) : Type 0 where
+  pub order : InOrder g
   pub value : Term
   pub stands : At s (at + 1) value
   pub is_one : So (is_value value)
@@ -161,12 +165,14 @@ pub record FlagRoom (t : Bytes) (i : ℕ) (k : Property) (is_less : Bool) (out :
   pub room : Room (encode (flag (type_at t) i k is_less)) out
 
 pub record ReckonedRoom (g t s : Bytes) (at : ℕ) (out : Writer) : Type 0 where
+  pub order : InOrder g
   pub literals : Literals s at
   pub sides : (i : ℕ) → literals.operation ≡ less i → Sides t i
   pub room : Room (encode (reckoning g t literals)) out
 
 -- a redex with its plan stands at record `at`, and there is room for its contractum
 pub record Fit (g t s : Bytes) (at : ℕ) (p : Plan) (out : Writer) : Type 0 where
+  pub order : InOrder g
   pub ready : Ready s at p
   pub contracts : fate (properties_of g) (type_at t) ready.tree ≡ goes
   pub table : type_count t ≤ table_limit

@@ -12,17 +12,19 @@ ghost use Rattle.rules.specs.Limits.{script_width};
 ghost use Rattle.rules.specs.Groups.{properties_of};
 ghost use Rattle.rules.specs.Types.{type_at};
 ghost use Rattle.rules.specs.Script.{records as record_count, encode};
-ghost use Rattle.lattice.specs.Said.{said_property};
+ghost use Rattle.calculus.specs.Numbers.{of_both};
+ghost use Rattle.lattice.specs.Said.{said_property, said_influence};
 ghost use Rattle.records.specs.Kinds as kinds;
 ghost use Rattle.records.specs.Numbers.{kind_number};
 ghost use Rattle.records.specs.Labels.{influence_at};
 ghost use Rattle.records.specs.Place.{At, Here};
 ghost use Rattle.redex.specs.Fates.{only_reader, contractum};
 ghost use Rattle.memory.specs.Written.{Room, Written};
+ghost use Rattle.contraction.specs.Order.{InOrder, up_to};
 ghost use Rattle.contraction.specs.Plans.{Fires, Branches, Planned, Ready, Measures, Both, Recursive, Literals, PartRoom, BodyRoom, RaisedRoom};
 ghost use Rattle.contraction.specs.Plans.{protection, protect_record, UnrolledRoom, reckoning, flag, FlagRoom, ReckonedRoom, Fit};
 
-use lattice::{Creator, Indirect, IndirectCreator, Property, Reader};
+use lattice::{Creator, Indirect, IndirectCreator, Influence, Property, ROW_WIDTH, Reader};
 use memory::Writer;
 use records::{Kind, SCRIPT_WIDTH};
 use substitution::Size;
@@ -148,6 +150,43 @@ fn term_bytes(script: &[u8], i: usize) -> &[u8]
     records::part(script, i, records::end_of(script, i))
 }
 
+// The rows of groups 0 to g. No later group is below g, so a search for a meet with g finds in them what it finds in the whole table.
+fn up_to(groups: &[u8], g: u8) -> &[u8]
+    ensures { result.now ≡ up_to groups.now g }
+{
+    let end = ROW_WIDTH * (usize::from(g) + 1);
+    &groups[..end.min(groups.len())]
+}
+
+// What a reading by this group leaves on its result.
+fn influence(groups: &[u8], read: Property, reader: Reader) -> Influence
+    requires { InOrder groups.now }
+    ensures { said_influence result ≡ (properties_of groups.now).influence (said_property read) reader.0 }
+{
+    let met = read.ic.0.min(reader.0);
+    read.influence(up_to(groups, met), reader)
+}
+
+// κ • (ir, ic). The rows reach to each group that is joined and to the lower of any two that meet.
+fn raised(groups: &[u8], own: Property, by: Influence) -> Property
+    requires { InOrder groups.now }
+    ensures { said_property result ≡ (properties_of groups.now).raise (said_property own) (said_influence by) }
+{
+    let joined = own.r.0.max(own.ir.0).max(by.ir.0);
+    let met = by.ic.0.min(own.c.0.max(own.ic.0));
+    own.raised(up_to(groups, joined.max(met)), by)
+}
+
+// What reckoning by this group gives of operands of these properties.
+fn reckoned(groups: &[u8], left: Property, right: Property, reader: Reader) -> Property
+    requires { InOrder groups.now }
+    ensures { said_property result ≡ of_both (properties_of groups.now) reader.0 (said_property left) (said_property right) }
+{
+    let joined = left.ir.0.max(right.ir.0);
+    let met = reader.0.min(left.ic.0.max(right.ic.0));
+    left.reckoned_with(up_to(groups, joined.max(met)), right, reader)
+}
+
 // The groups of a record that names a reader only.
 fn only_reader(r: Reader) -> Property
     ensures { said_property result ≡ only_reader r.0 }
@@ -162,11 +201,11 @@ fn only_reader(r: Reader) -> Property
 
 // The protect that a step leaves: what the destructor at record `at` leaves on its result when it reads the object after it.
 pub fn protect_record(groups: &[u8], script: &[u8], at: usize) -> [u8; SCRIPT_WIDTH]
-    requires { at + 1 < record_count script.now }
+    requires { InOrder groups.now × (at + 1 < record_count script.now) }
     ensures { result ≡ protect_record (protection groups.now script.now at) }
 {
     let read = records::property(script, at + 1);
-    let left = read.influence(groups, records::reader(script, at));
+    let left = influence(groups, read, records::reader(script, at));
     let property = Property {
         r: Reader(0),
         ir: left.ir,
@@ -178,7 +217,8 @@ pub fn protect_record(groups: &[u8], script: &[u8], at: usize) -> [u8; SCRIPT_WI
 
 // That protect, written.
 fn write_protect(groups: &[u8], script: &[u8], at: usize, out: &mut Writer)
-    requires { (at + 1 < record_count script.now) × Room (protect_record (protection groups.now script.now at)) out.old }
+    requires { InOrder groups.now × (at + 1 < record_count script.now)
+        × Room (protect_record (protection groups.now script.now at)) out.old }
     ensures { Written (protect_record (protection groups.now script.now at)) out.old out.new }
 {
     out.put(&protect_record(groups, script, at));
@@ -209,13 +249,13 @@ fn write_body(groups: &[u8], script: &[u8], at: usize, body: usize, value: usize
 
 // The own record of the value at record `at` + 1, raised by the protect at record `at`.
 pub fn raised_record(groups: &[u8], script: &[u8], at: usize) -> [u8; SCRIPT_WIDTH]
-    requires { Here script.now (at + 1) }
+    requires { InOrder groups.now × Here script.now (at + 1) }
     ensures { (v : Term) → At script.now (at + 1) v → So (is_value v)
         → encode (raise_value (properties_of groups.now) v (influence_at script.now at)) ≡ result ++ drop script_width (encode v) }
 {
     let x = at + 1;
     let by = records::influence(script, at);
-    let raised = records::property(script, x).raised(groups, by);
+    let raised = raised(groups, records::property(script, x), by);
     let kind = records::kind_of(script, x);
     let number = records::number(script, x);
     records::record(kind, raised, number)
@@ -306,7 +346,7 @@ fn write_reckoned(groups: &[u8], types: &[u8], script: &[u8], at: usize, out: &m
     let reader = records::reader(script, at);
     let left = records::property(script, first);
     let right = records::property(script, second);
-    let property = left.reckoned_with(groups, right, reader);
+    let property = reckoned(groups, left, right, reader);
     let m = records::number(script, first);
     let n = records::number(script, second);
     match records::kind_of(script, at) {

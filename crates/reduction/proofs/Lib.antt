@@ -1,3 +1,4 @@
+pub mod Order
 pub mod Starts
 pub mod Splices
 pub mod Ends

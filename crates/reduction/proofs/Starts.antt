@@ -26,12 +26,15 @@ use Rattle.records.specs.Place.{At}
 use Rattle.records.proofs.Stands.{there}
 use Rattle.records.proofs.Made.{own_record}
 use Rattle.types.specs.Held.{type_property}
+use Rattle.contraction.specs.Order.{InOrder}
 use Rattle.contraction.specs.Plans.{Sides}
 use Rattle.reduction.specs.Steps.{Startable}
+use Rattle.reduction.proofs.Order.{in_order}
 
 pub record Started (g t s : Bytes) : Type 0 where
   pub types : types_check g t ≡ accepted tt
   pub tables : Tables g t
+  pub order : InOrder g
   pub table : type_count t ≤ table_limit
   pub encoded : encode (term s) ≡ s
   pub fit : Fit g t (term s)
@@ -52,9 +55,11 @@ types_named rooms g t s h =
 pub passed_started : (rooms : List ℕ) (g t s : Bytes) → Octets g → Octets s → script_check rooms g t s ≡ accepted tt → Started g t s
 passed_started rooms g t s p o h =
     let q = script_passed rooms g t s o h in
+    let X = tables g t p q.types in
     record {
       types = q.types;
-      tables = tables g t p q.types;
+      tables = X;
+      order = in_order g X.lattice;
       table = table_small g t q.types;
       encoded = q.encoded;
       fit = q.fit;

@@ -64,6 +64,7 @@ module _ {g t s : Bytes} {at : ℕ} {plan : Plan} {E : Context} {e : Term} (q : 
 
   abbrev pub fit : (out : Writer) → Room (encode part) out → Fit g t s at plan out
   fit out room = record {
+    order = starts.order;
     ready = ready;
     contracts = q.goes;
     table = starts.table;

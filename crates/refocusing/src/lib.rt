@@ -17,6 +17,7 @@ ghost use Rattle.records.specs.Place.{At};
 ghost use Rattle.records.specs.Labels.{influence_at};
 ghost use Rattle.redex.specs.Contexts.{offset, level};
 ghost use Rattle.redex.specs.Fates.{ready, contractum};
+ghost use Rattle.contraction.specs.Order.{InOrder};
 ghost use Rattle.contraction.specs.Plans.{protection};
 ghost use Rattle.refocusing.specs.Focus.{Standing, Turning, Stands, left_to_do, Advances, Settled};
 ghost use Rattle.refocusing.specs.Contracted.{why_not, Contracting, Foremost, Ahead as WrittenAhead};
@@ -137,7 +138,8 @@ fn write_ahead(
 
 // The value that the protect at record `at` raises, where it lies: it moves up to the protect's place, and is passed already.
 fn raise(groups: &[u8], at: usize, point: Point, a: &mut [u8]) -> Point
-    requires { ((v : Term) × At a.old (at + 1) v × So (is_value v) × (at + 1 + size v ≡ point.left)) × (point.steps + 1 < 2 ^ 64) }
+    requires { ((v : Term) × At a.old (at + 1) v × So (is_value v) × (at + 1 + size v ≡ point.left)) × (point.steps + 1 < 2 ^ 64)
+        × InOrder groups.now }
     ensures { (v : Term) → At a.old (at + 1) v → So (is_value v) → at + 1 + size v ≡ point.left
         → (result.left + 1 ≡ point.left) × (result.right ≡ point.right) × (result.steps ≡ point.steps + 1)
         × (a.new ≡ splice (script_width * at)
@@ -162,7 +164,8 @@ fn raise(groups: &[u8], at: usize, point: Point, a: &mut [u8]) -> Point
 // The component at record `part` that the projection at record `at` takes, where it lies: it moves up behind the protect that stands
 // in the projection's place, whose turn it is.
 fn project(groups: &[u8], at: usize, part: usize, point: Point, a: &mut [u8]) -> Point
-    requires { ((v : Term) × At a.old part v × (at + 1 + size v ≤ record_count a.old)) × (point.steps + 1 < 2 ^ 64) }
+    requires { ((v : Term) × At a.old part v × (at + 1 + size v ≤ record_count a.old)) × (point.steps + 1 < 2 ^ 64)
+        × InOrder groups.now }
     ensures { (v : Term) → At a.old part v → at + 1 + size v ≤ record_count a.old
         → (result.left ≡ at + 1 + size v) × (result.right ≡ point.right) × (result.steps ≡ point.steps + 1)
         × (a.new ≡ splice (script_width * at) (encode (protect (protection groups.now a.old at) v)) a.old) }

@@ -77,7 +77,7 @@ kind_of-requires c = here c.requires.literals.stands
 pub put-requires : goal.put-requires
 put-requires c =
     let q = c.requires in
-    let own = own_is q c.reader-reader.ensures c.property-left.ensures c.property-right.ensures c.reckoned_with-property.ensures in
+    let own = own_is q c.reader-reader.ensures c.property-left.ensures c.property-right.ensures c.reckoned-property.ensures in
     let plus = is_plus q.literals.stands c.kind_of.ensures c.in-Sum.is in
     let h = total_bytes q plus c.record.ensures c.saturating_add.ensures own c.number-m.ensures c.number-n.ensures in
     transport (λ (b : Bytes). Room b c.args.out.now) h q.room
@@ -88,7 +88,7 @@ number-requires c = node_there c.requires.literals
 pub write_flag-requires : goal.write_flag-requires
 write_flag-requires c =
     let q = c.requires in
-    let own = own_is q c.reader-reader.ensures c.property-left.ensures c.property-right.ensures c.reckoned_with-property.ensures in
+    let own = own_is q c.reader-reader.ensures c.property-left.ensures c.property-right.ensures c.reckoned-property.ensures in
     let less = is_less q.literals.stands c.kind_of.ensures c.in_default.not-Sum in
     let h = flag_is q less.1 c.number.ensures own c.number-m.ensures c.number-n.ensures in
     record {
@@ -98,13 +98,13 @@ write_flag-requires c =
 
 pub returns-in-Sum : goal.returns-in-Sum
 returns-in-Sum c q =
-    let own = own_is q c.reader-reader.ensures c.property-left.ensures c.property-right.ensures c.reckoned_with-property.ensures in
+    let own = own_is q c.reader-reader.ensures c.property-left.ensures c.property-right.ensures c.reckoned-property.ensures in
     let plus = is_plus q.literals.stands c.kind_of.ensures c.in-Sum.is in
     let h = total_bytes q plus c.record.ensures c.saturating_add.ensures own c.number-m.ensures c.number-n.ensures in
     transport (λ (b : Bytes). Written b c.args.out.now c.put.new.self) (sym h) c.put.ensures
 
 pub returns-in_default : goal.returns-in_default
 returns-in_default c q =
-    let own = own_is q c.reader-reader.ensures c.property-left.ensures c.property-right.ensures c.reckoned_with-property.ensures in
+    let own = own_is q c.reader-reader.ensures c.property-left.ensures c.property-right.ensures c.reckoned-property.ensures in
     let less = is_less q.literals.stands c.kind_of.ensures c.in_default.not-Sum in
     renamed (flag_is q less.1 c.number.ensures own c.number-m.ensures c.number-n.ensures) c.write_flag.ensures

@@ -53,6 +53,7 @@ module _ {g t s : Bytes} {room : ℕ} {n : NextStep} (q : Placing g t s room n) 
 
   abbrev fit : (out : Writer) → Room (encode new ++ after q.site.context) out → Fit g t s n.place n.plan out
   fit out r = record {
+    order = (started q.start).order;
     ready = record {
       tree = q.site.redex;
       stands = redex_at (started q.start) q.site;

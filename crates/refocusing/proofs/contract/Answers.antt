@@ -14,6 +14,7 @@ use Rattle.records.specs.Place.{At}
 use Rattle.redex.specs.Fates.{goes, ready, fate}
 use Rattle.contraction.proofs.Plans.{part_plan}
 use Rattle.contraction.proofs.Rooms.{planned_as}
+use Rattle.reduction.proofs.Starts.{started}
 use Rattle.refocusing.specs.declared.Point.{Point}
 use Rattle.refocusing.specs.Focus.{goes_on, has_ended}
 use Rattle.refocusing.specs.Contracted.{why_not, Ahead, comes_next, too_big}
@@ -69,7 +70,7 @@ raise-requires c =
     let l : c.args.point.steps < c.args.budget = omega (arith, q.stands.reached.made, c.if-point-budget.false) in
     let f = contracts (goal.at.raise-requires c).In_default q.term (lies_left q.stands.gap q.at_is) q.turn in
     let v = lift q.stands q.turn f l q.at_is (planned_as c.in-Raised.is (c.plan_of.ensures (fires q.stands q.turn f l q.at_is))) in
-    ((v.value, v.stands, v.is_one, omega (arith, v.small, ends_at_gap q.stands q.turn f l q.at_is)), omega (arith, l))
+    ((v.value, v.stands, v.is_one, omega (arith, v.small, ends_at_gap q.stands q.turn f l q.at_is)), omega (arith, l), (started q.stands.reached.start).order)
 
 pub project-requires : goal.project-requires
 project-requires c =
@@ -77,7 +78,7 @@ project-requires c =
     let l : c.args.point.steps < c.args.budget = omega (arith, q.stands.reached.made, c.if-point-budget.false) in
     let f = contracts (goal.at.project-requires c).In_default q.term (lies_left q.stands.gap q.at_is) q.turn in
     let v = part_plan (planned_as c.in-Part.is (c.plan_of.ensures (fires q.stands q.turn f l q.at_is))) in
-    ((v.part, v.stands, omega (arith, v.small, ends_at_gap q.stands q.turn f l q.at_is, q.stands.gap.inside_a)), omega (arith, l))
+    ((v.part, v.stands, omega (arith, v.small, ends_at_gap q.stands q.turn f l q.at_is, q.stands.gap.inside_a)), omega (arith, l), (started q.stands.reached.start).order)
 
 pub write_ahead-requires : goal.write_ahead-requires
 write_ahead-requires c =

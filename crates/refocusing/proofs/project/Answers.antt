@@ -11,7 +11,7 @@ use Rattle.refocusing.proofs.Shifts.{moved_behind, protect_bytes}
 use Rattle.refocusing.proofs.project.Goals as goal
 
 pub protect_record-own-requires : goal.protect_record-own-requires
-protect_record-own-requires c = let q = c.requires.0 in omega (arith, q.2, size_from q.0)
+protect_record-own-requires c = let q = c.requires.0 in (c.requires.2, omega (arith, q.2, size_from q.0))
 
 pub overflow_mul-part : goal.overflow_mul-part
 overflow_mul-part c = let q = c.requires.0 in omega (arith, room _ _ _ q.1)
