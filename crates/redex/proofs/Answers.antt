@@ -22,7 +22,7 @@ use Rattle.records.specs.Operands.{first_operand, second_operand}
 use Rattle.redex.specs.Found.{answer, is_destructor, is_reckoning, Reckons, takes_apart}
 use Rattle.records.proofs.Made.{number_at}
 use Rattle.redex.proofs.Places.{reader_at}
-use Rattle.redex.proofs.Forms.{recursion_turn, destructor_operand, reading_is, reckoning_is}
+use Rattle.redex.proofs.Forms.{recursion_fate, destructor_operand, reading_is, reckoning_is}
 
 -- a type is a function by its first byte
 made_function : (k : ℕ) (p : Property) (s t : Ty) → eqb k 3 ≡ is_function (make_type k p s t)
@@ -107,7 +107,7 @@ module _ {s : Bytes} {i : ℕ} {e : Term} (a : At s i e) where
   recursion_answer S t n d b h p q =
       ap (λ x. answer x i d)
       (ap (λ x. cond x goes wrong_kind) (sym q) ∙ ap (λ m. cond (is_function (type_at t m)) goes wrong_kind) (p ∙ number_at a)
-      ∙ sym (recursion_turn S (type_at t) e (sym (stands_kind s i e a) ∙ h)).1)
+      ∙ sym (recursion_fate S (type_at t) e (sym (stands_kind s i e a) ∙ h)))
 
   -- of a destructor, by its own record and that of the operand after it
   pub reading_answer : (g : Bytes) (tab : ℕ → Ty) (d : ℕ) (fits may : Bool) → So (is_destructor (kind s i))

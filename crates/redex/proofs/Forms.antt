@@ -52,7 +52,7 @@ first_position (reckon o w a b) v m h = record { context = reckon_left o w hole 
 pub record Second (e : Term) : Type 0 where
   pub position : Position e (second_operand e) (1 + size (first_operand e)) 1
   pub sizes : size e ≡ 1 + (size (first_operand e) + size (second_operand e))
-  pub applies : (kind_of e ≡ kinds.pair → ⊥) → (kind_of e ≡ kinds.sum → ⊥) → (kind_of e ≡ kinds.less → ⊥) → kind_of e ≡ kinds.application
+  pub turns : (kind_of e ≡ kinds.pair → ⊥) → So (is_value (second_operand e)) → So (ready e)
 
 -- no injection, no destructor of one operand and no protect
 abbrev pub Twofold : Term → Type 0
@@ -61,16 +61,16 @@ Twofold e =
     × (kind_of e ≡ kinds.second_projection → ⊥) × (kind_of e ≡ kinds.case → ⊥) × (kind_of e ≡ kinds.protect → ⊥)
 
 pub second_position : (e : Term) → Evaluates e → Twofold e → So (is_value (first_operand e)) → Second e
-unfolding plug offset level size
+unfolding plug offset level size ready
 second_position (var n) v h w = absurd (v.0 refl)
 second_position (unit k) v h w = absurd (v.1 refl)
 second_position (lam k i e) v h w = absurd (v.3 refl)
 second_position (pair k a b) v h w =
-    record { position = record { context = pair_right k a w hole; whole = refl; under = refl; from = omega arith }; sizes = refl; applies = λ p s l. absurd (p refl) }
+    record { position = record { context = pair_right k a w hole; whole = refl; under = refl; from = omega arith }; sizes = refl; turns = λ p z. absurd (p refl) }
 second_position (inj first k i e) v h w = absurd (h.0 refl)
 second_position (inj second k i e) v h w = absurd (h.1 refl)
 second_position (app u f a) v h w =
-    record { position = record { context = app_right u f w hole; whole = refl; under = refl; from = omega arith }; sizes = refl; applies = λ p s l. refl }
+    record { position = record { context = app_right u f w hole; whole = refl; under = refl; from = omega arith }; sizes = refl; turns = λ p z. both w z }
 second_position (proj first u e) v h w = absurd (h.2 refl)
 second_position (proj second u e) v h w = absurd (h.3 refl)
 second_position (case u i e a b) v h w = absurd (h.4 refl)
@@ -78,9 +78,9 @@ second_position (protect m e) v h w = absurd (h.5 refl)
 second_position (mu u i e) v h w = absurd (v.4 refl)
 second_position (literal k n) v h w = absurd (v.2 refl)
 second_position (reckon plus u a b) v h w =
-    record { position = record { context = reckon_right plus u a w hole; whole = refl; under = refl; from = omega arith }; sizes = refl; applies = λ p s l. absurd (s refl) }
+    record { position = record { context = reckon_right plus u a w hole; whole = refl; under = refl; from = omega arith }; sizes = refl; turns = λ p z. both w z }
 second_position (reckon (less i) u a b) v h w =
-    record { position = record { context = reckon_right (less i) u a w hole; whole = refl; under = refl; from = omega arith }; sizes = refl; applies = λ p s l. absurd (l refl) }
+    record { position = record { context = reckon_right (less i) u a w hole; whole = refl; under = refl; from = omega arith }; sizes = refl; turns = λ p z. both w z }
 
 -- the kinds of values; two of them have no operands
 abbrev pub IsAlone : ℕ → Type 0
@@ -138,24 +138,18 @@ pub reckoned_operands : (e : Term) → So (is_reckoning (kind_of e)) → 2 ≤ o
 reckoned_operands e h = reckoned_form (λ x. 2 ≤ operands x) e h (λ o w a b. omega arith)
 
 -- nodes whose own turn it is, and their fate
-pub variable_turn : (S : Security) (tab : ℕ → Ty) (e : Term) → kind_of e ≡ kinds.variable → So (ready e) × (fate S tab e ≡ wrong_kind)
-unfolding ready fate
-variable_turn S tab e h = by_kind (λ x. So (ready x) × (fate S tab x ≡ wrong_kind)) kinds.variable e h (refl, refl)
-
-pub protect_goes : (S : Security) (tab : ℕ → Ty) (e : Term) → kind_of e ≡ kinds.protect → fate S tab e ≡ goes
+pub variable_fate : (S : Security) (tab : ℕ → Ty) (e : Term) → kind_of e ≡ kinds.variable → fate S tab e ≡ wrong_kind
 unfolding fate
-protect_goes S tab e h = by_kind (λ x. fate S tab x ≡ goes) kinds.protect e h refl
+variable_fate S tab e h = by_kind (λ x. fate S tab x ≡ wrong_kind) kinds.variable e h refl
 
-pub protect_turn : (e : Term) → kind_of e ≡ kinds.protect → So (is_value (first_operand e)) → So (ready e)
-unfolding ready
-protect_turn e h = by_kind (λ x. So (is_value (first_operand x)) → So (ready x)) kinds.protect e h (λ v. v)
+pub protect_fate : (S : Security) (tab : ℕ → Ty) (e : Term) → kind_of e ≡ kinds.protect → fate S tab e ≡ goes
+unfolding fate
+protect_fate S tab e h = by_kind (λ x. fate S tab x ≡ goes) kinds.protect e h refl
 
-pub recursion_turn : (S : Security) (tab : ℕ → Ty) (e : Term) → kind_of e ≡ kinds.recursion
-    → So (ready e) × (fate S tab e ≡ cond (is_function (tab (number_of e))) goes wrong_kind)
-unfolding ready fate
-recursion_turn S tab e h =
-    by_kind (λ x. So (ready x) × (fate S tab x ≡ cond (is_function (tab (number_of x))) goes wrong_kind)) kinds.recursion e h
-    (refl, rw (two_bytes (number_of e)))
+pub recursion_fate : (S : Security) (tab : ℕ → Ty) (e : Term) → kind_of e ≡ kinds.recursion → fate S tab e ≡ cond (is_function (tab (number_of e))) goes wrong_kind
+unfolding fate
+recursion_fate S tab e h =
+    by_kind (λ x. fate S tab x ≡ cond (is_function (tab (number_of x))) goes wrong_kind) kinds.recursion e h (rw (two_bytes (number_of e)))
 
 -- the only node whose turn it is by no other kind
 pub variable_left : (e : Term) → So (ready e) → (kind_of e ≡ kinds.protect → ⊥) → (kind_of e ≡ kinds.recursion → ⊥) → (kind_of e ≡ kinds.sum → ⊥)
@@ -177,15 +171,6 @@ variable_left (literal k n) h m r s l a p q c = absurd (false≢true h)
 variable_left (reckon plus w e f) h m r s l a p q c = absurd (s refl)
 variable_left (reckon (less i) w e f) h m r s l a p q c = absurd (l refl)
 
-pub application_turn : (e : Term) → kind_of e ≡ kinds.application → So (is_value (first_operand e)) → So (is_value (second_operand e)) → So (ready e)
-unfolding ready
-application_turn e h =
-    by_kind (λ x. So (is_value (first_operand x)) → So (is_value (second_operand x)) → So (ready x)) kinds.application e h both
-
-pub reckoning_turn : (e : Term) → So (is_reckoning (kind_of e)) → So (is_value (first_operand e)) → So (is_value (second_operand e)) → So (ready e)
-unfolding ready
-reckoning_turn e h = reckoned_form (λ x. So (is_value (first_operand x)) → So (is_value (second_operand x)) → So (ready x)) e h (λ o w a b. both)
-
 pub application_reads : So (is_destructor kinds.application)
 unfolding is_destructor
 application_reads = refl
@@ -200,11 +185,22 @@ one_reads n (inl h) = rw h
 one_reads n (inr (inl h)) = rw h
 one_reads n (inr (inr h)) = rw h
 
-pub destructor_turn : (e : Term) → ReadsOne (kind_of e) → So (is_value (first_operand e)) → So (ready e)
+-- Of a node whose one evaluated operand is a value it is the turn,
+abbrev pub OfOne : ℕ → Type 0
+OfOne n = (n ≡ kinds.protect) ⊎ ReadsOne n
+
+pub one_turn : (e : Term) → OfOne (kind_of e) → So (is_value (first_operand e)) → So (ready e)
 unfolding ready
-destructor_turn e (inl h) = by_kind (λ x. So (is_value (first_operand x)) → So (ready x)) kinds.first_projection e h (λ v. v)
-destructor_turn e (inr (inl h)) = by_kind (λ x. So (is_value (first_operand x)) → So (ready x)) kinds.second_projection e h (λ v. v)
-destructor_turn e (inr (inr h)) = by_kind (λ x. So (is_value (first_operand x)) → So (ready x)) kinds.case e h (λ v. v)
+one_turn e (inl h) = by_kind (λ x. So (is_value (first_operand x)) → So (ready x)) kinds.protect e h (λ v. v)
+one_turn e (inr (inl h)) = by_kind (λ x. So (is_value (first_operand x)) → So (ready x)) kinds.first_projection e h (λ v. v)
+one_turn e (inr (inr (inl h))) = by_kind (λ x. So (is_value (first_operand x)) → So (ready x)) kinds.second_projection e h (λ v. v)
+one_turn e (inr (inr (inr h))) = by_kind (λ x. So (is_value (first_operand x)) → So (ready x)) kinds.case e h (λ v. v)
+
+-- and of one that evaluates none and is no value.
+pub lone_turn : (e : Term) → (kind_of e ≡ kinds.variable) ⊎ (kind_of e ≡ kinds.recursion) → So (ready e)
+unfolding ready
+lone_turn e (inl h) = by_kind (λ x. So (ready x)) kinds.variable e h refl
+lone_turn e (inr h) = by_kind (λ x. So (ready x)) kinds.recursion e h refl
 
 -- the kinds of what a function type, a pair type and a sum type have for values
 pub built_is : (e : Term) → (built_by function e ≡ eqb (kind_of e) kinds.function) × (built_by product e ≡ eqb (kind_of e) kinds.pair)

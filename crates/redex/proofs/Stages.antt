@@ -13,13 +13,14 @@ use Rattle.records.specs.Operands.{first_operand, second_operand}
 use Rattle.records.specs.Weight.{weight_at}
 use Rattle.records.proofs.Weights.{stands_weight}
 use Rattle.records.proofs.Stands.{kind_of, stands_kind}
-use Rattle.redex.specs.Found.{Finds, is_reckoning, Reckons}
+use Rattle.redex.specs.Fates.{ready}
+use Rattle.redex.specs.Found.{Finds}
 use Rattle.redex.specs.declared.Found.{Found}
 use Rattle.redex.specs.declared.Found.TheVariants.{Value}
 use Rattle.records.specs.Numbers.{kind_number}
 use Rattle.records.specs.declared.Kind.{Kind}
-use Rattle.records.specs.declared.Kind.TheVariants.{Variable, Unit, Function, Pair, FirstInjection, SecondInjection, FirstProjection, SecondProjection, Case, Protect, Recursion, Literal, Sum, Less}
-use Rattle.redex.proofs.Forms.{Position, Evaluates, first_position, Second, second_position, ReadsOne, IsAlone}
+use Rattle.records.specs.declared.Kind.TheVariants.{Variable, Unit, Function, Pair, FirstInjection, SecondInjection, FirstProjection, SecondProjection, Case, Protect, Recursion, Literal}
+use Rattle.redex.proofs.Forms.{Position, Evaluates, first_position, Second, second_position, OfOne, IsAlone}
 use Rattle.records.proofs.Numbered.{same_kind}
 use Rattle.redex.proofs.Searches.{found_value, position_at}
 
@@ -39,6 +40,11 @@ kind_read {e = e} is a h = sym (is ∙ stands_kind _ _ e a) ∙ ap kind_number h
 pub alone_read : {s : Bytes} {i : ℕ} {k : Kind} {e : Term} → kind_number k ≡ kind s i → At s i e → (k ≡ Unit) ⊎ (k ≡ Literal) → IsAlone (kind_of e)
 alone_read is a (inl h) = inl (kind_read is a h)
 alone_read is a (inr h) = inr (kind_read is a h)
+
+pub lone_read : {s : Bytes} {i : ℕ} {k : Kind} {e : Term} → kind_number k ≡ kind s i → At s i e → (k ≡ Variable) ⊎ (k ≡ Recursion)
+    → (kind_of e ≡ kinds.variable) ⊎ (kind_of e ≡ kinds.recursion)
+lone_read is a (inl h) = inl (kind_read is a h)
+lone_read is a (inr h) = inr (kind_read is a h)
 
 pub opened : {s : Bytes} {i : ℕ} {k : Kind} {e : Term} → kind_number k ≡ kind s i → (k ≡ Variable → ⊥) → (k ≡ Unit → ⊥) → (k ≡ Literal → ⊥) → (k ≡ Function → ⊥)
     → (k ≡ Recursion → ⊥) → At s i e → Opened s i k e
@@ -60,19 +66,16 @@ module _ {s : Bytes} {i : ℕ} {k : Kind} {e : Term} (o : Opened s i k e) where
   pub is_kind : {l : Kind} → k ≡ l → kind_of e ≡ kind_number l
   is_kind h = sym o.kind_is ∙ ap kind_number h
 
-  -- an injection, and a destructor of one operand
+  -- an injection, and what has one evaluated operand and is no value
   pub injects : (k ≡ FirstInjection) ⊎ (k ≡ SecondInjection) → So (kinds.is_injection (kind_of e))
   injects (inl h) = rw (is_kind h)
   injects (inr h) = rw (is_kind h)
 
-  pub reads_one : (k ≡ FirstProjection) ⊎ ((k ≡ SecondProjection) ⊎ (k ≡ Case)) → ReadsOne (kind_of e)
-  reads_one (inl h) = inl (is_kind h)
-  reads_one (inr (inl h)) = inr (inl (is_kind h))
-  reads_one (inr (inr h)) = inr (inr (is_kind h))
-
-  pub reckons : (k ≡ Sum) ⊎ (k ≡ Less) → So (is_reckoning (kind_of e))
-  reckons (inl h) = rw (is_kind h)
-  reckons (inr h) = rw (is_kind h)
+  pub of_one : (k ≡ Protect) ⊎ ((k ≡ FirstProjection) ⊎ ((k ≡ SecondProjection) ⊎ (k ≡ Case))) → OfOne (kind_of e)
+  of_one (inl h) = inl (is_kind h)
+  of_one (inr (inl h)) = inr (inl (is_kind h))
+  of_one (inr (inr (inl h))) = inr (inr (inl (is_kind h)))
+  of_one (inr (inr (inr h))) = inr (inr (inr (is_kind h)))
 
   pub first_at : At s (i + 1) (first_operand e)
   first_at = position_at _ (first_position e o.evaluates _ refl) o.stands refl
@@ -106,18 +109,6 @@ module _ {s : Bytes} {i : ℕ} {k : Kind} {next : ℕ} {e : Term} (f : FirstValu
   pub second_at : Second e → At s next (second_operand e)
   second_at x = position_at _ x.position f.own.stands (omega (arith, f.ends))
 
-  -- a sum or a comparison
-  pub reckoning_at : Second e → (k ≡ Sum) ⊎ (k ≡ Less) → Reckons s i next e
-  reckoning_at x h =
-      record {
-        at = f.own.stands;
-        reckons = rw (stands_kind s i e f.own.stands) (reckons f.own h);
-        left = first_at f.own;
-        right = second_at x;
-      }
-
-  -- what is no pair, no sum and no comparison
-  pub applies : Second e → (k ≡ Pair → ⊥) → (k ≡ Sum → ⊥) → (k ≡ Less → ⊥) → kind_of e ≡ kinds.application
-  applies x p q c =
-      let is = f.own.kind_is in
-      x.applies (λ h. p (same_kind k Pair (is ∙ h))) (λ h. q (same_kind k Sum (is ∙ h))) (λ h. c (same_kind k Less (is ∙ h)))
+  -- no pair, with two values as operands
+  pub both_turn : Second e → (k ≡ Pair → ⊥) → So (is_value (second_operand e)) → So (ready e)
+  both_turn x p = x.turns (λ h. p (same_kind k Pair (f.own.kind_is ∙ h)))

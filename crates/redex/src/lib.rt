@@ -166,10 +166,9 @@ pub fn find(groups: &[u8], types: &[u8], script: &[u8], at: usize, depth: usize)
 {
     let kind = records::kind_of(script, at);
     match kind {
-        Kind::Variable => return Found::Stuck,
         Kind::Unit | Kind::Literal => return Found::Value(at + 1),
         Kind::Function => return Found::Value(records::end_of(script, at)),
-        Kind::Recursion => return unrolling(types, script, at, depth),
+        Kind::Variable | Kind::Recursion => return turn(groups, types, script, at, depth),
         _ => {}
     }
     let inside = depth + records::weight(script, at);
@@ -179,14 +178,8 @@ pub fn find(groups: &[u8], types: &[u8], script: &[u8], at: usize, depth: usize)
     };
     match kind {
         Kind::FirstInjection | Kind::SecondInjection => return first,
-        Kind::Protect => {
-            return Found::Redex {
-                place: at,
-                around: depth,
-            };
-        }
-        Kind::FirstProjection | Kind::SecondProjection | Kind::Case => {
-            return reading(groups, script, at, depth);
+        Kind::Protect | Kind::FirstProjection | Kind::SecondProjection | Kind::Case => {
+            return turn(groups, types, script, at, depth);
         }
         _ => {}
     }
@@ -196,7 +189,6 @@ pub fn find(groups: &[u8], types: &[u8], script: &[u8], at: usize, depth: usize)
     };
     match kind {
         Kind::Pair => Found::Value(end),
-        Kind::Sum | Kind::Less => reckoning(groups, script, at, next, depth),
-        _ => reading(groups, script, at, depth),
+        _ => turn(groups, types, script, at, depth),
     }
 }

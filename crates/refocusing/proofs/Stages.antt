@@ -2,8 +2,7 @@
 -- passed as it is, and then it is a value or it is its turn.
 use Rattle.std.proofs.Common.{◌≡◌, refl, sym, ap, subst, ◌∙◌, [], append-nil, ℕ, ◌+◌, ◌*◌, ◌≤◌, ◌<◌, ◌⊎◌, inl, inr, arith, length, Result, Ok, Err}
 use Rattle.std.proofs.Math.Bool.{So}
-use Rattle.calculus.specs.Terms.{first, second, Term, var, unit, lam, pair, inj, app, proj, case, protect, mu, literal, reckon, is_value}
-use Rattle.calculus.proofs.Booleans.{both}
+use Rattle.calculus.specs.Terms.{Term, is_value}
 use Rattle.calculus.specs.Reduction.{Context, plug}
 use Rattle.calculus.proofs.Contexts.{compose}
 use Rattle.rules.specs.Answer.{Bytes}
@@ -20,7 +19,7 @@ use Rattle.memory.specs.Splice.{splice}
 use Rattle.redex.specs.Contexts.{after, level}
 use Rattle.redex.specs.Fates.{ready}
 use Rattle.redex.proofs.Plugs.{compose_level}
-use Rattle.redex.proofs.Forms.{Position, Evaluates, Twofold, alone_value, function_value, destructor_turn}
+use Rattle.redex.proofs.Forms.{Position, alone_value, function_value, OfOne}
 use Rattle.redex.proofs.Stages.{kind_read, Opened, is_kind}
 use Rattle.records.specs.Numbers.{kind_number}
 use Rattle.records.specs.declared.Kind.{Kind}
@@ -109,14 +108,19 @@ ends_so {g} {t} {room} {budget} {whole} {E} {m} {a} {b} p q h =
     subst (λ r. Advances g t room budget whole E m a b r) (sym (p ∙ ap Err q)) (has_ended h)
 
 -- a node of one operand, and a case
-abbrev pub OfOne : ℕ → Type 0
-OfOne k = (k ≡ kinds.protect) ⊎ ((k ≡ kinds.first_projection) ⊎ (k ≡ kinds.second_projection))
+abbrev pub Unary : ℕ → Type 0
+Unary k = (k ≡ kinds.protect) ⊎ ((k ≡ kinds.first_projection) ⊎ (k ≡ kinds.second_projection))
 
-pub one_size : (e : Term) → OfOne (kind_of e) → size e ≡ 1 + size (first_operand e)
+pub unary_size : (e : Term) → Unary (kind_of e) → size e ≡ 1 + size (first_operand e)
 unfolding size
-one_size e (inl h) = by_kind (λ x. size x ≡ 1 + size (first_operand x)) kinds.protect e h refl
-one_size e (inr (inl h)) = by_kind (λ x. size x ≡ 1 + size (first_operand x)) kinds.first_projection e h refl
-one_size e (inr (inr h)) = by_kind (λ x. size x ≡ 1 + size (first_operand x)) kinds.second_projection e h refl
+unary_size e (inl h) = by_kind (λ x. size x ≡ 1 + size (first_operand x)) kinds.protect e h refl
+unary_size e (inr (inl h)) = by_kind (λ x. size x ≡ 1 + size (first_operand x)) kinds.first_projection e h refl
+unary_size e (inr (inr h)) = by_kind (λ x. size x ≡ 1 + size (first_operand x)) kinds.second_projection e h refl
+
+pub unary_of_one : {n : ℕ} → Unary n → OfOne n
+unary_of_one (inl h) = inl h
+unary_of_one (inr (inl h)) = inr (inl h)
+unary_of_one (inr (inr h)) = inr (inr (inl h))
 
 case_operands : (e : Term) → kind_of e ≡ kinds.case
     → (3 ≤ operands e) × (size e ≡ 1 + size (first_operand e) + size (second_operand e) + size (third_operand e))
@@ -130,35 +134,10 @@ lone_value is a (inl h) = (alone_value _ (inl (kind_read is a h))).0
 lone_value is a (inr (inl h)) = (alone_value _ (inr (kind_read is a h))).0
 lone_value is a (inr (inr h)) = function_value _ (kind_read is a h)
 
-pub of_one : {s : Bytes} {i : ℕ} {k : Kind} {e : Term} → Opened s i k e → (k ≡ Protect) ⊎ ((k ≡ FirstProjection) ⊎ (k ≡ SecondProjection)) → OfOne (kind_of e)
-of_one o (inl h) = inl (is_kind o h)
-of_one o (inr (inl h)) = inr (inl (is_kind o h))
-of_one o (inr (inr h)) = inr (inr (is_kind o h))
-
-pub one_turn : (e : Term) → OfOne (kind_of e) → So (is_value (first_operand e)) → So (ready e)
-unfolding ready
-one_turn e (inl h) = by_kind (λ x. So (is_value (first_operand x)) → So (ready x)) kinds.protect e h (λ v. v)
-one_turn e (inr (inl h)) = destructor_turn e (inl h)
-one_turn e (inr (inr h)) = destructor_turn e (inr (inl h))
-
--- a node whose second operand is its last, and which is no pair
-pub both_turn : (e : Term) → Evaluates e → Twofold e → (kind_of e ≡ kinds.pair → ⊥) → So (is_value (first_operand e)) → So (is_value (second_operand e))
-    → So (ready e)
-unfolding ready
-both_turn (var n) h w p = absurd (h.0 refl)
-both_turn (unit k) h w p = absurd (h.1 refl)
-both_turn (lam k i e) h w p = absurd (h.3 refl)
-both_turn (pair k a b) h w p = absurd (p refl)
-both_turn (inj first k i e) h w p = absurd (w.0 refl)
-both_turn (inj second k i e) h w p = absurd (w.1 refl)
-both_turn (app u f a) h w p = both
-both_turn (proj first u e) h w p = absurd (w.2 refl)
-both_turn (proj second u e) h w p = absurd (w.3 refl)
-both_turn (case u i e a b) h w p = absurd (w.4 refl)
-both_turn (protect m e) h w p = absurd (w.5 refl)
-both_turn (mu u i e) h w p = absurd (h.4 refl)
-both_turn (literal k n) h w p = absurd (h.2 refl)
-both_turn (reckon o u a b) h w p = both
+pub unary_read : {s : Bytes} {i : ℕ} {k : Kind} {e : Term} → Opened s i k e → (k ≡ Protect) ⊎ ((k ≡ FirstProjection) ⊎ (k ≡ SecondProjection)) → Unary (kind_of e)
+unary_read o (inl h) = inl (is_kind o h)
+unary_read o (inr (inl h)) = inr (inl (is_kind o h))
+unary_read o (inr (inr h)) = inr (inr (is_kind o h))
 
 -- the branches of a case
 pub record Branches (s : Bytes) (next : ℕ) (e : Term) : Type 0 where

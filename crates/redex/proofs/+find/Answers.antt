@@ -1,21 +1,19 @@
 -- An operand's place, depth and answer come from its position in the term.
-use Rattle.std.proofs.Common.{◌≡◌, ℕ, ◌+◌, refl, sym, ap, ◌∙◌, arith}
+use Rattle.std.proofs.Common.{◌≡◌, ℕ, ◌+◌, refl, arith}
 use Rattle.std.proofs.Math.Bool.{So}
 use Rattle.calculus.specs.Terms.{Term, is_value}
 use Rattle.rules.specs.Groups.{properties_of}
 use Rattle.rules.specs.Types.{type_at}
 use Rattle.rules.specs.Script.{size}
-use Rattle.records.specs.Kinds as kinds
 use Rattle.records.specs.Place.{At}
 use Rattle.records.specs.Operands.{first_operand, second_operand}
 use Rattle.records.proofs.Weights.{weights, stands_weight}
-use Rattle.records.proofs.Stands.{kind_of, there, stands_kind, here}
-use Rattle.redex.specs.Found.{finds_value, is_destructor}
+use Rattle.records.proofs.Stands.{there}
+use Rattle.redex.specs.Found.{finds_value}
 use Rattle.redex.proofs.Forms.{Second, alone_value, function_value, pair_value, injection_value}
-use Rattle.redex.proofs.Forms.{variable_turn, recursion_turn, protect_turn, protect_goes, application_turn, reckoning_turn, destructor_turn, application_reads, one_reads}
+use Rattle.redex.proofs.Forms.{one_turn, lone_turn}
 use Rattle.redex.proofs.Searches.{position_shallow, lift, fired}
-use Rattle.redex.proofs.Stages.{kind_read, alone_read, Opened, opened, is_kind, injects, reads_one, reckons, first_at, first_of, FirstValue, first_value, second_of, second_at, applies, reckoning_at, value_found}
-use Rattle.records.specs.Numbers.{kind_number}
+use Rattle.redex.proofs.Stages.{kind_read, alone_read, lone_read, Opened, opened, is_kind, injects, of_one, first_at, first_of, FirstValue, first_value, second_of, second_at, both_turn, value_found}
 use Rattle.redex.proofs.+find.Goals as goal
 use Rattle.redex.proofs.+find.Goals.{In_default, In-Value, In_default-kind, In-Value-second, In_default-kind-2}
 
@@ -38,16 +36,15 @@ module _ (t : ℕ) {e : Term} where
       → So (is_value (second_operand e)) × (c.in-Value-second.end ≡ c.in-Value.next + size (second_operand e))
   second_is c f x = value_found (c.find-second.ensures (second_operand e) (second_at f x)) c.in-Value-second.is
 
-  applied : (c : In_default-kind-2 t) → FirstValue c.args.script.now c.args.at c.kind_of-kind.result e c.in-Value.next → Second e
-      → kind_of e ≡ kinds.application
-  applied c f x = let d = c.in_default-kind-2 in applies f x d.not-Pair d.not-Sum d.not-Less
+pub turn-requires : goal.turn-requires
+turn-requires t c =
+    let q = c.requires in
+    record { tree = q.tree; stands = q.at; turn = lone_turn q.tree (lone_read c.kind_of-kind.ensures q.at c.in-Variable.is) }
 
 pub returns-in-Variable : goal.returns-in-Variable
 returns-in-Variable t c e a =
-    let S = properties_of c.args.groups.now in
-    let tab = type_at c.args.types.now in
-    let v = variable_turn S tab e (kind_read c.kind_of-kind.ensures a c.in-Variable.is) in
-    fired S tab _ _ e v.0 (rw v.1)
+    let h = lone_turn e (lone_read c.kind_of-kind.ensures a c.in-Variable.is) in
+    fired (properties_of c.args.groups.now) (type_at c.args.types.now) _ _ e h (c.turn.ensures e a h)
 
 pub returns-in-Unit : goal.returns-in-Unit
 returns-in-Unit t c e a =
@@ -58,16 +55,6 @@ returns-in-Unit t c e a =
 pub returns-in-Function : goal.returns-in-Function
 returns-in-Function t c e a =
     finds_value (function_value e (kind_read c.kind_of-kind.ensures a c.in-Function.is)) (c.end_of.ensures e a)
-
-pub unrolling-requires : goal.unrolling-requires
-unrolling-requires t c = there _ _ _ c.requires.at
-
-pub returns-in-Recursion : goal.returns-in-Recursion
-returns-in-Recursion t c e a =
-    let S = properties_of c.args.groups.now in
-    let tab = type_at c.args.types.now in
-    let v = recursion_turn S tab e (kind_read c.kind_of-kind.ensures a c.in-Recursion.is) in
-    fired S tab _ _ e v.0 (c.unrolling.ensures S e a (sym c.kind_of-kind.ensures ∙ ap kind_number c.in-Recursion.is))
 
 pub weight-requires : goal.weight-requires
 weight-requires t c = there _ _ _ c.requires.at
@@ -95,27 +82,19 @@ returns-in-FirstInjection t c e a =
     let n : c.in-Value.next ≡ c.args.at + size e = omega (arith, f.ends, v.1) in
     finds_value v.0 n
 
+pub turn-requires-in-Protect : goal.turn-requires-in-Protect
+turn-requires-in-Protect t c =
+    let q = c.requires in
+    let r = goal.at.turn-requires-in-Protect t c in
+    let f = first_is t r.In-Value (evaluating t r.In_default q.at) in
+    record { tree = q.tree; stands = q.at; turn = one_turn q.tree (of_one f.own c.in-Protect.is) f.value }
+
 pub returns-in-Protect : goal.returns-in-Protect
 returns-in-Protect t c e a =
-    let S = properties_of c.args.groups.now in
-    let tab = type_at c.args.types.now in
     let r = goal.at.returns-in-Protect t c in
     let f = first_is t r.In-Value (evaluating t r.In_default a) in
-    let k = is_kind f.own c.in-Protect.is in
-    fired S tab _ _ e (protect_turn e k f.value) (rw (protect_goes S tab e k))
-
-pub reading-requires : goal.reading-requires
-reading-requires t c =
-    let q = c.requires in
-    let o = evaluating t (goal.at.reading-requires t c).In_default q.at in
-    (here q.at, ap is_destructor (stands_kind _ _ q.tree q.at) ∙ one_reads _ (reads_one o c.in-FirstProjection.is))
-
-pub returns-in-FirstProjection : goal.returns-in-FirstProjection
-returns-in-FirstProjection t c e a =
-    let tab = type_at c.args.types.now in
-    let r = goal.at.returns-in-FirstProjection t c in
-    let f = first_is t r.In-Value (evaluating t r.In_default a) in
-    fired (properties_of c.args.groups.now) tab _ _ e (destructor_turn e (reads_one f.own c.in-FirstProjection.is) f.value) (c.reading.ensures tab e a)
+    let h = one_turn e (of_one f.own c.in-Protect.is) f.value in
+    fired (properties_of c.args.groups.now) (type_at c.args.types.now) _ _ e h (c.turn-in-Protect.ensures e a h)
 
 pub find-second-requires : goal.find-second-requires
 find-second-requires t c =
@@ -143,37 +122,18 @@ returns-in-Pair t c e a =
     let n : c.in-Value-second.end ≡ c.args.at + size e = omega (arith, v.1, f.ends, x.sizes) in
     finds_value (pair_value e (is_kind f.own c.in-Pair.is) f.value v.0) n
 
-pub reckoning-requires : goal.reckoning-requires
-reckoning-requires t c =
+pub turn-requires-in_default-kind-2 : goal.turn-requires-in_default-kind-2
+turn-requires-in_default-kind-2 t c =
     let q = c.requires in
-    let r = goal.at.reckoning-requires t c in
+    let r = goal.at.turn-requires-in_default-kind-2 t c in
     let f = first_is t r.In-Value (evaluating t r.In_default q.at) in
-    record { tree = q.tree; stands = reckoning_at f (twofold t r.In_default-kind f) c.in-Sum.is }
-
-pub returns-in-Sum : goal.returns-in-Sum
-returns-in-Sum t c e a =
-    let tab = type_at c.args.types.now in
-    let r = goal.at.returns-in-Sum t c in
-    let f = first_is t r.In-Value (evaluating t r.In_default a) in
     let x = twofold t r.In_default-kind f in
-    let v = second_is t r.In-Value-second f x in
-    fired (properties_of c.args.groups.now) tab _ _ e (reckoning_turn e (reckons f.own c.in-Sum.is) f.value v.0)
-    (c.reckoning.ensures tab e (reckoning_at f x c.in-Sum.is))
-
-pub reading-requires-in_default-kind-2 : goal.reading-requires-in_default-kind-2
-reading-requires-in_default-kind-2 t c =
-    let q = c.requires in
-    let r = goal.at.reading-requires-in_default-kind-2 t c in
-    let f = first_is t r.In-Value (evaluating t r.In_default q.at) in
-    let k = applied t r.In_default-kind-2 f (twofold t r.In_default-kind f) in
-    (here q.at, ap is_destructor (stands_kind _ _ q.tree q.at ∙ k) ∙ application_reads)
+    record { tree = q.tree; stands = q.at; turn = both_turn f x c.in_default-kind-2.not-Pair (second_is t r.In-Value-second f x).0 }
 
 pub returns-in_default-kind-2 : goal.returns-in_default-kind-2
 returns-in_default-kind-2 t c e a =
-    let tab = type_at c.args.types.now in
     let r = goal.at.returns-in_default-kind-2 t c in
     let f = first_is t r.In-Value (evaluating t r.In_default a) in
     let x = twofold t r.In_default-kind f in
-    let v = second_is t r.In-Value-second f x in
-    fired (properties_of c.args.groups.now) tab _ _ e (application_turn e (applied t r.In_default-kind-2 f x) f.value v.0)
-    (c.reading-in_default-kind-2.ensures tab e a)
+    let h = both_turn f x c.in_default-kind-2.not-Pair (second_is t r.In-Value-second f x).0 in
+    fired (properties_of c.args.groups.now) (type_at c.args.types.now) _ _ e h (c.turn-in_default-kind-2.ensures e a h)

@@ -14,7 +14,7 @@ use Rattle.records.specs.declared.Kind.TheVariants.{Application, FirstProjection
 use Rattle.records.proofs.Numbered.{same_kind}
 use Rattle.records.proofs.Stands.{kind_of, there, here, stands_kind, at_first, at_second}
 use Rattle.redex.specs.Found.{is_destructor, is_reckoning, Reckons}
-use Rattle.redex.proofs.Forms.{variable_turn, variable_left, protect_goes, reckoned_operands, application_reads, one_reads}
+use Rattle.redex.proofs.Forms.{variable_fate, variable_left, protect_fate, reckoned_operands, application_reads, one_reads}
 use Rattle.redex.proofs.Stages.{kind_read}
 use Rattle.redex.proofs.turn.Goals as goal
 
@@ -62,7 +62,7 @@ reading-requires c = (here c.requires.stands, destructs _ _ c.kind_of.ensures c.
 
 pub returns-in-Protect : goal.returns-in-Protect
 returns-in-Protect c e a h =
-    rw (protect_goes (properties_of c.args.groups.now) (type_at c.args.types.now) e (kind_read c.kind_of.ensures a c.in-Protect.is))
+    rw (protect_fate (properties_of c.args.groups.now) (type_at c.args.types.now) e (kind_read c.kind_of.ensures a c.in-Protect.is))
 
 pub returns-in-Sum : goal.returns-in-Sum
 returns-in-Sum c e a h =
@@ -76,4 +76,4 @@ returns-in_default c e a h =
     let other : (l : Kind) → (c.kind_of.result ≡ l → ⊥) → kind_of e ≡ kind_number l → ⊥ = λ l n k. n (same_kind c.kind_of.result l (is ∙ k)) in
     let v = variable_left e h (other Protect d.not-Protect) (other Recursion d.not-Recursion) (other Sum d.not-Sum) (other Less d.not-Less) (other Application d.not-Application)
     (other FirstProjection d.not-FirstProjection) (other SecondProjection d.not-SecondProjection) (other Case d.not-Case) in
-    rw ((variable_turn (properties_of c.args.groups.now) (type_at c.args.types.now) e v).1)
+    rw (variable_fate (properties_of c.args.groups.now) (type_at c.args.types.now) e v)

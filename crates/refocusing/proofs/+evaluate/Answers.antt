@@ -1,5 +1,5 @@
 -- A term is passed operand by operand, each settled in its own context, and settled turn by turn of the loop.
-use Rattle.std.proofs.Common.{◌≡◌, refl, sym, ap, ◌∙◌, [], ℕ, ◌-◌, ◌≤◌, inr, arith, length}
+use Rattle.std.proofs.Common.{inl, inr, ◌≡◌, refl, sym, ap, ◌∙◌, [], ℕ, ◌-◌, ◌≤◌, inr, arith, length}
 use Rattle.std.proofs.lemmas.Result.{err_from_is_err_and}
 use Rattle.calculus.specs.Terms.{Term}
 use Rattle.calculus.specs.Reduction.{Context}
@@ -14,7 +14,7 @@ use Rattle.records.proofs.Numbered.{same_kind}
 use Rattle.records.specs.declared.Kind.TheVariants.{Pair}
 use Rattle.records.proofs.Weights.{weights, stands_weight}
 use Rattle.redex.specs.Contexts.{level}
-use Rattle.redex.proofs.Forms.{pair_value, injection_value, variable_turn, recursion_turn, destructor_turn}
+use Rattle.redex.proofs.Forms.{pair_value, injection_value, second_position, one_turn, lone_turn, variable_fate}
 use Rattle.redex.proofs.Searches.{position_shallow}
 use Rattle.redex.proofs.Stages.{Opened, opened, kind_read, first_of, injects, is_kind}
 use Rattle.refocusing.specs.Focus.{Stands, ahead, has_ended, left_to_do}
@@ -22,7 +22,7 @@ use Rattle.reduction.specs.declared.Stop.TheVariants.{WrongKind}
 use Rattle.refocusing.proofs.Runs.{ended_as, turn_ended, turn_told}
 use Rattle.refocusing.proofs.Passing.{roomy, next_at, went_on, shallow}
 use Rattle.refocusing.proofs.Nodes.{Twofolds, twofold, two, FirstPassed, BothPassed, first_passed, both_passed}
-use Rattle.refocusing.proofs.Stages.{begun, ahead_at, term_passed, operand_stands, operand_settles, comes_to_value, comes_to_turn, settled_value, settled_end, ends_so, lone_value, of_one, one_size, one_turn, both_turn, branches}
+use Rattle.refocusing.proofs.Stages.{begun, ahead_at, term_passed, operand_stands, operand_settles, comes_to_value, comes_to_turn, settled_value, settled_end, ends_so, lone_value, unary_read, unary_size, unary_of_one, branches}
 use Rattle.refocusing.proofs.Settling.{stands_ahead, operates, stands_turn, contracts, advanced, advanced_end, settled}
 use Rattle.refocusing.proofs.+evaluate.Goals as goal
 use Rattle.refocusing.proofs.+evaluate.Goals.{operands-In_default, operands-In_ok-first, operands-In_default-kind, operands-In_ok-second}
@@ -69,8 +69,9 @@ operands-returns-in-Variable t c whole E e s d =
     let S = properties_of c.args.groups.now in
     let tab = type_at c.args.types.now in
     let room = length c.args.b.now in
-    let v = variable_turn S tab e (kind_read c.kind_of-kind.ensures (ahead_at s) c.in-Variable.is) in
-    has_ended (ended_as c.stopped.result c.stopped.ensures (turn_ended s refl WrongKind v.0 (turn_told S tab room E e v.0 0 0 (rw v.1))))
+    let k = kind_read c.kind_of-kind.ensures (ahead_at s) c.in-Variable.is in
+    let h = lone_turn e (inl k) in
+    has_ended (ended_as c.stopped.result c.stopped.ensures (turn_ended s refl WrongKind h (turn_told S tab room E e h 0 0 (rw (variable_fate S tab e k)))))
 
 pub operands-pass_term-requires : goal.operands-pass_term-requires
 operands-pass_term-requires t c =
@@ -92,7 +93,7 @@ operands-returns-in-Recursion t c whole E e s d =
     let f = c.pass_term-in-Recursion.ensures e (ahead_at s) in
     let k = kind_read c.kind_of-kind.ensures (ahead_at s) c.in-Recursion.is in
     comes_to_turn (term_passed (begun s) e (ahead_at s) (omega arith) f) (omega arith)
-    (recursion_turn (properties_of c.args.groups.now) (type_at c.args.types.now) e k).0 (omega (arith, f.2))
+    (lone_turn e (inr k)) (omega (arith, f.2))
 
 pub operands-weight-requires : goal.operands-weight-requires
 operands-weight-requires t c = there _ _ _ (ahead_at c.requires.stands)
@@ -136,8 +137,8 @@ pub operands-returns-in-Protect : goal.operands-returns-in-Protect
 operands-returns-in-Protect t c whole E e s d =
     let r = goal.at.operands-returns-in-Protect t c in
     let f = first_is t r.In_ok-first (evaluating t r.In_default s) s d in
-    let k = of_one f.0.value.own c.in-Protect.is in
-    comes_to_turn f.0.passed (sym (one_size f.0.node k)) (one_turn f.0.node k f.0.value.value) (omega (arith, f.1))
+    let k = unary_read f.0.value.own c.in-Protect.is in
+    comes_to_turn f.0.passed (sym (unary_size f.0.node k)) (one_turn f.0.node (unary_of_one k) f.0.value.value) (omega (arith, f.1))
 
 pub operands-pass_term-branch-requires : goal.operands-pass_term-branch-requires
 operands-pass_term-branch-requires t c =
@@ -170,7 +171,7 @@ operands-returns-in-Case t c whole E e s d =
     let m = term_passed f.0.passed (second_operand f.0.node) b (omega (arith, z.sizes)) h in
     let b' = next_at m (z.third _ h.0) in
     let h' = c.pass_term-in-Case.ensures (third_operand f.0.node) b' in
-    comes_to_turn (term_passed m (third_operand f.0.node) b' (omega (arith, z.sizes)) h') (sym z.sizes) (destructor_turn f.0.node (inr (inr k)) f.0.value.value)
+    comes_to_turn (term_passed m (third_operand f.0.node) b' (omega (arith, z.sizes)) h') (sym z.sizes) (one_turn f.0.node (inr (inr (inr k))) f.0.value.value)
     (omega (arith, f.1, h.2, h'.2))
 
 pub operands-overflow_add-around : goal.operands-overflow_add-around
@@ -209,7 +210,7 @@ operands-returns-in_default-kind-2 t c whole E e s d =
     let v = both_are t r.In_ok-second h f.0 d in
     let o = v.0.first.own in
     comes_to_turn v.0.passed refl
-    (both_turn v.0.node o.evaluates (twofold v.0.node h o.kind_is) (λ k. c.in_default-kind-2.not-Pair (same_kind _ Pair (o.kind_is ∙ k))) v.0.first.value v.0.second)
+    ((second_position v.0.node o.evaluates (twofold v.0.node h o.kind_is) v.0.first.value).turns (λ k. c.in_default-kind-2.not-Pair (same_kind _ Pair (o.kind_is ∙ k))) v.0.second)
     (omega (arith, f.1, v.1))
 
 pub settle-loop-focus-init : goal.settle-loop-focus-init
