@@ -3,12 +3,12 @@ use Rattle.std.proofs.Common.{◌≡◌, refl, sym, ap, ◌∙◌, ℕ, ◌≤�
 use Rattle.rules.specs.Answer.{Bytes, accepted}
 use Rattle.rules.specs.Limits.{listed_limit, no_script}
 use Rattle.rules.specs.InForce.{entry_count, lists_check, script_in_force, in_force}
-use Rattle.demands.specs.InForce.{newest, or_no_script}
-use Rattle.demands.proofs.InForce.{lists_pass, pass_finds, far_has_none}
-use Rattle.answer.specs.Said.{found}
+use Rattle.promises.specs.InForce.{newest, or_no_script}
+use Rattle.promises.proofs.InForce.{lists_pass, pass_finds, far_has_none}
+use Rattle.answer.specs.Said.{option_of}
 use Rattle.answer.proofs.Passed.{then_asked}
 
-or_none : (o : Option ℕ) → unwrap_or o no_script ≡ or_no_script (found o)
+or_none : (o : Option ℕ) → unwrap_or o no_script ≡ or_no_script (option_of o)
 or_none None = refl
 or_none (Some j) = refl
 
@@ -17,7 +17,7 @@ module _ (g t l a : Bytes) (yes : accepted tt ≡ lists_check g t l a) where
   unfolding in_force
   answered i n e = then_asked (lists_check g t l a) (accepted (script_in_force a i)) yes (ap (λ (m : ℕ). accepted m) e)
 
-  pub looked_up : (i k n : ℕ) (o : Option ℕ) → k ≡ i → found o ≡ newest a k (entry_count a) → n ≡ unwrap_or o no_script → accepted n ≡ in_force g t l a i
+  pub looked_up : (i k n : ℕ) (o : Option ℕ) → k ≡ i → option_of o ≡ newest a k (entry_count a) → n ≡ unwrap_or o no_script → accepted n ≡ in_force g t l a i
   looked_up i k n o e f h =
       answered i n
       (h ∙ or_none o ∙ ap or_no_script (f ∙ ap (λ (j : ℕ). newest a j (entry_count a)) e) ∙ pass_finds g t l a (lists_pass g t l a (sym yes)) i)

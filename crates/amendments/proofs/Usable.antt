@@ -1,5 +1,6 @@
 -- Question 42: both types stand in the table, so the walk may start at them.
-use Rattle.std.proofs.Common.{◌≡◌, refl, sym, subst, ◌∙◌, Bool, true, ℕ, ◌*◌, ◌≤◌, ◌<◌, arith, eq-eqb, ne_eqb, ltb-true, length, drop}
+use Rattle.std.proofs.Common.{◌≡◌, refl, sym, subst, ◌∙◌, Bool, true, ℕ, ◌*◌, ◌≤◌, ◌<◌, arith, eq-eqb, ne_eqb, ltb-true}
+use Rattle.std.proofs.Common.{length, drop}
 use Rattle.calculus.specs.Subtyping.{subtype}
 use Rattle.calculus.specs.Subtyping as directions
 use Rattle.rules.specs.Answer.{Bytes}

@@ -1,27 +1,31 @@
-// A studio's list of scripts and the list of its amendments: the check of both, and the script in force. Either list is gone over once
-// for the check, and the amendments once more for the look-up.
+// A studio's list of scripts and the list of its amendments: the check of both, and the script in force. Either list
+// is gone over once for the check, and the amendments once more for the look-up.
 
 #![tactic(auto)]
 
-ghost use Rattle.std.specs.Prelude.{◌≡◌, ℕ, false, ◌||◌, ◌+◌, ◌<◌, eqb, length};
+ghost use Rattle.std.specs.Prelude.{◌≡◌, ℕ, false, ◌||◌, ◌+◌, ◌<◌, nat_eq, length};
 ghost use Rattle.rules.specs.Answer.{Bytes};
 ghost use Rattle.rules.specs.InForce.{number_at, script_count, type_of, entry_count};
 ghost use Rattle.rules.specs.InForce.{q40_lengths, q25_scripts, ok40, ok41, ok42};
 ghost use Rattle.rules.specs.InForce.{entry_check, entries_check, lists_check, in_force};
-ghost use Rattle.demands.specs.InForce.{turned, newest};
-ghost use Rattle.answer.specs.Said.{said, found};
-ghost use Rattle.amendments.specs.Marked.{marked, number_limit};
-ghost use Rattle.amendments.specs.Seen.{Before, IsEntry, Within, ListsTyped};
+ghost use Rattle.promises.specs.InForce.{newest_after, newest};
+ghost use Rattle.answer.specs.Said.{answer_of, option_of};
+ghost use Rattle.amendments.specs.Marked.{is_marked, number_count};
+ghost use Rattle.amendments.specs.Seen.{Before, IsEntry, IndexesListed, ListsTyped};
 
 use answer::{Checked, Question, Refusal};
 
+/// The bytes of a script in a studio's list: the number of its type, lowest byte first.
 pub const LISTED_WIDTH: usize = 2;
 
+/// The bytes of an entry of a list of amendments: the index of a script and that of the script that it replaces, each
+/// lowest byte first.
 pub const ENTRY_WIDTH: usize = 4;
 
+/// The most scripts of a studio's list.
 pub const LISTED_LIMIT: usize = 65535;
 
-// In the place of a script's index: none.
+/// No script, in the place of a script's index.
 pub const NO_SCRIPT: u16 = 65535;
 
 // Where an entry names the script that it replaces.
@@ -84,20 +88,20 @@ struct Set([u8; SET_LENGTH]);
 
 impl Set {
     fn empty() -> Set
-        ensures { (i : ℕ) → i < number_limit → marked result.0 i ≡ false }
+        ensures { (i : ℕ) → i < number_count → is_marked result.0 i ≡ false }
     {
         Set([0; SET_LENGTH])
     }
 
     fn has(&self, i: u16) -> bool
-        ensures { result ≡ marked self.now.0 i }
+        ensures { result ≡ is_marked self.now.0 i }
     {
         let i = usize::from(i);
         (self.0[i / 8] >> (i % 8)) % 2 == 1
     }
 
     fn put(&mut self, i: u16)
-        ensures { (j : ℕ) → j < number_limit → marked self.new.0 j ≡ (eqb i j || marked self.old.0 j) }
+        ensures { (j : ℕ) → j < number_count → is_marked self.new.0 j ≡ (nat_eq i j || is_marked self.old.0 j) }
     {
         let i = usize::from(i);
         self.0[i / 8] |= 1u8 << (i % 8);
@@ -129,7 +133,8 @@ impl Seen {
         self.replaced.put(entry.replaced);
     }
 
-    // 40. Tests are joined by `&` and `|`: each is cheap. Are the indexes of an entry in a list of so many scripts, the first not listed before, and the replaced one listed?
+    // 40. Tests are joined by `&` and `|`: each is cheap. Are the indexes of an entry in a list of so many scripts,
+    // the first not listed before, and the replaced one listed?
     fn allows(&self, count: usize, entry: Entry) -> bool
         ensures { (l a : Bytes) (e : ℕ) → count ≡ script_count l → IsEntry a e entry → Before a e self.now
             → result ≡ ok40 l a e }
@@ -149,8 +154,8 @@ impl Seen {
 
 // 42. Is the first script's type the same as the replaced one's, or below it?
 fn is_usable(groups: &[u8], types: &[u8], scripts: &[u8], entry: Entry) -> bool
-    requires { ListsTyped groups.now types.now scripts.now
-        × Within (script_count scripts.now) entry }
+    requires typed { ListsTyped groups.now types.now scripts.now }
+    requires within { IndexesListed (script_count scripts.now) entry }
     ensures { (a : Bytes) (e : ℕ) → IsEntry a e entry
         → result ≡ ok42 groups.now types.now scripts.now a e }
 {
@@ -173,10 +178,10 @@ fn entry_check(
     e: usize,
     seen: &Seen,
 ) -> Checked
-    requires { ListsTyped groups.now types.now scripts.now
-        × (e < entry_count amendments.now)
-        × Before amendments.now e seen.now }
-    ensures { said result ≡ entry_check groups.now types.now scripts.now amendments.now e }
+    requires typed { ListsTyped groups.now types.now scripts.now }
+    requires there { e < entry_count amendments.now }
+    requires before { Before amendments.now e seen.now }
+    ensures { answer_of result ≡ entry_check groups.now types.now scripts.now amendments.now e }
 {
     let entry = entry_at(amendments, e);
     let allowed = seen.allows(script_count(scripts), entry);
@@ -189,7 +194,7 @@ fn entry_check(
 // One entry after another.
 fn entries_check(groups: &[u8], types: &[u8], scripts: &[u8], amendments: &[u8]) -> Checked
     requires { ListsTyped groups.now types.now scripts.now }
-    ensures { said result
+    ensures { answer_of result
         ≡ entries_check groups.now types.now scripts.now amendments.now (entry_count amendments.now) }
 {
     let mut seen = Seen::nothing();
@@ -202,7 +207,7 @@ fn entries_check(groups: &[u8], types: &[u8], scripts: &[u8], amendments: &[u8])
 
 // 40 of the lengths: whole records, and at most 65,535 scripts?
 fn lengths_check(scripts: &[u8], amendments: &[u8]) -> Checked
-    ensures { said result ≡ q40_lengths scripts.now amendments.now }
+    ensures { answer_of result ≡ q40_lengths scripts.now amendments.now }
 {
     let whole = (scripts.len() % LISTED_WIDTH == 0)
         & ((script_count(scripts) <= LISTED_LIMIT) & (amendments.len() % ENTRY_WIDTH == 0));
@@ -212,7 +217,7 @@ fn lengths_check(scripts: &[u8], amendments: &[u8]) -> Checked
 // 25. Does each script name a type of the table?
 #[tactic(auto, unfolding(rules::specs::InForce::ok25))]
 fn question_25(types: &[u8], scripts: &[u8]) -> Checked
-    ensures { said result ≡ q25_scripts types.now scripts.now }
+    ensures { answer_of result ≡ q25_scripts types.now scripts.now }
 {
     let count = types::type_count(types);
     answer::each(Question::Given, script_count(scripts), |i| {
@@ -220,9 +225,11 @@ fn question_25(types: &[u8], scripts: &[u8]) -> Checked
     })
 }
 
-// Questions 2 to 12, and those of both lists.
+/// The check of a studio's list of scripts and its list of amendments, of any bytes: questions 2 to 12 and 36 of the
+/// tables, 40 of both lengths, 25 of each listed script, and then 40, 41 and 42 of each entry. The first refusal is
+/// passed on.
 pub fn lists_check(groups: &[u8], types: &[u8], scripts: &[u8], amendments: &[u8]) -> Checked
-    ensures { said result ≡ lists_check groups.now types.now scripts.now amendments.now }
+    ensures { answer_of result ≡ lists_check groups.now types.now scripts.now amendments.now }
 {
     types_table::types_check(groups, types)?;
     lengths_check(scripts, amendments)?;
@@ -230,9 +237,10 @@ pub fn lists_check(groups: &[u8], types: &[u8], scripts: &[u8], amendments: &[u8
     entries_check(groups, types, scripts, amendments)
 }
 
-// The look-up begins with the entry that names the script first; an entry that replaces the newest script so far is the newest.
+// The look-up begins with the entry that names the script first; an entry that replaces the newest script so far is
+// the newest.
 fn turned(newest: Option<u16>, index: u16, entry: Entry) -> Option<u16>
-    ensures { (a : Bytes) (e : ℕ) → IsEntry a e entry → found result ≡ turned a index e (found newest) }
+    ensures { (a : Bytes) (e : ℕ) → IsEntry a e entry → option_of result ≡ newest_after a index e (option_of newest) }
 {
     match newest {
         None if entry.first == index => Some(index),
@@ -244,7 +252,7 @@ fn turned(newest: Option<u16>, index: u16, entry: Entry) -> Option<u16>
 
 // The newest script from this one, where an entry names it first. One pass: a replaced script is listed before.
 fn newest(amendments: &[u8], index: u16) -> Option<u16>
-    ensures { found result ≡ newest amendments.now index (entry_count amendments.now) }
+    ensures { option_of result ≡ newest amendments.now index (entry_count amendments.now) }
 {
     let mut script = None;
     for e in 0..entry_count(amendments) {
@@ -253,7 +261,8 @@ fn newest(amendments: &[u8], index: u16) -> Option<u16>
     script
 }
 
-// The script in force from an index, or NO_SCRIPT. The index is looked at as it comes, before it is narrowed.
+/// The index of the script in force from script `index`, or `NO_SCRIPT` where no entry names it first. Refused where
+/// the lists fail their check. The index is looked at as it comes, before it is narrowed.
 pub fn in_force(
     groups: &[u8],
     types: &[u8],
@@ -261,8 +270,7 @@ pub fn in_force(
     amendments: &[u8],
     index: u64,
 ) -> Result<u16, Refusal>
-    ensures { said result
-        ≡ in_force groups.now types.now scripts.now amendments.now index }
+    ensures { answer_of result ≡ in_force groups.now types.now scripts.now amendments.now index }
 {
     lists_check(groups, types, scripts, amendments)?;
     let Ok(index) = u16::try_from(index) else {

@@ -1,28 +1,10 @@
 -- Evaluation contexts: they compose, and the step function works where their hole is.
-use mathlib.Core.Path.{◌≡◌, refl, ◌∙◌}
-use mathlib.Core.Bool.{So}
-use Prim.Native.Nat.{ℕ}
+use Rattle.std.proofs.Common.{◌≡◌, refl, ◌∙◌, ℕ, IsTrue}
 use Rattle.calculus.specs.Security.{Security}
 use Rattle.calculus.specs.Types.{Ty}
 use Rattle.calculus.specs.Terms.{Term}
-use Rattle.calculus.specs.Reduction.{
-  Context,
-  hole,
-  app_left,
-  app_right,
-  in_proj,
-  in_inj,
-  pair_left,
-  pair_right,
-  in_protect,
-  in_case,
-  reckon_left,
-  reckon_right,
-  plug,
-  Outcome,
-  operand_first,
-  step,
-}
+use Rattle.calculus.specs.Reduction.{Context, hole, app_left, app_right, in_proj, in_inj, pair_left, pair_right}
+use Rattle.calculus.specs.Reduction.{in_protect, in_case, reckon_left, reckon_right, plug, Outcome, operand_first, step}
 use Rattle.calculus.proofs.Outcomes.{unfinished, within, within_itself, operand_value, operand_within}
 use Rattle.calculus.proofs.Values.{value_step}
 
@@ -54,11 +36,11 @@ plug_compose (reckon_left o w E b) F e = rw (plug_compose E F e)
 plug_compose (reckon_right o w v h E) F e = rw (plug_compose E F e)
 
 module _ (S : Security) (tab : ℕ → Ty) where
-  operand_plug : (f : Term → Term) (E : Context) (x y next : Outcome) → So (unfinished x) → y ≡ within (plug E) x
+  operand_plug : (f : Term → Term) (E : Context) (x y next : Outcome) → IsTrue (unfinished x) → y ≡ within (plug E) x
       → operand_first y f next ≡ within (λ e. f (plug E e)) x
   operand_plug f E x y next h p = rw p (operand_within f (plug E) x next h)
 
-  pub plug_step : (E : Context) (e : Term) (x : Outcome) → So (unfinished x) → step S tab e ≡ x → step S tab (plug E e) ≡ within (plug E) x
+  pub plug_step : (E : Context) (e : Term) (x : Outcome) → IsTrue (unfinished x) → step S tab e ≡ x → step S tab (plug E e) ≡ within (plug E) x
   unfolding step plug
   plug_step hole e x h p = p ∙ within_itself x
   plug_step (app_left w E a) e x h p = operand_plug _ E x _ _ h (plug_step E e x h p)

@@ -1,28 +1,25 @@
--- Item 10: where c and ic are group 0, the rules answer and do what those before it did.
-use mathlib.Core.Path.{◌≡◌, refl, sym}
-use mathlib.Core.Bool.{Bool, true, false, ◌&&◌, So}
-use Prim.Native.Nat.{ℕ, zero}
+-- Where c and ic are group 0, today's rules answer and do what the rules without creators did.
+use Rattle.std.proofs.Common.{◌≡◌, refl, sym, Bool, true, ◌&&◌, ℕ, zero, IsTrue, arith}
 use Rattle.calculus.specs.Security.{Property, Reader}
 use Rattle.calculus.specs.Groups.{Groups, properties}
 use Rattle.calculus.specs.Types.{Ty, top}
 use Rattle.calculus.specs.Callers.{called_as, as_written}
-use Rattle.calculus.specs.Creators.{uncreated, readers, rewritten}
+use Rattle.calculus.specs.Creators.{without_creators, readers, rewriting_labels}
 use Rattle.calculus.proofs.RelabelledTypes.{Agrees}
 
 -- what the rules do with group 0, whatever the other group is
 pub record Least (G : Groups) : Type 0 where
-  pub leq : So (G.leq zero zero)
+  pub leq : IsTrue (G.leq zero zero)
   pub join : G.join zero zero ≡ zero
   pub meet : (g : ℕ) → G.meet zero g ≡ zero
   pub meet_with : (g : ℕ) → G.meet g zero ≡ zero
 
 also_true : (b : Bool) → (b && true) ≡ b
-also_true true = refl
-also_true false = refl
+also_true b = grind arith
 
 module _ (G : Groups) (caller : Property → Reader → Reader) (tab : ℕ → Ty) where
-  -- the rules before item 10 and those after it
-  pub rewritten_agrees : Least G → Agrees (rewritten caller tab) (called_as caller (readers G)) (properties G) tab
+  -- the rules without creators and those of today
+  pub rewritten_agrees : Least G → Agrees (rewriting_labels caller tab) (called_as caller (readers G)) (properties G) tab
   rewritten_agrees X = record {
     le = λ k l. rw (X.leq, also_true (G.leq k.ir l.ir));
     permits = λ k w. refl;
@@ -36,9 +33,9 @@ module _ (G : Groups) (caller : Property → Reader → Reader) (tab : ℕ → T
     nothing = refl;
   }
 
-  -- the rules before item 10 keep no creators
-  pub uncreated_agrees : ((k : Property) (w : Reader) → caller (uncreated k) w ≡ caller k w)
-      → Agrees (rewritten as_written tab) (called_as caller (readers G)) (called_as caller (readers G)) tab
+  -- the rules without creators keep none
+  pub uncreated_agrees : ((k : Property) (w : Reader) → caller (without_creators k) w ≡ caller k w)
+      → Agrees (rewriting_labels as_written tab) (called_as caller (readers G)) (called_as caller (readers G)) tab
   uncreated_agrees unread = record {
     le = λ k l. refl;
     permits = λ k w. refl;

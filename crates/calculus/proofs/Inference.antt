@@ -1,20 +1,18 @@
 -- The function `infer` finds what the derivations without [Sub] give, and nothing else.
-use mathlib.Core.Path.{◌≡◌}
-use mathlib.Core.Bool.{◌&&◌}
-use mathlib.Core.List.{List, ◌∷◌}
-use mathlib.Core.Option.{some}
-use Prim.Native.Nat.{ℕ}
+use Rattle.std.proofs.Common.{◌≡◌, ◌&&◌, List, ◌∷◌, ℕ}
+use Rattle.std.proofs.Math.Option.{some}
 use Rattle.calculus.specs.Security.{Security}
 use Rattle.calculus.specs.Types.{sum, product, function, Ty, node, fits, parts}
 use Rattle.calculus.specs.Subtyping.{below, subtype}
 use Rattle.calculus.specs.Terms.{choose, Term, var, unit, lam, pair, inj, app, proj, case, protect, mu, literal, reckon}
-use Rattle.calculus.specs.Numbers.{of_both, reckoned_type, number_of}
-use Rattle.calculus.specs.Typing.{result, recurs, infer}
+use Rattle.calculus.specs.Numbers.{of_both, reckon_type, number_property}
+use Rattle.calculus.specs.Typing.{type_of_case, recurs, infer}
 use Rattle.calculus.proofs.Booleans.{both, and_left, and_right}
 use Rattle.calculus.proofs.Directed.{directed_test, test_directed}
 use Rattle.calculus.proofs.Numbers.{number_some, reckons_type, type_reckons}
 use Rattle.calculus.proofs.Answers.{when_holds, bind_some, when_some, parts_some}
-use Rattle.calculus.proofs.Inferred.{Inferred, i_var, i_unit, i_lam, i_pair, i_inj, i_app, i_proj, i_case, i_protect, i_mu, i_literal, i_reckon}
+use Rattle.calculus.proofs.Inferred.{Inferred, i_var, i_unit, i_lam, i_pair, i_inj, i_app, i_proj, i_case, i_protect}
+use Rattle.calculus.proofs.Inferred.{i_mu, i_literal, i_reckon}
 
 pub inferred_infer : {S : Security} {tab : ℕ → Ty} {Γ : List Ty} {e : Term} {t : Ty} → Inferred S tab Γ e t → infer S tab Γ e ≡ some t
 unfolding infer
@@ -72,7 +70,7 @@ infer_inferred {S} {tab} {Γ} (case w i c a b) t h =
     parts_some sum s q λ s_is.
     bind_some (infer S tab (z.lhs ∷ Γ) a) _ h2 λ u p2 h3.
     bind_some (infer S tab (z.rhs ∷ Γ) b) _ h3 λ v p3 h4.
-    bind_some (result S tab i u v) _ h4 λ r y h5.
+    bind_some (type_of_case S tab i u v) _ h4 λ r y h5.
     when_some (S.permits z.own w) _ h5 λ x e.
     rw (← e) (i_case (rw s_is at (infer_inferred {S = S} {tab = tab} {Γ = Γ} c s p)) x (infer_inferred a u p2) (infer_inferred b v p3) y)
 infer_inferred {S} {tab} {Γ} (protect m b) t h =
@@ -92,12 +90,12 @@ infer_inferred {S} (literal k n) t h =
     rw (← e) (i_literal x)
 infer_inferred {S} {tab} {Γ} (reckon o w a b) t h =
     bind_some (infer S tab Γ a) _ h λ s p h1.
-    bind_some (number_of s) _ h1 λ k y h2.
+    bind_some (number_property s) _ h1 λ k y h2.
     number_some s y λ s_is.
     bind_some (infer S tab Γ b) _ h2 λ u q h3.
-    bind_some (number_of u) _ h3 λ l z h4.
+    bind_some (number_property u) _ h3 λ l z h4.
     number_some u z λ u_is.
-    bind_some (reckoned_type tab o (of_both S w k l)) _ h4 λ v r h5.
+    bind_some (reckon_type tab o (of_both S w k l)) _ h4 λ v r h5.
     when_some (S.permits k w && S.permits l w) _ h5 λ x e.
     rw (← e) (i_reckon (rw s_is at (infer_inferred {S = S} {tab = tab} {Γ = Γ} a s p)) (and_left _ _ x)
     (rw u_is at (infer_inferred {S = S} {tab = tab} {Γ = Γ} b u q)) (and_right (S.permits k w) _ x) (type_reckons o r))

@@ -33,3 +33,6 @@ pub mod Erasure
 pub mod RelabelledTypes
 pub mod Creators
 pub mod Examples
+pub mod RelabelledOutcomes
+pub mod Erased
+pub mod Metatheory

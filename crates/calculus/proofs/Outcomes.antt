@@ -1,6 +1,6 @@
 -- What the outcome of an operand makes of the whole.
-use mathlib.Core.Path.{◌≡◌, refl, sym, ap, ◌∙◌}
-use mathlib.Core.Bool.{Bool, true, false, So, false≢true}
+use Rattle.std.proofs.Common.{◌≡◌, refl, sym, ap, ◌∙◌, Bool, true, false, IsTrue, arith}
+use Rattle.std.proofs.Math.Bool.{false≢true}
 use Rattle.calculus.specs.Terms.{Term}
 use Rattle.calculus.specs.Reduction.{Outcome, value, moved, denied, stuck, operand_first}
 
@@ -9,10 +9,8 @@ moved_injective h = cc
 
 -- Only `moved` is followed by a further term.
 abbrev pub is_moved : Outcome → Bool
-is_moved value = false
 is_moved (moved e) = true
-is_moved denied = false
-is_moved stuck = false
+is_moved _ = false
 
 pub moved_only : {P : Type 0} {x : Outcome} {e : Term} → is_moved x ≡ false → x ≡ moved e → P
 moved_only h m = absurd (false≢true (sym h ∙ ap is_moved m))
@@ -20,9 +18,7 @@ moved_only h m = absurd (false≢true (sym h ∙ ap is_moved m))
 -- Every other outcome of an operand is one of the whole; after a value it is the next one's turn.
 abbrev pub unfinished : Outcome → Bool
 unfinished value = false
-unfinished (moved e) = true
-unfinished denied = true
-unfinished stuck = true
+unfinished _ = true
 
 -- the outcome of a term in a context, given the term's own
 abbrev pub within : (Term → Term) → Outcome → Outcome
@@ -32,18 +28,12 @@ within place denied = denied
 within place stuck = stuck
 
 pub within_itself : (x : Outcome) → x ≡ within (λ e. e) x
-within_itself value = refl
-within_itself (moved e) = refl
-within_itself denied = refl
-within_itself stuck = refl
+within_itself x = grind arith
 
 pub operand_value : (x : Outcome) (f : Term → Term) (next : Outcome) → x ≡ value → operand_first x f next ≡ next
 unfolding operand_first
 operand_value x f next h = rw h
 
-pub operand_within : (f g : Term → Term) (x next : Outcome) → So (unfinished x) → operand_first (within g x) f next ≡ within (λ e. f (g e)) x
+pub operand_within : (f g : Term → Term) (x next : Outcome) → IsTrue (unfinished x) → operand_first (within g x) f next ≡ within (λ e. f (g e)) x
 unfolding operand_first
-operand_within f g value next h = absurd (false≢true h)
-operand_within f g (moved e) next h = refl
-operand_within f g denied next h = refl
-operand_within f g stuck next h = refl
+operand_within f g x next h = grind arith

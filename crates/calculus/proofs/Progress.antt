@@ -1,72 +1,36 @@
--- Progress (theorem 2.2): a closed term with a type is a value or reduces. No reading of it is denied, and no destructor meets a wrong kind.
-use mathlib.Core.Path.{◌≡◌, refl, sym, ap, ◌∙◌}
-use mathlib.Core.Bool.{false, So, false≢true}
-use mathlib.Core.List.{List, []}
-use mathlib.Core.Option.{none-ne-some}
-use Prim.Native.Nat.{ℕ}
+-- Progress: a closed term with a type is a value or reduces. No reading of it is denied, and no destructor meets a
+-- wrong kind.
+use Rattle.std.proofs.Common.{◌≡◌, sym, ap, ◌∙◌, false, List, [], ℕ, IsTrue, arith}
+use Rattle.std.proofs.Math.Option.{none-ne-some}
+use Rattle.std.proofs.Math.Bool.{false≢true}
 use Rattle.calculus.specs.Security.{Security, Laws}
 use Rattle.calculus.specs.Types.{Former, sum, product, function, Ty, exists, parts}
 use Rattle.calculus.specs.Terms.{Term, is_value}
-use Rattle.calculus.specs.Numbers.{literal_of, number_of}
+use Rattle.calculus.specs.Numbers.{literal_of, number_property}
 use Rattle.calculus.specs.Reduction.{Reduces, Outcome, value, moved, denied, stuck, step}
-use Rattle.calculus.specs.Stuck.{
-  built_by,
-  Denied,
-  denied_app,
-  denied_proj,
-  denied_case,
-  denied_reckon,
-  Wrong,
-  wrong_var,
-  wrong_app,
-  wrong_proj,
-  wrong_case,
-  wrong_reckon,
-  wrong_mu,
-  At,
-}
+use Rattle.calculus.specs.Stuck.{built_by, Denied, denied_app, denied_proj, denied_case, denied_reckon, Wrong}
+use Rattle.calculus.specs.Stuck.{wrong_var, wrong_app, wrong_proj, wrong_case, wrong_reckon, wrong_mu, InContext}
 use Rattle.calculus.specs.Typing.{lookup, HasType, Table}
 use Rattle.calculus.proofs.Booleans.{both}
 use Rattle.calculus.proofs.Directed.{formed}
-use Rattle.calculus.proofs.Inferred.{Inferred, i_var, i_unit, i_lam, i_pair, i_inj, i_app, i_proj, i_case, i_protect, i_mu, i_literal, i_reckon}
+use Rattle.calculus.proofs.Inferred.{Inferred, i_var, i_lam, i_pair, i_inj, i_app, i_proj, i_case, i_mu, i_literal}
+use Rattle.calculus.proofs.Inferred.{i_reckon}
 use Rattle.calculus.proofs.Completeness.{n_empty, typed_inferred}
 use Rattle.calculus.proofs.TypedContexts.{filled}
 use Rattle.calculus.proofs.Agreement.{Says, step_says}
 use Rattle.calculus.proofs.Reduction.{step_denied, step_stuck}
 
 -- Canonical forms: the kind of a value is the form of its type.
-pub canonical_forms : {S : Security} {tab : ℕ → Ty} {Γ : List Ty} {v : Term} {t : Ty} (f : Former) → So (is_value v) → Inferred S tab Γ v t
+pub canonical_forms : {S : Security} {tab : ℕ → Ty} {Γ : List Ty} {v : Term} {t : Ty} (f : Former) → IsTrue (is_value v) → Inferred S tab Γ v t
     → built_by f v ≡ formed f t
 unfolding is_value built_by
-canonical_forms f x (i_var h) = absurd (false≢true x)
-canonical_forms f x (i_unit h) = refl
-canonical_forms f x (i_lam h p g) = refl
-canonical_forms f x (i_pair h p q g) = refl
-canonical_forms f x (i_inj h e p s) = refl
-canonical_forms f x (i_app p q s m) = absurd (false≢true x)
-canonical_forms f x (i_proj p m) = absurd (false≢true x)
-canonical_forms f x (i_case p m q q' r) = absurd (false≢true x)
-canonical_forms f x (i_protect h p) = absurd (false≢true x)
-canonical_forms f x (i_mu e m h p s) = absurd (false≢true x)
-canonical_forms f x (i_literal h) = refl
-canonical_forms f x (i_reckon p m q n y) = absurd (false≢true x)
+canonical_forms f x n = grind arith
 
 -- and the literals are the values of a number's type
-pub canonical_numbers : {S : Security} {tab : ℕ → Ty} {Γ : List Ty} {v : Term} {t : Ty} → So (is_value v) → Inferred S tab Γ v t
-    → exists (literal_of v) ≡ exists (number_of t)
+pub canonical_numbers : {S : Security} {tab : ℕ → Ty} {Γ : List Ty} {v : Term} {t : Ty} → IsTrue (is_value v) → Inferred S tab Γ v t
+    → exists (literal_of v) ≡ exists (number_property t)
 unfolding is_value literal_of
-canonical_numbers x (i_var h) = absurd (false≢true x)
-canonical_numbers x (i_unit h) = refl
-canonical_numbers x (i_lam h p g) = refl
-canonical_numbers x (i_pair h p q g) = refl
-canonical_numbers x (i_inj h e p s) = refl
-canonical_numbers x (i_app p q s m) = absurd (false≢true x)
-canonical_numbers x (i_proj p m) = absurd (false≢true x)
-canonical_numbers x (i_case p m q q' r) = absurd (false≢true x)
-canonical_numbers x (i_protect h p) = absurd (false≢true x)
-canonical_numbers x (i_mu e m h p s) = absurd (false≢true x)
-canonical_numbers x (i_literal h) = refl
-canonical_numbers x (i_reckon p m q n y) = absurd (false≢true x)
+canonical_numbers x n = grind arith
 
 abbrev Untyped : Security → (ℕ → Ty) → (Term → Type 0) → Type 0
 Untyped S tab P = (e : Term) (t : Ty) → P e → Inferred S tab [] e t → ⊥
@@ -88,10 +52,10 @@ module _ {S : Security} {tab : ℕ → Ty} where
   wrong_untyped (wrong_mu g) (i_mu e m h p s) = none-ne-some _ (sym g ∙ ap (parts function) e)
 
   module _ (L : Laws S) (T : Table S tab) where
-    inferred_nowhere : {P : Term → Type 0} {e : Term} {t : Ty} → Untyped S tab P → Inferred S tab [] e t → At P e → ⊥
+    inferred_nowhere : {P : Term → Type 0} {e : Term} {t : Ty} → Untyped S tab P → Inferred S tab [] e t → InContext P e → ⊥
     inferred_nowhere no_type p a = no_type _ _ a.holds (filled L T a.context (rw a.whole at p)).typed
 
-    nowhere : {P : Term → Type 0} {e : Term} {t : Ty} → Untyped S tab P → HasType S tab [] e t → At P e → ⊥
+    nowhere : {P : Term → Type 0} {e : Term} {t : Ty} → Untyped S tab P → HasType S tab [] e t → InContext P e → ⊥
     nowhere no_type h a = inferred_nowhere no_type (typed_inferred L T h n_empty).inferred a
 
     pub never_denied : {e : Term} {t : Ty} → HasType S tab [] e t → step S tab e ≡ denied → ⊥

@@ -1,40 +1,40 @@
 -- Properties over a lattice of groups obey the calculus's laws.
-use mathlib.Core.Bool.{Bool, ◌&&◌, So}
+use Rattle.std.proofs.Common.{Bool, ◌&&◌, IsTrue}
 use Rattle.calculus.specs.Security.{Property, Indirect, Laws}
 use Rattle.calculus.specs.Groups.{Groups, Lattice, properties}
 use Rattle.calculus.proofs.Booleans.{both, and_left, and_right}
 use Rattle.calculus.proofs.Lattices.{join_mono, join_comm, meet_mono, meet_comm}
 
-four : {a b c d : Bool} → So a → So b → So c → So d → So (a && (b && (c && d)))
+four : {a b c d : Bool} → IsTrue a → IsTrue b → IsTrue c → IsTrue d → IsTrue (a && (b && (c && d)))
 four p q r s = both p (both q (both r s))
 
 module _ {G : Groups} (X : Lattice G) where
   -- the four parts of κ ≤ κ'
-  le_parts : {P : Type 0} (k l : Property) → So ((properties G).le k l)
-      → (So (G.leq k.r l.r) → So (G.leq k.ir l.ir) → So (G.leq l.c k.c) → So (G.leq l.ic k.ic) → P) → P
+  le_parts : {P : Type 0} (k l : Property) → IsTrue ((properties G).le k l)
+      → (IsTrue (G.leq k.r l.r) → IsTrue (G.leq k.ir l.ir) → IsTrue (G.leq l.c k.c) → IsTrue (G.leq l.ic k.ic) → P) → P
   le_parts k l p f =
       let q = and_right (G.leq k.r l.r) _ p in
       let s = and_right (G.leq k.ir l.ir) _ q in
       f (and_left _ _ p) (and_left _ _ q) (and_left _ _ s) (and_right (G.leq l.c k.c) _ s)
 
   -- each group of a secure property
-  own_groups : {P : Type 0} (k : Property) → So ((properties G).secure k)
-      → (So (G.leq k.r k.r) → So (G.leq k.ir k.ir) → So (G.leq k.c k.c) → So (G.leq k.ic k.ic) → P) → P
+  own_groups : {P : Type 0} (k : Property) → IsTrue ((properties G).secure k)
+      → (IsTrue (G.leq k.r k.r) → IsTrue (G.leq k.ir k.ir) → IsTrue (G.leq k.c k.c) → IsTrue (G.leq k.ic k.ic) → P) → P
   own_groups k h f =
       let p = and_left _ _ h in
       let q = and_right (G.leq k.ir k.r) _ h in
       f (X.self_right _ _ p) (X.self_left _ _ p) (X.self_right _ _ q) (X.self_left _ _ q)
 
-  r_secure : (k : Property) → So ((properties G).secure k) → So (G.leq k.ir k.r)
+  r_secure : (k : Property) → IsTrue ((properties G).secure k) → IsTrue (G.leq k.ir k.r)
   r_secure k h = and_left _ _ h
 
-  c_secure : (k : Property) → So ((properties G).secure k) → So (G.leq k.ic k.c)
+  c_secure : (k : Property) → IsTrue ((properties G).secure k) → IsTrue (G.leq k.ic k.c)
   c_secure k h = and_right (G.leq k.ir k.r) _ h
 
-  ir_group : (m : Indirect) → So ((properties G).secure_i m) → So (G.leq m.ir m.ir)
+  ir_group : (m : Indirect) → IsTrue ((properties G).secure_i m) → IsTrue (G.leq m.ir m.ir)
   ir_group m h = X.in_table _ (and_left _ _ h)
 
-  ic_group : (m : Indirect) → So ((properties G).secure_i m) → So (G.leq m.ic m.ic)
+  ic_group : (m : Indirect) → IsTrue ((properties G).secure_i m) → IsTrue (G.leq m.ic m.ic)
   ic_group m h = X.in_table _ (and_right (G.group m.ir) _ h)
 
   pub properties_laws : Laws (properties G)

@@ -1,48 +1,16 @@
--- What the step function does at the position that reduces next: table 1, a reading denied, or a wrong kind, and the three exclude one another.
-use mathlib.Core.Path.{◌≡◌, refl, sym, ap, ◌∙◌}
-use mathlib.Core.Bool.{Bool, true, false, ◌&&◌, So, true≢false}
-use mathlib.Core.Option.{Option, none, some, none-ne-some}
-use Prim.Native.Nat.{ℕ}
+-- What the step function does at the position that reduces next: a reduction rule, a reading denied, or a wrong kind,
+-- and the three exclude one another.
+use Rattle.std.proofs.Common.{◌≡◌, refl, sym, ap, ◌∙◌, Bool, true, false, ◌&&◌, true≢false, ℕ, IsTrue, arith}
+use Rattle.std.proofs.Math.Option.{none, some, none-ne-some, Option}
 use Rattle.calculus.specs.Security.{Property, Reader, Security}
-use Rattle.calculus.specs.Types.{sum, product, function, Ty, leaf, node, parts}
-use Rattle.calculus.specs.Terms.{Side, Operation, Term, var, unit, lam, pair, inj, app, proj, case, protect, mu, literal, reckon, is_value}
+use Rattle.calculus.specs.Types.{function, Ty, node, parts}
+use Rattle.calculus.specs.Terms.{Side, Operation, Term, lam, pair, inj, app, proj, case, mu, reckon, is_value}
 use Rattle.calculus.specs.Numbers.{Literal, literal_of}
-use Rattle.calculus.specs.Reduction.{
-  Contracts,
-  c_app,
-  c_proj,
-  c_case,
-  c_mu,
-  c_reckon,
-  c_protect,
-  Outcome,
-  moved,
-  denied,
-  stuck,
-  operand_first,
-  reading,
-  apply,
-  project,
-  branch,
-  unroll,
-  calculate,
-  step,
-}
-use Rattle.calculus.specs.Stuck.{
-  built_by,
-  Denied,
-  denied_app,
-  denied_proj,
-  denied_case,
-  denied_reckon,
-  Wrong,
-  wrong_var,
-  wrong_app,
-  wrong_proj,
-  wrong_case,
-  wrong_reckon,
-  wrong_mu,
-}
+use Rattle.calculus.specs.Reduction.{Contracts, c_app, c_proj, c_case, c_mu, c_reckon, c_protect, Outcome, moved}
+use Rattle.calculus.specs.Reduction.{denied, stuck, operand_first, if_permitted, apply, project, branch, unroll}
+use Rattle.calculus.specs.Reduction.{calculate, step}
+use Rattle.calculus.specs.Stuck.{built_by, Denied, denied_app, denied_proj, denied_case, denied_reckon, Wrong}
+use Rattle.calculus.specs.Stuck.{wrong_var, wrong_app, wrong_proj, wrong_case, wrong_reckon, wrong_mu}
 use Rattle.calculus.proofs.Booleans.{and_left, and_right}
 use Rattle.calculus.proofs.Numbers.{literal_some}
 use Rattle.calculus.proofs.Outcomes.{unfinished}
@@ -53,79 +21,45 @@ pub data Redex (S : Security) (tab : ℕ → Ty) : Term → Outcome → Type 0 w
   denying : {e : Term} → Denied S e → Redex S tab e denied
   sticking : {e : Term} → Wrong tab e → Redex S tab e stuck
 
-pub redex_unfinished : {S : Security} {tab : ℕ → Ty} {e : Term} {x : Outcome} → Redex S tab e x → So (unfinished x)
-redex_unfinished (contracting c) = refl
-redex_unfinished (denying d) = refl
-redex_unfinished (sticking w) = refl
+pub redex_unfinished : {S : Security} {tab : ℕ → Ty} {e : Term} {x : Outcome} → Redex S tab e x → IsTrue (unfinished x)
+redex_unfinished n = grind arith
 
 module _ (S : Security) (tab : ℕ → Ty) where
-  reading_redex : (b : Bool) {e e' : Term} → (So b → Contracts S tab e e') → (b ≡ false → Denied S e) → Redex S tab e (reading b e')
-  unfolding reading
+  reading_redex : (b : Bool) {e e' : Term} → (IsTrue b → Contracts S tab e e') → (b ≡ false → Denied S e) → Redex S tab e (if_permitted b e')
+  unfolding if_permitted
   reading_redex true c d = contracting (c refl)
   reading_redex false c d = denying (d refl)
 
-  pub apply_redex : (w : Reader) (f v : Term) → So (is_value f) → So (is_value v) → Redex S tab (app w f v) (apply S w f v)
+  pub apply_redex : (w : Reader) (f v : Term) → IsTrue (is_value f) → IsTrue (is_value v) → Redex S tab (app w f v) (apply S w f v)
   unfolding apply built_by
-  apply_redex w (var n) v h g = sticking (wrong_app h g refl)
-  apply_redex w (unit k) v h g = sticking (wrong_app h g refl)
   apply_redex w (lam k i e) v h g = reading_redex _ (c_app g) (denied_app g)
-  apply_redex w (pair k a b) v h g = sticking (wrong_app h g refl)
-  apply_redex w (inj d k i e) v h g = sticking (wrong_app h g refl)
-  apply_redex w (app u f a) v h g = sticking (wrong_app h g refl)
-  apply_redex w (proj d u e) v h g = sticking (wrong_app h g refl)
-  apply_redex w (case u i e a b) v h g = sticking (wrong_app h g refl)
-  apply_redex w (protect m e) v h g = sticking (wrong_app h g refl)
-  apply_redex w (mu u i e) v h g = sticking (wrong_app h g refl)
-  apply_redex w (literal k n) v h g = sticking (wrong_app h g refl)
-  apply_redex w (reckon o u a b) v h g = sticking (wrong_app h g refl)
+  apply_redex w _ v h g = sticking (wrong_app h g refl)
 
-  pair_values : (k : Property) (a b : Term) → So (is_value (pair k a b)) → So (is_value a) × So (is_value b)
+  pair_values : (k : Property) (a b : Term) → IsTrue (is_value (pair k a b)) → IsTrue (is_value a) × IsTrue (is_value b)
   unfolding is_value
   pair_values k a b h = (and_left _ _ h, and_right (is_value a) _ h)
 
-  pub project_redex : (d : Side) (w : Reader) (v : Term) → So (is_value v) → Redex S tab (proj d w v) (project S d w v)
+  pub project_redex : (d : Side) (w : Reader) (v : Term) → IsTrue (is_value v) → Redex S tab (proj d w v) (project S d w v)
   unfolding project built_by
-  project_redex d w (var n) h = sticking (wrong_proj h refl)
-  project_redex d w (unit k) h = sticking (wrong_proj h refl)
-  project_redex d w (lam k i e) h = sticking (wrong_proj h refl)
   project_redex d w (pair k a b) h =
       let g = pair_values k a b h in reading_redex _ (c_proj g.0 g.1) (denied_proj g.0 g.1)
-  project_redex d w (inj c k i e) h = sticking (wrong_proj h refl)
-  project_redex d w (app u f a) h = sticking (wrong_proj h refl)
-  project_redex d w (proj c u e) h = sticking (wrong_proj h refl)
-  project_redex d w (case u i e a b) h = sticking (wrong_proj h refl)
-  project_redex d w (protect m e) h = sticking (wrong_proj h refl)
-  project_redex d w (mu u i e) h = sticking (wrong_proj h refl)
-  project_redex d w (literal k n) h = sticking (wrong_proj h refl)
-  project_redex d w (reckon o u a b) h = sticking (wrong_proj h refl)
+  project_redex d w _ h = sticking (wrong_proj h refl)
 
-  inj_value : (d : Side) (k : Property) (i : ℕ) (e : Term) → So (is_value (inj d k i e)) → So (is_value e)
+  inj_value : (d : Side) (k : Property) (i : ℕ) (e : Term) → IsTrue (is_value (inj d k i e)) → IsTrue (is_value e)
   unfolding is_value
   inj_value d k i e h = h
 
-  pub branch_redex : (w : Reader) (j : ℕ) (v a b : Term) → So (is_value v) → Redex S tab (case w j v a b) (branch S w v a b)
+  pub branch_redex : (w : Reader) (j : ℕ) (v a b : Term) → IsTrue (is_value v) → Redex S tab (case w j v a b) (branch S w v a b)
   unfolding branch built_by
-  branch_redex w j (var n) a b h = sticking (wrong_case h refl)
-  branch_redex w j (unit k) a b h = sticking (wrong_case h refl)
-  branch_redex w j (lam k i e) a b h = sticking (wrong_case h refl)
-  branch_redex w j (pair k e f) a b h = sticking (wrong_case h refl)
   branch_redex w j (inj d k i e) a b h = let g = inj_value d k i e h in reading_redex _ (c_case g) (denied_case g)
-  branch_redex w j (app u f e) a b h = sticking (wrong_case h refl)
-  branch_redex w j (proj d u e) a b h = sticking (wrong_case h refl)
-  branch_redex w j (case u i e f g) a b h = sticking (wrong_case h refl)
-  branch_redex w j (protect m e) a b h = sticking (wrong_case h refl)
-  branch_redex w j (mu u i e) a b h = sticking (wrong_case h refl)
-  branch_redex w j (literal k n) a b h = sticking (wrong_case h refl)
-  branch_redex w j (reckon o u e f) a b h = sticking (wrong_case h refl)
+  branch_redex w j _ a b h = sticking (wrong_case h refl)
 
   pub unroll_redex : (w : Reader) (i : ℕ) (e : Term) (t : Ty) → tab i ≡ t → Redex S tab (mu w i e) (unroll S w i e t)
   unfolding unroll
-  unroll_redex w i e (leaf b k) h = sticking (wrong_mu (ap (parts function) h))
-  unroll_redex w i e (node sum k s t) h = sticking (wrong_mu (ap (parts function) h))
-  unroll_redex w i e (node product k s t) h = sticking (wrong_mu (ap (parts function) h))
   unroll_redex w i e (node function k s t) h = contracting (c_mu h)
+  unroll_redex w i e _ h = sticking (wrong_mu (ap (parts function) h))
 
-  pub calculate_redex : (o : Operation) (w : Reader) (a b : Term) (x y : Option Literal) → So (is_value a) → So (is_value b) → literal_of a ≡ x → literal_of b ≡ y
+  pub calculate_redex : (o : Operation) (w : Reader) (a b : Term) (x y : Option Literal) → IsTrue (is_value a) → IsTrue (is_value b) → literal_of a ≡ x → literal_of b ≡ y
       → Redex S tab (reckon o w a b) (calculate S tab o w x y)
   unfolding calculate
   calculate_redex o w a b none y h g p q = sticking (wrong_reckon h g (rw p))
@@ -141,40 +75,22 @@ module _ (S : Security) (tab : ℕ → Ty) where
 
   wrong_contracts : {e e' : Term} → Contracts S tab e e' → Wrong tab e → ⊥
   unfolding built_by literal_of
-  wrong_contracts (c_app x g) (wrong_app v u h) = true≢false h
-  wrong_contracts (c_proj x y g) (wrong_proj v h) = true≢false h
-  wrong_contracts (c_case x g) (wrong_case v h) = true≢false h
-  wrong_contracts (c_reckon x y) (wrong_reckon v u h) = true≢false h
-  wrong_contracts (c_mu x) (wrong_mu h) = none-ne-some _ (sym h ∙ ap (parts function) x)
-  wrong_contracts (c_protect _) w = elim w [ ]
+  wrong_contracts n w = grind arith
 
   wrong_denied : {e : Term} → Denied S e → Wrong tab e → ⊥
   unfolding built_by literal_of
-  wrong_denied (denied_app x g) (wrong_app v u h) = true≢false h
-  wrong_denied (denied_proj x y g) (wrong_proj v h) = true≢false h
-  wrong_denied (denied_case x g) (wrong_case v h) = true≢false h
-  wrong_denied (denied_reckon g) (wrong_reckon v u h) = true≢false h
+  wrong_denied n m = grind arith
 
   wrong_stuck : {e : Term} {x : Outcome} → Redex S tab e x → Wrong tab e → x ≡ stuck
-  wrong_stuck (contracting c) w = absurd (wrong_contracts c w)
-  wrong_stuck (denying d) w = absurd (wrong_denied d w)
-  wrong_stuck (sticking v) w = refl
+  wrong_stuck n w = grind (arith, wrong_contracts, wrong_denied)
 
   contracts_step : {e e' : Term} → Contracts S tab e e' → step S tab e ≡ moved e'
-  unfolding step operand_first apply project branch unroll calculate literal_of reading
-  contracts_step (c_app {v = v} x g) = rw (value_step S tab v x, g)
-  contracts_step (c_proj {v = v} {v' = v'} x y g) = rw (value_step S tab v x, value_step S tab v' y, g)
-  contracts_step (c_case {v = v} x g) = rw (value_step S tab v x, g)
-  contracts_step (c_mu x) = rw x
-  contracts_step (c_reckon x y) = rw (x, y)
-  contracts_step (c_protect {v = v} x) = rw (value_step S tab v x)
+  unfolding step operand_first apply project branch unroll calculate literal_of if_permitted
+  contracts_step n = grind (arith, value_step)
 
   denied_step : {e : Term} → Denied S e → step S tab e ≡ denied
-  unfolding step operand_first apply project branch calculate literal_of reading
-  denied_step (denied_app {v = v} x g) = rw (value_step S tab v x, g)
-  denied_step (denied_proj {v = v} {v' = v'} x y g) = rw (value_step S tab v x, value_step S tab v' y, g)
-  denied_step (denied_case {v = v} x g) = rw (value_step S tab v x, g)
-  denied_step (denied_reckon g) = rw g
+  unfolding step operand_first apply project branch calculate literal_of if_permitted
+  denied_step n = grind (arith, value_step)
 
   wrong_step : {e : Term} → Wrong tab e → step S tab e ≡ stuck
   unfolding step operand_first
@@ -190,6 +106,4 @@ module _ (S : Security) (tab : ℕ → Ty) where
   wrong_step (wrong_mu {w = w} {i = i} {e = e} h) = wrong_stuck (unroll_redex w i e (tab i) refl) (wrong_mu h)
 
   pub redex_step : {e : Term} {x : Outcome} → Redex S tab e x → step S tab e ≡ x
-  redex_step (contracting c) = contracts_step c
-  redex_step (denying d) = denied_step d
-  redex_step (sticking w) = wrong_step w
+  redex_step n = grind (arith, contracts_step, denied_step, wrong_step)

@@ -1,95 +1,51 @@
 -- Relabelling goes with everything that reduction does to terms: values, kinds, substitution and contexts.
-use mathlib.Core.Path.{◌≡◌, refl, sym}
-use mathlib.Core.Bool.{Bool, So, cond, true, false}
-use mathlib.Core.Option.{none, none-ne-some}
-use Prim.Native.Nat.{ℕ, suc}
-use lib.Dec.{eqb}
-use Rattle.calculus.specs.Types.{Former, Ty, leaf, node, same, top, when, exists, parts}
-use Rattle.calculus.specs.Terms.{Side, first, second, choose, Term, var, unit, lam, pair, inj, app, proj, case, protect, mu, literal, reckon, is_value, subst}
+use Rattle.std.proofs.Common.{◌≡◌, refl, Bool, cond, ℕ, suc, nat_eq, IsTrue, arith}
+use Rattle.std.proofs.Math.Option.{none}
+use Rattle.calculus.specs.Types.{Former, Ty, top, when, exists, parts}
+use Rattle.calculus.specs.Terms.{Side, choose, Term, var, unit, lam, pair, inj, app, proj, case, protect, mu, literal}
+use Rattle.calculus.specs.Terms.{reckon, is_value, substitute}
 use Rattle.calculus.specs.Numbers.{literal_of, side}
-use Rattle.calculus.specs.Reduction.{Context, hole, app_left, app_right, in_proj, in_inj, pair_left, pair_right, in_protect, in_case, reckon_left, reckon_right, plug}
+use Rattle.calculus.specs.Reduction.{Context, hole, app_left, app_right, in_proj, in_inj, pair_left, pair_right}
+use Rattle.calculus.specs.Reduction.{in_protect, in_case, reckon_left, reckon_right, plug}
 use Rattle.calculus.specs.Stuck.{built_by}
 use Rattle.calculus.specs.Relabelling.{Labels, relabel_t, relabel}
-
-when_none : {A : Type 0} (b : Bool) (x y : A) → when b x ≡ none → when b y ≡ none
-when_none true x y h = absurd (none-ne-some x (sym h))
-when_none false x y h = refl
 
 module _ (R : Labels) where
   pub relabel_top : (t : Ty) → top (relabel_t R t) ≡ R.property (top t)
   unfolding relabel_t
-  relabel_top (leaf b k) = refl
-  relabel_top (node f k s t) = refl
-
-  relabel_chosen : (d : Side) (s t : Ty) → top (choose d (relabel_t R s) (relabel_t R t)) ≡ R.property (top (choose d s t))
-  relabel_chosen first s t = relabel_top s
-  relabel_chosen second s t = relabel_top t
+  relabel_top t = grind arith
 
   pub relabel_value : (e : Term) → is_value (relabel R e) ≡ is_value e
   unfolding is_value relabel
-  relabel_value (var n) = refl
-  relabel_value (unit k) = refl
-  relabel_value (lam k i e) = refl
   relabel_value (pair k a b) = rw (relabel_value a, relabel_value b)
   relabel_value (inj d k i e) = relabel_value e
-  relabel_value (app w f a) = refl
-  relabel_value (proj d w e) = refl
-  relabel_value (case w i e a b) = refl
-  relabel_value (protect m e) = refl
-  relabel_value (mu w i e) = refl
-  relabel_value (literal k n) = refl
-  relabel_value (reckon o w a b) = refl
+  relabel_value _ = refl
 
-  pub relabelled_value : (e : Term) → So (is_value e) → So (is_value (relabel R e))
+  pub relabelled_value : (e : Term) → IsTrue (is_value e) → IsTrue (is_value (relabel R e))
   relabelled_value e h = rw (relabel_value e) h
 
   pub relabel_built_by : (f : Former) (e : Term) → built_by f (relabel R e) ≡ built_by f e
   unfolding built_by relabel
-  relabel_built_by f (var n) = refl
-  relabel_built_by f (unit k) = refl
-  relabel_built_by f (lam k i e) = refl
-  relabel_built_by f (pair k a b) = refl
-  relabel_built_by f (inj d k i e) = refl
-  relabel_built_by f (app w g a) = refl
-  relabel_built_by f (proj d w e) = refl
-  relabel_built_by f (case w i e a b) = refl
-  relabel_built_by f (protect m e) = refl
-  relabel_built_by f (mu w i e) = refl
-  relabel_built_by f (literal k n) = refl
-  relabel_built_by f (reckon o w a b) = refl
+  relabel_built_by f e = grind arith
 
   pub relabel_literal : (e : Term) → exists (literal_of (relabel R e)) ≡ exists (literal_of e)
   unfolding literal_of relabel
-  relabel_literal (var n) = refl
-  relabel_literal (unit k) = refl
-  relabel_literal (lam k i e) = refl
-  relabel_literal (pair k a b) = refl
-  relabel_literal (inj d k i e) = refl
-  relabel_literal (app w g a) = refl
-  relabel_literal (proj d w e) = refl
-  relabel_literal (case w i e a b) = refl
-  relabel_literal (protect m e) = refl
-  relabel_literal (mu w i e) = refl
-  relabel_literal (literal k n) = refl
-  relabel_literal (reckon o w a b) = refl
+  relabel_literal e = grind arith
 
   pub relabel_side : (d : Side) (t : Ty) → top (side d (relabel_t R t)) ≡ R.property (top (side d t))
   unfolding relabel_t
-  relabel_side d (leaf b k) = refl
-  relabel_side d (node f k s t) = relabel_chosen d s t
+  relabel_side d t = grind arith
 
   pub relabel_parts : (f : Former) (t : Ty) → parts f t ≡ none → parts f (relabel_t R t) ≡ none
   unfolding relabel_t
-  relabel_parts f (leaf b k) h = refl
-  relabel_parts f (node g k s t) h = when_none (same f g) _ _ h
+  relabel_parts f t h = grind arith
 
   relabel_cond : (b : Bool) (v e : Term) → relabel R (cond b v e) ≡ cond b (relabel R v) (relabel R e)
-  relabel_cond true v e = refl
-  relabel_cond false v e = refl
+  relabel_cond b v e = grind arith
 
-  pub relabel_subst : (n : ℕ) (v e : Term) → relabel R (subst n v e) ≡ subst n (relabel R v) (relabel R e)
-  unfolding subst relabel
-  relabel_subst n v (var m) = relabel_cond (eqb m n) v (var m)
+  pub relabel_subst : (n : ℕ) (v e : Term) → relabel R (substitute n v e) ≡ substitute n (relabel R v) (relabel R e)
+  unfolding substitute relabel
+  relabel_subst n v (var m) = relabel_cond (nat_eq m n) v (var m)
   relabel_subst n v (unit k) = refl
   relabel_subst n v (lam k i e) = rw (relabel_subst (suc n) v e)
   relabel_subst n v (pair k a b) = rw (relabel_subst n v a, relabel_subst n v b)

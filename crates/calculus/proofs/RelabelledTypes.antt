@@ -1,18 +1,19 @@
--- Relabelling goes with typing and with a step where every operation goes with the labels and every test answers as before.
-use mathlib.Core.Path.{◌≡◌, refl, sym, ◌∙◌}
-use mathlib.Core.Bool.{Bool, true, false}
-use mathlib.Core.Option.{Option, none, some}
-use Prim.Native.Nat.{ℕ}
+-- Relabelling goes with typing and with a step where every operation goes with the labels and every test answers as
+-- before.
+use Rattle.std.proofs.Common.{◌≡◌, refl, sym, ◌∙◌, Bool, true, false, ℕ, arith}
+use Rattle.std.proofs.Math.Option.{none, some, Option}
 use Rattle.calculus.specs.Security.{Property, Reader, Indirect, Security}
-use Rattle.calculus.specs.Types.{Leaf, Former, Ty, leaf, node, top, same_leaf, same, raise_t, size_t, when, ◌>>=◌}
+use Rattle.calculus.specs.Types.{Leaf, Former, Ty, leaf, node, top, same_leaf, equal_formers, raise_t, size_t, when}
+use Rattle.calculus.specs.Types.{◌>>=◌}
 use Rattle.calculus.specs.Subtyping.{Direction, below, above, leftward, le_toward, subtype}
-use Rattle.calculus.specs.Common.{bound, common}
+use Rattle.calculus.specs.Common.{nearest_property, nearest_type}
 use Rattle.calculus.specs.Terms.{Term}
 use Rattle.calculus.specs.Numbers.{of_both}
 use Rattle.calculus.specs.Reduction.{step}
-use Rattle.calculus.specs.Relabelling.{Labels, relabel_t, relabel, relabel_o}
-use Rattle.calculus.specs.Erasure.{public}
+use Rattle.calculus.specs.Relabelling.{Labels, relabel_t, relabel}
 use Rattle.calculus.proofs.Relabelling.{Keeps, relabel_denied, relabel_step}
+use Rattle.calculus.proofs.Erased.{public}
+use Rattle.calculus.proofs.RelabelledOutcomes.{relabel_o}
 
 -- What the operations of S do to labels, those of S' do to the new ones, and S' answers of the new ones what S answers.
 pub record Agrees (R : Labels) (S S' : Security) (tab : ℕ → Ty) : Type 0 where
@@ -39,22 +40,17 @@ relabel_found R (some t) = some (relabel_t R t)
 
 leaf_found : (R : Labels) (b : Leaf) (x : Bool) (k : Property) → when x (leaf b (R.property k)) ≡ relabel_found R (when x (leaf b k))
 unfolding relabel_t
-leaf_found R b true k = refl
-leaf_found R b false k = refl
+leaf_found R b x k = grind arith
 
 both_found : (R : Labels) (f : Former) (b : Bool) (k : Property) (x y : Option Ty)
     → ◌>>=◌ (relabel_found R x) (λ s. ◌>>=◌ (relabel_found R y) (λ t. when b (node f (R.property k) s t)))
     ≡ relabel_found R (◌>>=◌ x (λ s. ◌>>=◌ y (λ t. when b (node f k s t))))
 unfolding relabel_t
-both_found R f b k none y = refl
-both_found R f b k (some s) none = refl
-both_found R f true k (some s) (some t) = refl
-both_found R f false k (some s) (some t) = refl
+both_found R f b k x y = grind arith
 
 module _ {R : Labels} {S S' : Security} {tab : ℕ → Ty} (agrees : Agrees R S S' tab) where
   relabel_le : (d : Direction) (k l : Property) → le_toward S' d (R.property k) (R.property l) ≡ le_toward S d k l
-  relabel_le below k l = agrees.le k l
-  relabel_le above k l = agrees.le l k
+  relabel_le d k l = grind arith
 
   pub relabel_subtype : (d : Direction) (s t : Ty) → subtype S' d (relabel_t R s) (relabel_t R t) ≡ subtype S d s t
   unfolding subtype relabel_t
@@ -65,31 +61,20 @@ module _ {R : Labels} {S S' : Security} {tab : ℕ → Ty} (agrees : Agrees R S 
 
   pub relabel_raise_t : (t : Ty) (m : Indirect) → raise_t S' (relabel_t R t) (R.indirect m) ≡ relabel_t R (raise_t S t m)
   unfolding relabel_t
-  relabel_raise_t (leaf b k) m = rw (agrees.raise k m)
-  relabel_raise_t (node f k s t) m = rw (agrees.raise k m)
+  relabel_raise_t t m = grind arith
 
-  relabel_bound : (d : Direction) (k l : Property) → bound S' d (R.property k) (R.property l) ≡ R.property (bound S d k l)
-  relabel_bound below k l = sym (agrees.join k l)
-  relabel_bound above k l = sym (agrees.meet k l)
+  relabel_bound : (d : Direction) (k l : Property) → nearest_property S' d (R.property k) (R.property l) ≡ R.property (nearest_property S d k l)
+  relabel_bound d k l = grind arith
 
-  pub relabel_common : (d : Direction) (s t : Ty) → common S' d (relabel_t R s) (relabel_t R t) ≡ relabel_found R (common S d s t)
-  unfolding common relabel_t
-  relabel_common d (leaf b k) (leaf b' l) = rw (relabel_bound d k l) (leaf_found R b (same_leaf b b') (bound S d k l))
+  pub relabel_common : (d : Direction) (s t : Ty) → nearest_type S' d (relabel_t R s) (relabel_t R t) ≡ relabel_found R (nearest_type S d s t)
+  unfolding nearest_type relabel_t
+  relabel_common d (leaf b k) (leaf b' l) = rw (relabel_bound d k l) (leaf_found R b (same_leaf b b') (nearest_property S d k l))
   relabel_common d (leaf b k) (node f l s t) = refl
   relabel_common d (node f k s t) (leaf b l) = refl
   relabel_common d (node f k s t) (node g l s' t') =
       rw (relabel_bound d k l, relabel_common (leftward f d) s s', relabel_common d t t')
-      (both_found R f (same f g) (bound S d k l) (common S (leftward f d) s s') (common S d t t'))
-
-  keeps : Keeps R S S' tab
-  keeps = record {
-    raise = agrees.raise;
-    permits = λ k w h. rw (agrees.permits k w) h;
-    influence = agrees.influence;
-    reckoning = agrees.reckoning;
-    caller = agrees.caller;
-  }
+      (both_found R f (equal_formers f g) (nearest_property S d k l) (nearest_type S (leftward f d) s s') (nearest_type S d t t'))
 
   -- whatever the step's end
   pub agreed_step : (tab' : ℕ → Ty) → ((i : ℕ) → tab' i ≡ relabel_t R (tab i)) → (e : Term) → step S' tab' (relabel R e) ≡ relabel_o R (step S tab e)
-  agreed_step tab' relabelled e = relabel_step keeps tab' relabelled e (relabel_denied R S S' (λ k w h. agrees.permits k w ∙ h))
+  agreed_step tab' relabelled e = grind (arith, relabel_step, relabel_denied)

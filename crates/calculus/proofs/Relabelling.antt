@@ -1,62 +1,32 @@
--- Relabelling of a step: where the operations go with the labels, and what is denied stays so, the relabelled term does the same.
-use mathlib.Core.Path.{◌≡◌, refl, sym, ap, ◌∙◌}
-use mathlib.Core.Bool.{Bool, true, false, ◌&&◌, So, false≢true}
-use Prim.Native.Nat.{ℕ, zero}
+-- Relabelling of a step: where the operations go with the labels, and what is denied stays so, the relabelled term does
+-- the same.
+use Rattle.std.proofs.Common.{◌≡◌, refl, sym, ap, ◌∙◌, Bool, true, false, ◌&&◌, ℕ, zero, IsTrue, arith}
+use Rattle.std.proofs.Math.Bool.{false≢true}
 use Rattle.calculus.specs.Security.{Property, Reader, Indirect, Security}
 use Rattle.calculus.specs.Types.{sum, product, function, Ty, top, parts}
 use Rattle.calculus.specs.Terms.{Operation, plus, less, Term, var, unit, lam, pair, inj, app, proj, case, protect, mu, literal, reckon, choose, raise_value}
-use Rattle.calculus.specs.Numbers.{of_both, compared, reckoned}
-use Rattle.calculus.specs.Reduction.{
-  Contracts,
-  c_app,
-  c_proj,
-  c_case,
-  c_mu,
-  c_reckon,
-  c_protect,
-  unrolled,
-  Reduces,
-  Outcome,
-  value,
-  moved,
-  denied,
-  stuck,
-  step,
-}
-use Rattle.calculus.specs.Stuck.{
-  Denied,
-  denied_app,
-  denied_proj,
-  denied_case,
-  denied_reckon,
-  Wrong,
-  wrong_var,
-  wrong_app,
-  wrong_proj,
-  wrong_case,
-  wrong_reckon,
-  wrong_mu,
-  DeniedAt,
-  StuckAt,
-}
-use Rattle.calculus.specs.Relabelling.{Labels, relabel_t, relabel, relabel_o}
+use Rattle.calculus.specs.Numbers.{of_both, less_side, reckon_result}
+use Rattle.calculus.specs.Reduction.{Contracts, c_app, c_proj, c_case, c_mu, c_reckon, c_protect, unrolled_function, Reduces, Outcome, value, moved, denied, stuck, step}
+use Rattle.calculus.specs.Stuck.{Denied, denied_app, denied_proj, denied_case, denied_reckon, Wrong, wrong_var}
+use Rattle.calculus.specs.Stuck.{wrong_app, wrong_proj, wrong_case, wrong_reckon, wrong_mu, DeniedAt, StuckAt}
+use Rattle.calculus.specs.Relabelling.{Labels, relabel_t, relabel}
 use Rattle.calculus.proofs.Sides.{choose_map}
-use Rattle.calculus.proofs.RelabelledTerms.{relabelled_value, relabel_built_by, relabel_literal, relabel_side, relabel_parts, relabel_subst, relabel_c, relabel_plug}
+use Rattle.calculus.proofs.RelabelledTerms.{relabelled_value, relabel_built_by, relabel_literal, relabel_side}
+use Rattle.calculus.proofs.RelabelledTerms.{relabel_parts, relabel_subst, relabel_c, relabel_plug}
 use Rattle.calculus.proofs.Agreement.{Says, step_says, says_step}
+use Rattle.calculus.proofs.RelabelledOutcomes.{relabel_o}
 
--- What the operations of S do to labels, those of S' do to the new ones. S' permits what S permits, and may permit more.
+-- What the operations of S do to labels, those of S' do to the new ones. S' permits what S permits, and may permit
+-- more.
 pub record Keeps (R : Labels) (S S' : Security) (tab : ℕ → Ty) : Type 0 where
   pub raise : (k : Property) (m : Indirect) → R.property (S.raise k m) ≡ S'.raise (R.property k) (R.indirect m)
-  pub permits : (k : Property) (w : Reader) → So (S.permits k w) → So (S'.permits (R.property k) (R.reader w))
+  pub permits : (k : Property) (w : Reader) → IsTrue (S.permits k w) → IsTrue (S'.permits (R.property k) (R.reader w))
   pub influence : (k : Property) (w : Reader) → R.indirect (S.influence k w) ≡ S'.influence (R.property k) (R.reader w)
   pub reckoning : (w : Reader) (k l : Property) → R.property (of_both S w k l) ≡ of_both S' (R.reader w) (R.property k) (R.property l)
   pub caller : (i : ℕ) (w : Reader) → R.reader (S.caller (top (tab i)) w) ≡ S'.caller (R.property (top (tab i))) (R.recursion i w)
 
 both_refused : (a b a' b' : Bool) → (a ≡ false → a' ≡ false) → (b ≡ false → b' ≡ false) → (a && b) ≡ false → (a' && b') ≡ false
-both_refused true b a' true p q h = absurd (false≢true (sym (q h)))
-both_refused true b true false p q h = refl
-both_refused true b false false p q h = refl
-both_refused false b a' b' p q h = rw (p refl)
+both_refused a b a' b' p q h = grind arith
 
 -- Where S' permits no more, what is denied stays so.
 module _ (R : Labels) (S S' : Security) (refuses : (k : Property) (w : Reader) → S.permits k w ≡ false → S'.permits (R.property k) (R.reader w) ≡ false) where
@@ -79,28 +49,16 @@ module _ (R : Labels) (S S' : Security) (refuses : (k : Property) (w : Reader) �
 module _ {R : Labels} {S S' : Security} {tab : ℕ → Ty} (keeps : Keeps R S S' tab) (tab' : ℕ → Ty) (relabelled : (i : ℕ) → tab' i ≡ relabel_t R (tab i)) where
   relabel_raise : (v : Term) (m : Indirect) → relabel R (raise_value S v m) ≡ raise_value S' (relabel R v) (R.indirect m)
   unfolding raise_value relabel
-  relabel_raise (var n) m = refl
-  relabel_raise (unit k) m = cc (keeps.raise k m)
-  relabel_raise (lam k i e) m = cc (keeps.raise k m)
-  relabel_raise (pair k a b) m = cc (keeps.raise k m)
-  relabel_raise (inj d k i e) m = cc (keeps.raise k m)
-  relabel_raise (app w f a) m = refl
-  relabel_raise (proj d w e) m = refl
-  relabel_raise (case w i e a b) m = refl
-  relabel_raise (protect n e) m = refl
-  relabel_raise (mu w i e) m = refl
-  relabel_raise (literal k n) m = cc (keeps.raise k m)
-  relabel_raise (reckon o w a b) m = refl
+  relabel_raise v m = grind arith
 
   relabel_unrolled : (w : Reader) (i : ℕ) (k : Property) (e : Term) → top (tab i) ≡ k
-      → relabel R (unrolled S w i k e) ≡ unrolled S' (R.recursion i w) i (R.property k) (relabel R e)
+      → relabel R (unrolled_function S w i k e) ≡ unrolled_function S' (R.recursion i w) i (R.property k) (relabel R e)
   unfolding relabel
   relabel_unrolled w i k e h = rw (← h) (rw (keeps.caller i w))
 
-  relabel_reckoned : (o : Operation) (k : Property) (m n : ℕ) → relabel R (reckoned tab o k m n) ≡ reckoned tab' o (R.property k) m n
-  unfolding reckoned relabel
-  relabel_reckoned plus k m n = refl
-  relabel_reckoned (less i) k m n = rw (relabelled i, relabel_side R (compared m n) (tab i))
+  relabel_reckoned : (o : Operation) (k : Property) (m n : ℕ) → relabel R (reckon_result tab o k m n) ≡ reckon_result tab' o (R.property k) m n
+  unfolding reckon_result relabel
+  relabel_reckoned o k m n = grind (arith, relabel_side)
 
   relabel_contracts : {e e' : Term} → Contracts S tab e e' → Contracts S' tab' (relabel R e) (relabel R e')
   unfolding relabel relabel_t
@@ -112,7 +70,7 @@ module _ {R : Labels} {S S' : Security} {tab : ℕ → Ty} (keeps : Keeps R S S'
       rw (relabel_subst R zero v (choose d a b), choose_map (relabel R) d a b, keeps.influence k w)
       (c_case (relabelled_value R v x) (keeps.permits k w g))
   relabel_contracts (c_mu {w = w} {i = i} {e = e} {k = k} x) =
-      rw (relabel_subst R zero (unrolled S w i k e) e, relabel_unrolled w i k e (ap top x)) (c_mu (relabelled i ∙ ap (relabel_t R) x))
+      rw (relabel_subst R zero (unrolled_function S w i k e) e, relabel_unrolled w i k e (ap top x)) (c_mu (relabelled i ∙ ap (relabel_t R) x))
   relabel_contracts (c_reckon {o = o} {w = w} {k = k} {l = l} {m = m} {n = n} x y) =
       rw (relabel_reckoned o (of_both S w k l) m n, keeps.reckoning w k l) (c_reckon (keeps.permits k w x) (keeps.permits l w y))
   relabel_contracts (c_protect {m = m} {v = v} x) = rw (relabel_raise v m) (c_protect (relabelled_value R v x))

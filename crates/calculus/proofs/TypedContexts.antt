@@ -1,11 +1,10 @@
 -- An evaluation context around a closed term: the term has a type, and any other of that type may take its place.
-use mathlib.Core.Bool.{So}
-use mathlib.Core.List.{[], ◌∷◌}
-use Prim.Native.Nat.{ℕ}
+use Rattle.std.proofs.Common.{[], ◌∷◌, ℕ, IsTrue}
 use Rattle.calculus.specs.Security.{Security, Laws}
 use Rattle.calculus.specs.Types.{Ty, secure_t}
 use Rattle.calculus.specs.Terms.{Term}
-use Rattle.calculus.specs.Reduction.{Context, hole, app_left, app_right, in_proj, in_inj, pair_left, pair_right, in_protect, in_case, reckon_left, reckon_right, plug}
+use Rattle.calculus.specs.Reduction.{Context, hole, app_left, app_right, in_proj, in_inj, pair_left, pair_right}
+use Rattle.calculus.specs.Reduction.{in_protect, in_case, reckon_left, reckon_right, plug}
 use Rattle.calculus.specs.Typing.{HasType, t_pair, t_proj, t_protect, t_reckon, Table}
 use Rattle.calculus.proofs.Inferred.{Inferred, i_pair, i_inj, i_app, i_proj, i_case, i_protect, i_reckon}
 use Rattle.calculus.proofs.SecureTyping.{sc_empty, sc_extend, secure_parts, typed_secure}
@@ -20,7 +19,7 @@ module _ {S : Security} {tab : ℕ → Ty} (L : Laws S) (T : Table S tab) where
   pub closed_typed : {e : Term} {t : Ty} → Inferred S tab [] e t → HasType S tab [] e t
   closed_typed p = inferred_typed L T sc_empty p
 
-  pub bound_typed : {e : Term} {t : Ty} (s : Ty) → So (secure_t S s) → Inferred S tab (s ∷ []) e t → HasType S tab (s ∷ []) e t
+  pub bound_typed : {e : Term} {t : Ty} (s : Ty) → IsTrue (secure_t S s) → Inferred S tab (s ∷ []) e t → HasType S tab (s ∷ []) e t
   bound_typed s h p = inferred_typed L T (sc_extend h sc_empty) p
 
   -- what a frame makes of a filled context

@@ -1,14 +1,12 @@
--- What stands for f when μf : s. e unrolls has the recursion's type. This is where a recursion's conditions (questions 21 and 23) are needed.
-use mathlib.Core.Path.{◌≡◌, ap}
-use mathlib.Core.Bool.{So}
-use mathlib.Core.List.{[], ◌∷◌}
-use mathlib.Core.Option.{Option, some}
-use Prim.Native.Nat.{ℕ, suc, zero}
+-- What stands for f when μf : s. e unrolls has the recursion's type. This is where a recursion's conditions (questions
+-- 21 and 23) are needed.
+use Rattle.std.proofs.Common.{◌≡◌, ap, [], ◌∷◌, ℕ, suc, zero, IsTrue}
+use Rattle.std.proofs.Math.Option.{some, Option}
 use Rattle.calculus.specs.Security.{Property, Reader, Security, Laws}
 use Rattle.calculus.specs.Types.{function, Ty, leaf, node, top, raise_t, secure_t}
 use Rattle.calculus.specs.Subtyping.{below}
 use Rattle.calculus.specs.Terms.{Term, var, app, mu}
-use Rattle.calculus.specs.Reduction.{unrolled}
+use Rattle.calculus.specs.Reduction.{unrolled_function}
 use Rattle.calculus.specs.Typing.{lookup, HasType, t_var, t_lam, t_app, Table}
 use Rattle.calculus.proofs.Directed.{Directed, d_leaf, d_node, directed_refl}
 use Rattle.calculus.proofs.SecureTyping.{secure_parts, table_parts}
@@ -17,7 +15,7 @@ use Rattle.calculus.proofs.Weakening.{weakening}
 
 module _ {S : Security} {tab : ℕ → Ty} (L : Laws S) (T : Table S tab) where
   -- Raised by the influence of its own calls, the result stays at or below itself.
-  pub absorbed : (k : Property) (w : Reader) (t : Ty) → So (S.secure k) → So (secure_t S t) → So (S.permits k w) → So (S.absorbs k w (top t))
+  pub absorbed : (k : Property) (w : Reader) (t : Ty) → IsTrue (S.secure k) → IsTrue (secure_t S t) → IsTrue (S.permits k w) → IsTrue (S.absorbs k w (top t))
       → Directed S below (raise_t S t (S.influence k w)) t
   unfolding secure_t
   absorbed k w (leaf b l) h g m a = d_leaf (L.absorption k l w h g m a)
@@ -25,8 +23,8 @@ module _ {S : Security} {tab : ℕ → Ty} (L : Laws S) (T : Table S tab) where
       let x = secure_parts S f l s t g in
       d_node (L.absorption k l w h x.own m a) (directed_refl L _ s x.left) (directed_refl L below t x.right)
 
-  pub unrolled_typed : {w : Reader} {e : Term} {k : Property} {s t : Ty} (i : ℕ) → tab i ≡ node function k s t → So (S.permits k (S.caller k w))
-      → So (S.absorbs k (S.caller k w) (top t)) → HasType S tab [] (mu w i e) (tab i) → HasType S tab [] (unrolled S w i k e) (tab i)
+  pub unrolled_typed : {w : Reader} {e : Term} {k : Property} {s t : Ty} (i : ℕ) → tab i ≡ node function k s t → IsTrue (S.permits k (S.caller k w))
+      → IsTrue (S.absorbs k (S.caller k w) (top t)) → HasType S tab [] (mu w i e) (tab i) → HasType S tab [] (unrolled_function S w i k e) (tab i)
   unfolding lookup
   unrolled_typed {w} {e} {k} {s} {t} i x m a p =
       let l : tab (suc i) ≡ s = T.left i x in

@@ -1,4 +1,4 @@
--- Item 6: the group that a recursive call is made as.
+-- The group that a recursion's unrolled calls are made as.
 use Rattle.calculus.specs.Security.{Property, Reader, Security}
 
 -- the same rules, but for the group that a recursive call is made as
@@ -18,10 +18,10 @@ called_as caller S = record {
   secure_i = S.secure_i;
 }
 
--- "Byte 1 of a recursion now holds it": the group that is written.
+-- Today's rule: the group that the recursion carries.
 abbrev pub as_written : Property → Reader → Reader
 as_written k w = w
 
--- Document 01: "unrolling's inner application, unmarked in the source, is made as r of the recursion's type". What is written isn't read.
+-- Form 1's rule: r of the recursion's type, whatever is written.
 abbrev pub as_typed : Property → Reader → Reader
 as_typed k w = k.r

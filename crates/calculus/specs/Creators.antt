@@ -1,4 +1,4 @@
--- Item 10: what is rewritten "with c and ic as group 0", and the rules before it, which know readers only.
+-- Rules that know readers alone, and terms whose creators are all group 0: what rewriting compares (manual, 7.12).
 use Rattle.std.specs.Prelude.{◌&&◌, ℕ, zero}
 use Rattle.calculus.specs.Security.{Property, Reader, Indirect, Security}
 use Rattle.calculus.specs.Groups.{Groups}
@@ -6,13 +6,14 @@ use Rattle.calculus.specs.Types.{Ty, top}
 use Rattle.calculus.specs.Relabelling.{Labels}
 
 -- the same readers, and group 0 as creators
-abbrev pub uncreated : Property → Property
-uncreated k = record { r = k.r; ir = k.ir; c = zero; ic = zero }
+abbrev pub without_creators : Property → Property
+without_creators k = record { r = k.r; ir = k.ir; c = zero; ic = zero }
 
-abbrev pub uncreated_i : Indirect → Indirect
-uncreated_i m = record { ir = m.ir; ic = zero }
+-- a protect's label with the same ir, and group 0 as ic
+abbrev pub without_creators_i : Indirect → Indirect
+without_creators_i m = record { ir = m.ir; ic = zero }
 
--- The rules before item 10: creators are neither read nor kept.
+-- The rules of earlier forms: creators are neither read nor kept.
 abbrev pub readers : Groups → Security
 readers G = record {
   le = λ k l. G.leq k.r l.r && G.leq k.ir l.ir;
@@ -30,6 +31,6 @@ readers G = record {
 }
 
 -- Rewriting a term: c and ic as group 0, and in every recursion the group that its call is made as.
-abbrev pub rewritten : (Property → Reader → Reader) → (ℕ → Ty) → Labels
-rewritten caller tab =
-    record { property = uncreated; reader = λ w. w; indirect = uncreated_i; recursion = λ i w. caller (top (tab i)) w }
+abbrev pub rewriting_labels : (Property → Reader → Reader) → (ℕ → Ty) → Labels
+rewriting_labels caller tab =
+    record { property = without_creators; reader = λ w. w; indirect = without_creators_i; recursion = λ i w. caller (top (tab i)) w }

@@ -1,3 +1,5 @@
+-- The calculus: properties, types, terms, reduction and typing, each built on those before it; then what compares
+-- rules.
 pub mod Security
 pub mod Groups
 pub mod Types
@@ -10,6 +12,6 @@ pub mod Runs
 pub mod Stuck
 pub mod Typing
 pub mod Relabelling
-pub mod Erasure
 pub mod Callers
 pub mod Creators
+pub mod Metatheory

@@ -13,10 +13,12 @@ pub record Labels : Type 0 where
   -- the label of a recursion of type i
   pub recursion : ℕ → Reader → Reader
 
+-- a type with each property replaced
 unfoldable pub relabel_t : Labels → Ty → Ty
 relabel_t R (leaf b k) = leaf b (R.property k)
 relabel_t R (node f k s t) = node f (R.property k) (relabel_t R s) (relabel_t R t)
 
+-- a term with each of its labels replaced
 unfoldable pub relabel : Labels → Term → Term
 relabel R (var n) = var n
 relabel R (unit k) = unit (R.property k)
@@ -30,9 +32,3 @@ relabel R (protect m e) = protect (R.indirect m) (relabel R e)
 relabel R (mu w i e) = mu (R.recursion i w) i (relabel R e)
 relabel R (literal k n) = literal (R.property k) n
 relabel R (reckon o w a b) = reckon o (R.reader w) (relabel R a) (relabel R b)
-
-abbrev pub relabel_o : Labels → Outcome → Outcome
-relabel_o R value = value
-relabel_o R (moved e) = moved (relabel R e)
-relabel_o R denied = denied
-relabel_o R stuck = stuck

@@ -1,9 +1,9 @@
--- Over the rows up to group n of a table that stands in order, joins of groups up to n are those over the whole table, and so is a meet
--- with one of them: nothing past it is below it.
-use Rattle.std.proofs.Common.{◌≡◌, refl, sym, ap, ap₂, ◌∙◌, Bool, true, false, ◌&&◌, ℕ, zero, suc, ◌+◌, ◌*◌, ◌≤◌, ◌<◌, min, max, arith, length-take}
+-- Over the rows up to group n of a table that stands in order, joins of groups up to n are those over the whole table,
+-- and so is a meet with one of them: nothing past it is below it.
+use Rattle.std.proofs.Common.{◌≡◌, refl, ap, ap₂, ◌∙◌, Bool, true, false, ◌&&◌, ℕ, zero, suc, ◌+◌, ◌*◌, ◌≤◌, ◌<◌, min}
+use Rattle.std.proofs.Common.{max, arith, length-take, get_or-take}
 use Rattle.std.proofs.Math.Decide.{dec_lt}
-use lib.Seq.{get_or-take}
-use lib.ListN.{get_or-eq_default}
+use Rattle.std.proofs.Math.ListN.{get_or-eq_default}
 use Rattle.calculus.specs.Security.{Property, Reader, Indirect, Security}
 use Rattle.calculus.specs.Numbers.{of_both}
 use Rattle.calculus.proofs.Booleans.{and_left, and_right}
@@ -12,6 +12,7 @@ use Rattle.rules.specs.Limits.{row_width, group_limit}
 use Rattle.rules.specs.Groups.{row, bit, leq, join, below_both, meet, or_zero, properties_of}
 use Rattle.lattice.proofs.Words.{bit_of_zero}
 use Rattle.contraction.specs.Order.{InOrder, up_to}
+use Rattle.std.proofs.lemmas.Grind.{common_steps}
 
 -- the last number that passes, where none past b does
 at_most : (test : ℕ → Bool) (n b : ℕ) → ((k : ℕ) → test k ≡ true → k ≤ b) → or_zero (last_below test n) ≤ b
@@ -35,31 +36,11 @@ module _ {t : Bytes} (o : InOrder t) where
     abbrev cut : Bytes
     cut = up_to t n
 
-    byte_kept : (i : ℕ) → i < row_width * (n + 1) → byte cut i ≡ byte t i
-    byte_kept i l = get_or-take (row_width * (n + 1)) t i 0 l
-
     row_kept : (k : ℕ) → k ≤ n → row cut k ≡ row t k
-    row_kept k l =
-        omega (
-          arith,
-          byte_kept (row_width * k) (omega arith),
-          byte_kept (row_width * k + 1) (omega arith),
-          byte_kept (row_width * k + 2) (omega arith),
-          byte_kept (row_width * k + 3) (omega arith),
-        )
-
-    byte_past : (i : ℕ) → row_width * (n + 1) ≤ i → byte cut i ≡ 0
-    byte_past i l = get_or-eq_default cut 0 {n = i} (omega (arith, length-take (row_width * (n + 1)) t))
+    row_kept k l = grind (arith, common_steps)
 
     row_past : (k : ℕ) → n < k → row cut k ≡ 0
-    row_past k l =
-        omega (
-          arith,
-          byte_past (row_width * k) (omega arith),
-          byte_past (row_width * k + 1) (omega arith),
-          byte_past (row_width * k + 2) (omega arith),
-          byte_past (row_width * k + 3) (omega arith),
-        )
+    row_past k l = grind (arith, common_steps)
 
     join_kept : (g h : ℕ) → g ≤ n → h ≤ n → join cut g h ≡ join t g h
     unfolding join
@@ -67,18 +48,10 @@ module _ {t : Bytes} (o : InOrder t) where
         ap₂ (λ (x y : ℕ). or_zero (first_below (λ k. bit x k && bit y k) group_limit)) (row_kept g a) (row_kept h b)
 
     none_past : (g h k : ℕ) → min g h ≤ n → n < k → below_both t g h k ≡ false
-    none_past g h k l m = by (below_both t g h k) refl
-      where
-        by : (x : Bool) → below_both t g h k ≡ x → x ≡ false
-        by true e = absurd (omega (arith, both_below g h k e))
-        by false e = refl
+    none_past g h k l m = grind arith
 
     below_kept : (g h : ℕ) → min g h ≤ n → (k : ℕ) → below_both cut g h k ≡ below_both t g h k
-    below_kept g h l k = by (dec_lt n k)
-      where
-        by : Dec (n < k) → below_both cut g h k ≡ below_both t g h k
-        by (yes m) = ap (λ (w : ℕ). bit w g && bit w h) (row_past k m) ∙ ap (λ x. x && bit 0 h) (bit_of_zero g) ∙ sym (none_past g h k l m)
-        by (no m) = ap (λ (w : ℕ). bit w g && bit w h) (row_kept k (omega arith))
+    below_kept g h l k = grind (arith, dec_lt, row_past, bit_of_zero, none_past, row_kept)
 
     meet_kept : (g h : ℕ) → min g h ≤ n → meet cut g h ≡ meet t g h
     unfolding meet
@@ -91,13 +64,7 @@ module _ {t : Bytes} (o : InOrder t) where
     influence_kept k w l = λ j. record { ir = k.ir; ic = meet_kept k.ic w l j }
 
     pub raise_kept : (k : Property) (m : Indirect) → max (max k.r k.ir) m.ir ≤ n → min m.ic (max k.c k.ic) ≤ n → (properties_of cut).raise k m ≡ S.raise k m
-    raise_kept k m j l =
-        λ i. record {
-          r = join_kept k.r m.ir (omega arith) (omega arith) i;
-          ir = join_kept k.ir m.ir (omega arith) (omega arith) i;
-          c = meet_kept k.c m.ic (omega arith) i;
-          ic = meet_kept k.ic m.ic (omega arith) i;
-        }
+    raise_kept k m j l = grind (arith, join_kept, meet_kept)
 
     pub both_kept : (w : Reader) (k l : Property) → max k.ir l.ir ≤ n → min w (max k.ic l.ic) ≤ n → of_both (properties_of cut) w k l ≡ of_both S w k l
     both_kept w k l j m =

@@ -1,13 +1,11 @@
 -- What a plan's contractum is: counted, and as bytes.
-use Rattle.std.proofs.Common.{◌≡◌, refl, sym, ap, ◌∙◌, cond, true, false, Bool, [], ◌++◌, ℕ, suc, ◌+◌, ◌*◌, ◌≤◌, ◌<◌, arith, drop, drop_at}
-use Rattle.std.proofs.Math.Bool.{So}
-use Rattle.std.proofs.lemmas.Bool.{false≢true}
-use Rattle.std.proofs.Common.{subst as transport}
+use Rattle.std.proofs.Common.{◌≡◌, refl, sym, ap, ◌∙◌, cond, Bool, [], ◌++◌, ℕ, suc, ◌+◌, ◌*◌, ◌≤◌, ◌<◌, arith, drop}
+use Rattle.std.proofs.Common.{drop_at, subst as transport, IsTrue}
 use Rattle.calculus.specs.Security.{Property, Reader, Indirect, Security}
 use Rattle.calculus.specs.Types.{Ty, top}
-use Rattle.calculus.specs.Terms.{first, second, Operation, plus, less, Term, var, unit, lam, pair, inj, app, proj, case, protect, mu, literal, reckon, is_value, subst, raise_value}
-use Rattle.calculus.specs.Numbers.{Literal, literal_of, of_both, side, reckoned}
-use Rattle.calculus.specs.Reduction.{unrolled}
+use Rattle.calculus.specs.Terms.{first, second, Operation, plus, less, Term, unit, protect, mu, literal, reckon, is_value, substitute, raise_value, var, lam, pair, inj}
+use Rattle.calculus.specs.Numbers.{Literal, literal_of, of_both, side, reckon_result}
+use Rattle.calculus.specs.Reduction.{unrolled_function}
 use Rattle.calculus.proofs.Booleans.{and_left, and_right}
 use Rattle.rules.specs.Answer.{Bytes}
 use Rattle.rules.specs.Limits.{script_width, script_limit}
@@ -25,7 +23,7 @@ use Rattle.records.specs.Numbers.{kind_number}
 use Rattle.records.specs.declared.Kind.{Kind}
 use Rattle.records.specs.declared.Kind.TheVariants.{Sum}
 use Rattle.redex.proofs.Stages.{kind_read}
-use Rattle.redex.specs.Fates.{only_reader, property_of, is_function, goes, wrong_kind, ready, fate, contractum}
+use Rattle.redex.specs.Fates.{only_reader, property_of, is_function, reduces, no_rule, is_potential_redex, fate, contractum}
 use Rattle.records.proofs.Made.{number_of, number_at, influence_of}
 use Rattle.types.specs.Held.{type_property}
 use Rattle.redex.proofs.Answers.{function_top}
@@ -36,7 +34,8 @@ use Rattle.substitution.specs.Substituted.{value_limit}
 use Rattle.substitution.proofs.Nodes.{subst_bound}
 use Rattle.contraction.specs.declared.Plan.TheVariants.{Part, Body, Raised, Unrolled, Reckoned}
 use Rattle.substitution.specs.declared.Size.{Size}
-use Rattle.contraction.specs.Plans.{Planned, applied, projected, branched, lifted, unrolled_one, reckoned_one, protect_record, Measures, Literals, Sides, side_of, flag}
+use Rattle.contraction.specs.Plans.{Planned, applied, projected, branched, lifted, unrolled_one, reckoned_one}
+use Rattle.contraction.specs.Plans.{protect_record, Measures, Literals, Sides, flag_side, flag}
 
 -- what the protection of a destructor's contractum is
 abbrev pub protection_of : Security → Term → Indirect
@@ -48,12 +47,12 @@ pub record PartPlan (s : Bytes) (e : Term) (x : ℕ) : Type 0 where
   pub stands : At s x part
   pub small : size part + 1 ≤ size e
   pub shallow : depth part + 1 ≤ depth e
-  pub value : So (ready e) → So (is_value part)
+  pub value : IsTrue (is_potential_redex e) → IsTrue (is_value part)
   pub operand : 1 ≤ operands e
   pub is : (S : Security) (tab : ℕ → Ty) → contractum S tab e ≡ protect (protection_of S e) part
 
 pub part_plan : {s : Bytes} {e : Term} {x : ℕ} → Planned s e (Part x) → PartPlan s e x
-unfolding contractum size depth ready is_value
+unfolding contractum size depth is_potential_redex is_value
 part_plan (projected {d = first} {a = a} h) =
     record {
       part = a;
@@ -84,7 +83,7 @@ pub record BodyPlan (s : Bytes) (e : Term) (x y : ℕ) : Type 0 where
   pub shallow_body : depth body ≤ depth e
   pub shallow_value : depth value ≤ depth e
   pub operand : 1 ≤ operands e
-  pub is : (S : Security) (tab : ℕ → Ty) → contractum S tab e ≡ protect (protection_of S e) (subst 0 value body)
+  pub is : (S : Security) (tab : ℕ → Ty) → contractum S tab e ≡ protect (protection_of S e) (substitute 0 value body)
 
 pub body_plan : {s : Bytes} {e : Term} {x y : ℕ} → Planned s e (Body x y) → BodyPlan s e x y
 unfolding contractum size depth
@@ -128,7 +127,7 @@ body_plan (branched {d = second} {v = v} {b = b} h k) =
 pub record LiftPlan (s : Bytes) (at : ℕ) (e : Term) : Type 0 where
   pub value : Term
   pub stands : At s (at + 1) value
-  pub is_one : So (is_value value)
+  pub is_one : IsTrue (is_value value)
   pub small : size e ≡ 1 + size value
   pub shallow : depth value ≤ depth e
   pub is : (S : Security) (tab : ℕ → Ty) → contractum S tab e ≡ raise_value S value (influence_of e)
@@ -166,7 +165,7 @@ reckon_plan (reckoned_one {o = o} {w = w} {k = k} {l = l} {m = m} {n = n}) =
     record { operation = o; label = w; left = record { own = k; value = m }; right = record { own = l; value = n }; is = refl }
 
 pub reckon_is : (S : Security) (tab : ℕ → Ty) (o : Operation) (w : Reader) (x y : Literal)
-    → contractum S tab (reckon o w (literal x.own x.value) (literal y.own y.value)) ≡ reckoned tab o (of_both S w x.own y.own) x.value y.value
+    → contractum S tab (reckon o w (literal x.own x.value) (literal y.own y.value)) ≡ reckon_result tab o (of_both S w x.own y.own) x.value y.value
 unfolding contractum literal_of
 reckon_is S tab o w x y = refl
 
@@ -176,29 +175,17 @@ reckoned_records plus = 1
 reckoned_records (less i) = 2
 
 pub reckoned_size : (tab : ℕ → Ty) (o : Operation) (k : Property) (m n : ℕ)
-    → (size (reckoned tab o k m n) ≡ reckoned_records o) × (depth (reckoned tab o k m n) ≡ reckoned_records o)
-unfolding size depth reckoned
-reckoned_size tab plus k m n = (refl, refl)
-reckoned_size tab (less i) k m n = (refl, refl)
+    → (size (reckon_result tab o k m n) ≡ reckoned_records o) × (depth (reckon_result tab o k m n) ≡ reckoned_records o)
+unfolding size depth reckon_result
+reckoned_size tab o k m n = grind arith
 
 -- Raising changes neither the records nor the depth.
 pub raise_size : (S : Security) (v : Term) (m : Indirect) → (size (raise_value S v m) ≡ size v) × (depth (raise_value S v m) ≡ depth v)
 unfolding size depth raise_value
-raise_size S (var n) m = (refl, refl)
-raise_size S (unit k) m = (refl, refl)
-raise_size S (lam k i e) m = (refl, refl)
-raise_size S (pair k a b) m = (refl, refl)
-raise_size S (inj d k i e) m = (refl, refl)
-raise_size S (app w f a) m = (refl, refl)
-raise_size S (proj d w e) m = (refl, refl)
-raise_size S (case w i e a b) m = (refl, refl)
-raise_size S (protect n e) m = (refl, refl)
-raise_size S (mu w i e) m = (refl, refl)
-raise_size S (literal k n) m = (refl, refl)
-raise_size S (reckon o w a b) m = (refl, refl)
+raise_size S v m = grind arith
 
 pub unrolled_size : (S : Security) (w : Reader) (i : ℕ) (k : Property) (b : Term)
-    → (size (unrolled S w i k b) ≡ size (mu w i b) + 3) × (depth (unrolled S w i k b) ≡ depth (mu w i b) + 2)
+    → (size (unrolled_function S w i k b) ≡ size (mu w i b) + 3) × (depth (unrolled_function S w i k b) ≡ depth (mu w i b) + 2)
 unfolding size depth
 unrolled_size S w i k b = (omega arith, omega arith)
 
@@ -214,41 +201,28 @@ body_size w i b = (refl, refl)
 abbrev pub contractum_limit : ℕ
 contractum_limit = script_limit * value_limit
 
-pub few : (v b : Term) → size v ≤ value_limit → size b ≤ script_limit → size (subst 0 v b) ≤ contractum_limit
+pub few : (v b : Term) → size v ≤ value_limit → size b ≤ script_limit → size (substitute 0 v b) ≤ contractum_limit
 few v b l h = omega (arith, subst_bound v l b 0)
 
 -- a term's bytes after its own record are those of its operands
 operand_bytes : (e : Term) → drop script_width (encode e) ≡ joined encode (term_operands e)
-operand_bytes e =
-    ap (drop script_width) (term_encode_is e) ∙ drop_at (term_head e) (joined encode (term_operands e)) script_width (term_head_length e)
+operand_bytes e = grind (arith, term_encode_is, drop_at, term_head, term_operands, term_head_length)
 
 -- a raised value: its own record with other groups, and its operands as they are
-raised_bytes : (S : Security) (v : Term) (m : Indirect) → So (is_value v)
+raised_bytes : (S : Security) (v : Term) (m : Indirect) → IsTrue (is_value v)
     → object_record (kind_of v) (S.raise (property_of v) m) (number_of v) ++ joined encode (term_operands v) ≡ encode (raise_value S v m)
 unfolding raise_value is_value
-raised_bytes S (var n) m h = absurd (false≢true h)
-raised_bytes S (unit k) m h = sym (term_encode_is (unit _))
-raised_bytes S (lam k i e) m h = rw (two_bytes i) (sym (term_encode_is (lam _ i e)))
-raised_bytes S (pair k a b) m h = sym (term_encode_is (pair _ a b))
-raised_bytes S (inj first k i e) m h = rw (two_bytes i) (sym (term_encode_is (inj first _ i e)))
-raised_bytes S (inj second k i e) m h = rw (two_bytes i) (sym (term_encode_is (inj second _ i e)))
-raised_bytes S (app w f a) m h = absurd (false≢true h)
-raised_bytes S (proj d w e) m h = absurd (false≢true h)
-raised_bytes S (case w i e a b) m h = absurd (false≢true h)
-raised_bytes S (protect n e) m h = absurd (false≢true h)
-raised_bytes S (mu w i e) m h = absurd (false≢true h)
-raised_bytes S (literal k n) m h = rw (two_bytes n) (sym (term_encode_is (literal _ n)))
-raised_bytes S (reckon o w a b) m h = absurd (false≢true h)
+raised_bytes S v m h = grind (arith, term_encode_is, two_bytes)
 
 -- as the code puts it together
-pub raised_from : (S : Security) (v : Term) (m : Indirect) → So (is_value v) → {k n : ℕ} {p : Property} {own : Bytes} → own ≡ object_record k p n → k ≡ kind_of v
+pub raised_from : (S : Security) (v : Term) (m : Indirect) → IsTrue (is_value v) → {k n : ℕ} {p : Property} {own : Bytes} → own ≡ object_record k p n → k ≡ kind_of v
     → p ≡ S.raise (property_of v) m → n ≡ number_of v → encode (raise_value S v m) ≡ own ++ drop script_width (encode v)
 raised_from S v m h o k p n = rw (o, k, p, n, operand_bytes v) (sym (raised_bytes S v m h))
 
 -- the unrolled function: two records, the recursion, a variable
 pub rolled_bytes : (g : Bytes) (w : Reader) (i : ℕ) (k : Property) (b : Term)
     → (object_record kinds.function k (i + 1) ++ (object_record kinds.application (only_reader w) 0 ++ [])) ++ (encode (mu w i b) ++ object_record kinds.variable (only_reader 0) 0)
-    ≡ encode (unrolled (properties_of g) w i k b)
+    ≡ encode (unrolled_function (properties_of g) w i k b)
 unfolding encode
 rolled_bytes g w i k b = let z : i + 1 ≡ suc i = omega arith in rw z
 
@@ -266,13 +240,9 @@ unfolding encode
 protect_written e p v = then p v
 
 -- a recursion goes when its type is a function
-pub goes_function : (S : Security) (tab : ℕ → Ty) (w : Reader) (i : ℕ) (b : Term) → fate S tab (mu w i b) ≡ goes → So (is_function (tab i))
+pub goes_function : (S : Security) (tab : ℕ → Ty) (w : Reader) (i : ℕ) (b : Term) → fate S tab (mu w i b) ≡ reduces → IsTrue (is_function (tab i))
 unfolding fate
-goes_function S tab w i b h = by (is_function (tab i)) refl h
-  where
-    by : (x : Bool) → is_function (tab i) ≡ x → cond x goes wrong_kind ≡ goes → So (is_function (tab i))
-    by true e h = e
-    by false e h = let z : ◌≡◌ {A = ℕ} 0 1 = cc in absurd (omega arith)
+goes_function S tab w i b h = grind arith
 
 -- the record after that of a node with an operand
 pub operand_there : {s : Bytes} {at : ℕ} {e : Term} → At s at e → 1 ≤ operands e → at + 1 < records s
@@ -290,13 +260,13 @@ pub renamed : {w w' : Writer} {e f : Term} → e ≡ f → Written (encode f) w 
 renamed {w} {w'} h m = transport (λ (b : Bytes). Written b w w') (ap encode (sym h)) m
 
 -- the groups of a recursion's type, as they stand in its first record
-pub type_groups : (t : Bytes) (i n : ℕ) → So (is_function (type_at t i)) → n ≡ i → type_property t n ≡ top (type_at t i)
+pub type_groups : (t : Bytes) (i n : ℕ) → IsTrue (is_function (type_at t i)) → n ≡ i → type_property t n ≡ top (type_at t i)
 type_groups t i n h e = ap (type_property t) e ∙ sym (function_top t i h)
 
 pub recursion_number : {s : Bytes} {at : ℕ} {w : Reader} {i : ℕ} {b : Term} → At s at (mu w i b) → number s at ≡ i
 recursion_number {i = i} a = number_at a ∙ two_bytes i
 
-pub unroll_is : (S : Security) (tab : ℕ → Ty) (w : Reader) (i : ℕ) (b : Term) → contractum S tab (mu w i b) ≡ subst 0 (unrolled S w i (top (tab i)) b) b
+pub unroll_is : (S : Security) (tab : ℕ → Ty) (w : Reader) (i : ℕ) (b : Term) → contractum S tab (mu w i b) ≡ substitute 0 (unrolled_function S w i (top (tab i)) b) b
 unfolding contractum
 unroll_is S tab w i b = refl
 
@@ -343,13 +313,11 @@ module _ {s : Bytes} {at : ℕ} (q : Literals s at) where
   flag_number {i} h = number_at q.stands ∙ ap (λ o. number_of (reckon o q.label (literal q.left.own q.left.value) (literal q.right.own q.right.value))) h ∙ two_bytes i
 
 -- the unit of a side of a sum of two units
-pub side_groups : {t : Bytes} {i : ℕ} → Sides t i → (is_less : Bool) {n : ℕ} → n ≡ cond is_less (i + 1) (i + 2) → type_property t n ≡ top (side (side_of is_less) (type_at t i))
-side_groups {t} q true h = ap (type_property t) h ∙ q.left
-side_groups {t} q false h = ap (type_property t) h ∙ q.right
+pub side_groups : {t : Bytes} {i : ℕ} → Sides t i → (is_less : Bool) {n : ℕ} → n ≡ cond is_less (i + 1) (i + 2) → type_property t n ≡ top (side (flag_side is_less) (type_at t i))
+side_groups q is_less h = grind arith
 
 pub flag_bytes : (tab : ℕ → Ty) (i : ℕ) (k : Property) (is_less : Bool)
-    → object_record (cond is_less kinds.first_injection kinds.second_injection) k i ++ object_record kinds.unit (top (side (side_of is_less) (tab i))) 0
+    → object_record (cond is_less kinds.first_injection kinds.second_injection) k i ++ object_record kinds.unit (top (side (flag_side is_less) (tab i))) 0
     ≡ encode (flag tab i k is_less)
 unfolding encode
-flag_bytes tab i k true = refl
-flag_bytes tab i k false = refl
+flag_bytes tab i k is_less = grind arith

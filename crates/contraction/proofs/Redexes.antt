@@ -1,11 +1,11 @@
--- A node whose turn it is and that goes is a left side of table 1, and what its plan is by the kinds of its records.
-use Rattle.std.proofs.Common.{◌≡◌, refl, sym, subst, ◌∙◌, inr, Bool, true, false, ◌&&◌, ℕ, ◌+◌, ◌≤◌, arith, eqb}
-use Rattle.std.proofs.Math.Bool.{So}
+-- A node whose turn it is and that goes is a left side of the reduction rules, and what its plan is by the kinds of its
+-- records.
+use Rattle.std.proofs.Common.{◌≡◌, refl, sym, subst, ◌∙◌, inr, Bool, true, false, ◌&&◌, ℕ, ◌+◌, ◌≤◌, arith, nat_eq}
+use Rattle.std.proofs.Common.{eqb-true, IsTrue}
 use Rattle.std.proofs.lemmas.Bool.{false≢true}
-use borrow.Author.Tests.{eqb-true}
 use Rattle.calculus.specs.Security.{Reader, Security}
 use Rattle.calculus.specs.Types.{sum, product, function, Ty, exists}
-use Rattle.calculus.specs.Terms.{Side, first, second, Operation, plus, less, Term, var, unit, lam, pair, inj, app, proj, case, protect, mu, literal, reckon}
+use Rattle.calculus.specs.Terms.{Side, first, second, Operation, plus, less, Term, var, pair, app, proj, case, protect, mu, literal, reckon}
 use Rattle.calculus.specs.Numbers.{literal_of}
 use Rattle.calculus.proofs.Booleans.{and_left, and_right}
 use Rattle.calculus.specs.Stuck.{built_by}
@@ -16,69 +16,59 @@ use Rattle.records.specs.Place.{At}
 use Rattle.records.specs.Operands.{first_operand, second_operand}
 use Rattle.records.proofs.Made.{form, by_kind}
 use Rattle.records.proofs.Stands.{kind_of, operands, at_first, at_second, at_third}
-use Rattle.redex.specs.Fates.{property_of, goes, reading_fate, ready, fate}
+use Rattle.redex.specs.Fates.{property_of, reduces, reading_fate, is_potential_redex, fate}
 use Rattle.redex.specs.Found.{is_destructor, is_reckoning}
 use Rattle.redex.proofs.Forms.{built_is, literal_is, one_reads}
 use Rattle.contraction.specs.declared.Plan.TheVariants.{Part, Body, Raised, Unrolled, Reckoned}
-use Rattle.contraction.specs.Plans.{Left, applies, projects, branches, lifts, unrolls, reckons, Planned, applied, projected, branched, lifted, unrolled_one, reckoned_one}
+use Rattle.contraction.specs.Plans.{Left, applies, projects, branches, lifts, unrolls, reckons, Planned, applied}
+use Rattle.contraction.specs.Plans.{projected, branched, lifted, unrolled_one, reckoned_one}
 
-fits_it : (fits may : Bool) → reading_fate fits may ≡ goes → So fits
-fits_it true may h = refl
-fits_it false may h = let z : ◌≡◌ {A = ℕ} 0 1 = cc in absurd (omega arith)
+fits_it : (fits may : Bool) → reading_fate fits may ≡ reduces → IsTrue fits
+fits_it fits may h = grind arith
 
-application : (w : Reader) (f v : Term) → So (built_by function f) → Left (app w f v)
+application : (w : Reader) (f v : Term) → IsTrue (built_by function f) → Left (app w f v)
 application w f v h = by_kind (λ x. Left (app w x v)) kinds.function f (eqb-true _ _ (sym (built_is f).0 ∙ h)) applies
 
-projection : (d : Side) (w : Reader) (e : Term) → So (built_by product e) → Left (proj d w e)
+projection : (d : Side) (w : Reader) (e : Term) → IsTrue (built_by product e) → Left (proj d w e)
 projection d w e h = by_kind (λ x. Left (proj d w x)) kinds.pair e (eqb-true _ _ (sym (built_is e).1 ∙ h)) (projects d)
 
-choice : (w : Reader) (j : ℕ) (e a b : Term) → So (built_by sum e) → Left (case w j e a b)
-choice w j e a b h = by (eqb (kind_of e) kinds.first_injection) refl
+choice : (w : Reader) (j : ℕ) (e a b : Term) → IsTrue (built_by sum e) → Left (case w j e a b)
+choice w j e a b h = by (nat_eq (kind_of e) kinds.first_injection) refl
   where
-    by : (x : Bool) → eqb (kind_of e) kinds.first_injection ≡ x → Left (case w j e a b)
+    by : (x : Bool) → nat_eq (kind_of e) kinds.first_injection ≡ x → Left (case w j e a b)
     by true k = by_kind (λ x. Left (case w j x a b)) kinds.first_injection e (eqb-true _ _ k) (branches first)
     by false k = by_kind (λ x. Left (case w j x a b)) kinds.second_injection e (eqb-true _ _ (rw k at (sym (built_is e).2 ∙ h))) (branches second)
 
-reckoning : (o : Operation) (w : Reader) (a b : Term) → So (exists (literal_of a) && exists (literal_of b)) → Left (reckon o w a b)
+reckoning : (o : Operation) (w : Reader) (a b : Term) → IsTrue (exists (literal_of a) && exists (literal_of b)) → Left (reckon o w a b)
 reckoning o w a b h =
     let left = eqb-true _ _ (sym (literal_is a) ∙ and_left _ _ h) in
     let right = eqb-true _ _ (sym (literal_is b) ∙ and_right (exists (literal_of a)) _ h) in
     by_kind (λ x. Left (reckon o w x b)) kinds.literal a left
     (by_kind (λ y. Left (reckon o w (form kinds.literal a) y)) kinds.literal b right (reckons o))
 
-pub left_side : (S : Security) (tab : ℕ → Ty) (e : Term) → So (ready e) → fate S tab e ≡ goes → Left e
-unfolding ready fate
+pub left_side : (S : Security) (tab : ℕ → Ty) (e : Term) → IsTrue (is_potential_redex e) → fate S tab e ≡ reduces → Left e
+unfolding is_potential_redex fate
 left_side S tab (var n) h g = let z : ◌≡◌ {A = ℕ} 0 1 = cc in absurd (omega arith)
-left_side S tab (unit k) h g = absurd (false≢true h)
-left_side S tab (lam k i e) h g = absurd (false≢true h)
-left_side S tab (pair k a b) h g = absurd (false≢true h)
-left_side S tab (inj d k i e) h g = absurd (false≢true h)
 left_side S tab (app w f a) h g = application w f a (fits_it (built_by function f) (S.permits (property_of f) w) g)
 left_side S tab (proj d w e) h g = projection d w e (fits_it (built_by product e) (S.permits (property_of e) w) g)
 left_side S tab (case w i e a b) h g = choice w i e a b (fits_it (built_by sum e) (S.permits (property_of e) w) g)
 left_side S tab (protect m e) h g = lifts h
 left_side S tab (mu w i e) h g = unrolls
-left_side S tab (literal k n) h g = absurd (false≢true h)
 left_side S tab (reckon o w a b) h g =
     reckoning o w a b (fits_it (exists (literal_of a) && exists (literal_of b)) (S.permits (property_of a) w && S.permits (property_of b) w) g)
+left_side S tab _ h g = absurd (false≢true h)
 
 -- what a destructor takes apart has an operand,
-destructs : {e : Term} → Left e → So (is_destructor (kind_of e)) → (1 ≤ operands e) × (1 ≤ operands (first_operand e))
+destructs : {e : Term} → Left e → IsTrue (is_destructor (kind_of e)) → (1 ≤ operands e) × (1 ≤ operands (first_operand e))
 unfolding is_destructor
-destructs applies h = (omega arith, omega arith)
-destructs (projects d) h = (omega arith, omega arith)
-destructs (branches d) h = (omega arith, omega arith)
-destructs (lifts v) h = absurd (false≢true h)
-destructs unrolls h = absurd (false≢true h)
-destructs (reckons plus) h = absurd (false≢true h)
-destructs (reckons (less i)) h = absurd (false≢true h)
+destructs n h = grind arith
 
 -- which stands two records on
 pub record Taken (s : Bytes) (at : ℕ) (e : Term) : Type 0 where
   pub first_at : At s (at + 1) (first_operand e)
   pub inner_at : At s (at + 2) (first_operand (first_operand e))
 
-pub taken : {s : Bytes} {at : ℕ} {e : Term} → At s at e → Left e → So (is_destructor (kind_of e)) → Taken s at e
+pub taken : {s : Bytes} {at : ℕ} {e : Term} → At s at e → Left e → IsTrue (is_destructor (kind_of e)) → Taken s at e
 taken {s} {at} {e} a l h =
     let z : at + 1 + 1 ≡ at + 2 = omega arith in
     let x = at_first s at e a (destructs l h).0 in
@@ -89,66 +79,40 @@ taken {s} {at} {e} a l h =
 
 module _ (s : Bytes) (at : ℕ) where
   pub plan_unrolled : {e : Term} → Left e → kind_of e ≡ kinds.recursion → Planned s e Unrolled
-  plan_unrolled applies h = absurd (omega arith)
   plan_unrolled (projects first) h = absurd (omega arith)
-  plan_unrolled (projects second) h = absurd (omega arith)
-  plan_unrolled (branches d) h = absurd (omega arith)
-  plan_unrolled (lifts v) h = absurd (omega arith)
   plan_unrolled unrolls h = unrolled_one
   plan_unrolled (reckons plus) h = absurd (omega arith)
-  plan_unrolled (reckons (less i)) h = absurd (omega arith)
+  plan_unrolled _ h = absurd (omega arith)
 
   pub plan_raised : {e : Term} → Left e → kind_of e ≡ kinds.protect → Planned s e Raised
-  plan_raised applies h = absurd (omega arith)
   plan_raised (projects first) h = absurd (omega arith)
-  plan_raised (projects second) h = absurd (omega arith)
-  plan_raised (branches d) h = absurd (omega arith)
   plan_raised (lifts v) h = lifted v
-  plan_raised unrolls h = absurd (omega arith)
   plan_raised (reckons plus) h = absurd (omega arith)
-  plan_raised (reckons (less i)) h = absurd (omega arith)
+  plan_raised _ h = absurd (omega arith)
 
-  pub plan_reckoned : {e : Term} → Left e → So (is_reckoning (kind_of e)) → Planned s e Reckoned
-  plan_reckoned applies h = absurd (false≢true h)
+  pub plan_reckoned : {e : Term} → Left e → IsTrue (is_reckoning (kind_of e)) → Planned s e Reckoned
   plan_reckoned (projects first) h = absurd (false≢true h)
-  plan_reckoned (projects second) h = absurd (false≢true h)
-  plan_reckoned (branches d) h = absurd (false≢true h)
-  plan_reckoned (lifts v) h = absurd (false≢true h)
-  plan_reckoned unrolls h = absurd (false≢true h)
   plan_reckoned (reckons o) h = reckoned_one
+  plan_reckoned _ h = absurd (false≢true h)
 
   pub plan_first : {e : Term} → Left e → kind_of e ≡ kinds.first_projection → At s (at + 2) (first_operand (first_operand e)) → Planned s e (Part (at + 2))
-  plan_first applies h x = absurd (omega arith)
   plan_first (projects first) h x = projected x
-  plan_first (projects second) h x = absurd (omega arith)
-  plan_first (branches d) h x = absurd (omega arith)
-  plan_first (lifts v) h x = absurd (omega arith)
-  plan_first unrolls h x = absurd (omega arith)
   plan_first (reckons plus) h x = absurd (omega arith)
-  plan_first (reckons (less i)) h x = absurd (omega arith)
+  plan_first _ h x = absurd (omega arith)
 
   -- `next` is the record after the first inner operand
   pub plan_second : {e : Term} (next : ℕ) → Left e → kind_of e ≡ kinds.second_projection → At s (at + 1) (first_operand e) → next ≡ at + 2 + size (first_operand (first_operand e)) → Planned s e (Part next)
-  plan_second next applies h y p = absurd (omega arith)
-  plan_second next (projects first) h y p = absurd (omega arith)
   plan_second next (projects second) h y p = projected (at_second s (at + 1) _ y next (omega arith) (omega arith))
-  plan_second next (branches d) h y p = absurd (omega arith)
-  plan_second next (lifts v) h y p = absurd (omega arith)
-  plan_second next unrolls h y p = absurd (omega arith)
   plan_second next (reckons plus) h y p = absurd (omega arith)
-  plan_second next (reckons (less i)) h y p = absurd (omega arith)
+  plan_second next _ h y p = absurd (omega arith)
 
   pub plan_applied : {e : Term} (next : ℕ) → Left e → kind_of e ≡ kinds.application → At s at e → At s (at + 2) (first_operand (first_operand e)) → next ≡ at + 2 + size (first_operand (first_operand e))
       → Planned s e (Body (at + 2) next)
   unfolding size
   plan_applied next applies h a x p = applied x (at_second s at _ a next (omega arith) (omega arith))
   plan_applied next (projects first) h a x p = absurd (omega arith)
-  plan_applied next (projects second) h a x p = absurd (omega arith)
-  plan_applied next (branches d) h a x p = absurd (omega arith)
-  plan_applied next (lifts v) h a x p = absurd (omega arith)
-  plan_applied next unrolls h a x p = absurd (omega arith)
   plan_applied next (reckons plus) h a x p = absurd (omega arith)
-  plan_applied next (reckons (less i)) h a x p = absurd (omega arith)
+  plan_applied next _ h a x p = absurd (omega arith)
 
   -- a case: its first branch stands at `next`
   pub record Cased (e : Term) (next : ℕ) : Type 0 where
@@ -158,9 +122,7 @@ module _ (s : Bytes) (at : ℕ) where
 
   pub cased : {e : Term} (next : ℕ) → Left e → kind_of e ≡ kinds.case → At s at e → next ≡ at + 2 + size (first_operand (first_operand e)) → Cased e next
   unfolding size
-  cased next applies h a p = absurd (omega arith)
   cased next (projects first) h a p = absurd (omega arith)
-  cased next (projects second) h a p = absurd (omega arith)
   cased next (branches first) h a p =
       let x = (taken a (branches first) (one_reads _ (inr (inr h)))).inner_at in
       let b = at_second s at _ a next (omega arith) (omega arith) in
@@ -172,19 +134,10 @@ module _ (s : Bytes) (at : ℕ) where
         to_first = λ i. absurd (omega arith);
         to_second = λ i third q. branched (at_third s at _ a third (omega arith) (omega arith)) x;
       }
-  cased next (lifts v) h a p = absurd (omega arith)
-  cased next unrolls h a p = absurd (omega arith)
   cased next (reckons plus) h a p = absurd (omega arith)
-  cased next (reckons (less i)) h a p = absurd (omega arith)
+  cased next _ h a p = absurd (omega arith)
 
 -- the left sides that are left
 pub only_case : {e : Term} → Left e → (kind_of e ≡ kinds.recursion → ⊥) → (kind_of e ≡ kinds.protect → ⊥) → (kind_of e ≡ kinds.first_projection → ⊥)
     → (kind_of e ≡ kinds.second_projection → ⊥) → (kind_of e ≡ kinds.application → ⊥) → (kind_of e ≡ kinds.sum → ⊥) → (kind_of e ≡ kinds.less → ⊥) → kind_of e ≡ kinds.case
-only_case applies r p f g a s l = absurd (a refl)
-only_case (projects first) r p f g a s l = absurd (f refl)
-only_case (projects second) r p f g a s l = absurd (g refl)
-only_case (branches d) r p f g a s l = refl
-only_case (lifts v) r p f g a s l = absurd (p refl)
-only_case unrolls r p f g a s l = absurd (r refl)
-only_case (reckons plus) r p f g a s l = absurd (s refl)
-only_case (reckons (less i)) r p f g a s l = absurd (l refl)
+only_case n r p f g a s l = grind arith

@@ -1,11 +1,11 @@
--- A planned redex whose contractum has room: the room that its plan's writer asks for, and what that writer leaves in the buffer.
-use Rattle.std.proofs.Common.{◌≡◌, sym, ap, ap₂, ◌∙◌, ℕ, ◌+◌, ◌≤◌, arith}
-use Rattle.std.proofs.Common.{subst as transport}
+-- A planned redex whose contractum has room: the room that its plan's writer asks for, and what that writer leaves in
+-- the buffer.
+use Rattle.std.proofs.Common.{◌≡◌, sym, ap, ap₂, ◌∙◌, ℕ, ◌+◌, ◌≤◌, arith, subst as transport}
 use Rattle.calculus.specs.Security.{Security}
 use Rattle.calculus.specs.Types.{Ty, top}
-use Rattle.calculus.specs.Terms.{Operation, plus, less, Term, protect, literal, reckon, subst, raise_value}
+use Rattle.calculus.specs.Terms.{Operation, Term, protect, literal, reckon, substitute, raise_value}
 use Rattle.calculus.specs.Numbers.{of_both}
-use Rattle.calculus.specs.Reduction.{unrolled}
+use Rattle.calculus.specs.Reduction.{unrolled_function}
 use Rattle.rules.specs.Answer.{Bytes}
 use Rattle.rules.specs.Groups.{properties_of}
 use Rattle.rules.specs.Types.{type_at}
@@ -20,8 +20,12 @@ use Rattle.memory.specs.Written.{Room}
 use Rattle.memory.specs.declared.Writer.{Writer}
 use Rattle.contraction.specs.declared.Plan.{Plan}
 use Rattle.contraction.specs.declared.Plan.TheVariants.{Part, Body, Raised, Unrolled, Reckoned}
-use Rattle.contraction.specs.Plans.{Planned, Ready, Fit, protection, PartRoom, BodyRoom, RaisedRoom, UnrolledRoom, Literals, reckoning, ReckonedRoom}
-use Rattle.contraction.proofs.Plans.{PartPlan, part_plan, BodyPlan, body_plan, LiftPlan, lift_plan, RollPlan, roll_plan, ReckonPlan, reckon_plan, reckon_is, reckoned_records, reckoned_size, raise_size, protect_size, body_size, unrolled_size, few, operand_there, contractum_limit, goes_function, unroll_is, protection_of}
+use Rattle.contraction.specs.Plans.{Planned, PlannedRedex, ContractumRoom, protection, PartRoom, BodyRoom, RaisedRoom}
+use Rattle.contraction.specs.Plans.{UnrolledRoom, Literals, reckon_contractum, ReckonedRoom}
+use Rattle.contraction.proofs.Plans.{PartPlan, part_plan, BodyPlan, body_plan, LiftPlan, lift_plan, RollPlan, roll_plan}
+use Rattle.contraction.proofs.Plans.{ReckonPlan, reckon_plan, reckon_is, reckoned_records, reckoned_size, raise_size}
+use Rattle.contraction.proofs.Plans.{protect_size, body_size, unrolled_size, few, operand_there, contractum_limit}
+use Rattle.contraction.proofs.Plans.{goes_function, unroll_is, protection_of}
 
 pub planned_as : {s : Bytes} {e : Term} {p p' : Plan} → p ≡ p' → Planned s e p → Planned s e p'
 planned_as {s} {e} h q = transport (λ (x : Plan). Planned s e x) h q
@@ -30,7 +34,7 @@ planned_as {s} {e} h q = transport (λ (x : Plan). Planned s e x) h q
 abbrev pub room_for : (out : Writer) {e f : Term} → e ≡ f → Room (encode e) out → Room (encode f) out
 room_for out h r = transport (λ (x : Term). Room (encode x) out) h r
 
-module _ {g t s : Bytes} {at : ℕ} {p : Plan} {out : Writer} (q : Fit g t s at p out) where
+module _ {g t s : Bytes} {at : ℕ} {p : Plan} {out : Writer} (q : ContractumRoom g t s at p out) where
   abbrev S : Security
   S = properties_of g
 
@@ -62,9 +66,9 @@ module _ {g t s : Bytes} {at : ℕ} {p : Plan} {out : Writer} (q : Fit g t s at 
   abbrev body_of : {x y : ℕ} → p ≡ Body x y → BodyPlan s q.ready.tree x y
   body_of h = body_plan (planned_as h q.ready.planned)
 
-  abbrev pub body_is : {x y : ℕ} (h : p ≡ Body x y) → contractum S tab e ≡ protect (protection g s at) (subst 0 (body_of h).value (body_of h).body)
+  abbrev pub body_is : {x y : ℕ} (h : p ≡ Body x y) → contractum S tab e ≡ protect (protection g s at) (substitute 0 (body_of h).value (body_of h).body)
   body_is h =
-      (body_of h).is S tab ∙ ap (λ m. protect m (subst 0 (body_of h).value (body_of h).body)) (protection_at (body_of h).operand)
+      (body_of h).is S tab ∙ ap (λ m. protect m (substitute 0 (body_of h).value (body_of h).body)) (protection_at (body_of h).operand)
 
   abbrev pub body_room : {x y : ℕ} → p ≡ Body x y → BodyRoom g s at x y out
   body_room h = record {
@@ -97,7 +101,7 @@ module _ {g t s : Bytes} {at : ℕ} {p : Plan} {out : Writer} (q : Fit g t s at 
   roll_of h = roll_plan (planned_as h q.ready.planned)
 
   abbrev pub unrolled_is : (h : p ≡ Unrolled)
-      → contractum S tab e ≡ subst 0 (unrolled S (roll_of h).label (roll_of h).type (top (tab (roll_of h).type)) (roll_of h).body) (roll_of h).body
+      → contractum S tab e ≡ substitute 0 (unrolled_function S (roll_of h).label (roll_of h).type (top (tab (roll_of h).type)) (roll_of h).body) (roll_of h).body
   unrolled_is h = ap (contractum S tab) (roll_of h).is ∙ unroll_is S tab (roll_of h).label (roll_of h).type (roll_of h).body
 
   abbrev pub unrolled_room : p ≡ Unrolled → UnrolledRoom t s at out
@@ -125,7 +129,7 @@ module _ {g t s : Bytes} {at : ℕ} {p : Plan} {out : Writer} (q : Fit g t s at 
     stands = transport (λ (x : Term). At s at x) (reckon_of h).is q.ready.stands;
   }
 
-  abbrev pub reckoned_is : (h : p ≡ Reckoned) → contractum S tab e ≡ reckoning g t (literals h)
+  abbrev pub reckoned_is : (h : p ≡ Reckoned) → contractum S tab e ≡ reckon_contractum g t (literals h)
   reckoned_is h =
       ap (contractum S tab) (reckon_of h).is ∙ reckon_is S tab (reckon_of h).operation (reckon_of h).label (reckon_of h).left (reckon_of h).right
 
@@ -140,11 +144,10 @@ module _ {g t s : Bytes} {at : ℕ} {p : Plan} {out : Writer} (q : Fit g t s at 
   }
 
 reckoned_few : (o : Operation) → reckoned_records o ≤ 2
-reckoned_few plus = omega arith
-reckoned_few (less i) = omega arith
+reckoned_few o = grind arith
 
 -- No plan makes more records than can be counted.
-pub contractum_few : (S : Security) (tab : ℕ → Ty) {s : Bytes} {at : ℕ} (p : Plan) (q : Ready s at p) → size (contractum S tab q.tree) ≤ contractum_limit + 1
+pub contractum_few : (S : Security) (tab : ℕ → Ty) {s : Bytes} {at : ℕ} (p : Plan) (q : PlannedRedex s at p) → size (contractum S tab q.tree) ≤ contractum_limit + 1
 contractum_few S tab (Part x) q =
     let z = part_plan q.planned in
     omega (arith, ap size (z.is S tab), (protect_size (protection_of S q.tree) z.part).0, z.small, q.small)
@@ -153,7 +156,7 @@ contractum_few S tab (Body x y) q =
     omega (
       arith,
       ap size (z.is S tab),
-      (protect_size (protection_of S q.tree) (subst 0 z.value z.body)).0,
+      (protect_size (protection_of S q.tree) (substitute 0 z.value z.body)).0,
       few z.value z.body (omega (arith, z.small, q.small)) (omega (arith, z.small, q.small)),
     )
 contractum_few S tab Raised q =
@@ -165,7 +168,7 @@ contractum_few S tab Unrolled q =
     omega (
       arith,
       ap size (ap (contractum S tab) z.is ∙ unroll_is S tab z.label z.type z.body),
-      few (unrolled S z.label z.type k z.body) z.body
+      few (unrolled_function S z.label z.type k z.body) z.body
           (omega (arith, (unrolled_size S z.label z.type k z.body).0, ap size z.is, q.small))
           (omega (arith, (body_size z.label z.type z.body).0, ap size z.is, q.small)),
     )

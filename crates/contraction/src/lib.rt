@@ -2,12 +2,11 @@
 
 #![tactic(auto)]
 
-ghost use Rattle.std.specs.Prelude.{◌≡◌, cond, ◌++◌, ℕ, ◌+◌, ◌^◌, ◌<◌, drop};
-ghost use Rattle.std.proofs.Math.Bool.{So};
+ghost use Rattle.std.specs.Prelude.{◌≡◌, if◌then◌else◌, ◌++◌, ℕ, ◌+◌, ◌^◌, ◌<◌, drop, IsTrue};
 ghost use Rattle.calculus.specs.Security.{Security};
 ghost use Rattle.calculus.specs.Types.{Ty, top};
-ghost use Rattle.calculus.specs.Terms.{Term, protect, mu, literal, reckon, is_value, subst, raise_value};
-ghost use Rattle.calculus.specs.Reduction.{unrolled};
+ghost use Rattle.calculus.specs.Terms.{Term, protect, mu, literal, reckon, is_value, substitute, raise_value};
+ghost use Rattle.calculus.specs.Reduction.{unrolled_function};
 ghost use Rattle.rules.specs.Limits.{script_width};
 ghost use Rattle.rules.specs.Groups.{properties_of};
 ghost use Rattle.rules.specs.Types.{type_at};
@@ -21,29 +20,34 @@ ghost use Rattle.records.specs.Place.{At, Here};
 ghost use Rattle.redex.specs.Fates.{only_reader, contractum};
 ghost use Rattle.memory.specs.Written.{Room, Written};
 ghost use Rattle.contraction.specs.Order.{InOrder, up_to};
-ghost use Rattle.contraction.specs.Plans.{Fires, Branches, Planned, Ready, Measures, Both, Recursive, Literals, PartRoom, BodyRoom, RaisedRoom};
-ghost use Rattle.contraction.specs.Plans.{protection, protect_record, UnrolledRoom, reckoning, flag, FlagRoom, ReckonedRoom, Fit};
+ghost use Rattle.contraction.specs.Plans.{Fires, CaseRedex, Planned, PlannedRedex, Measures, BodyAndValue, Recursive, Literals};
+ghost use Rattle.contraction.specs.Plans.{PartRoom, BodyRoom, RaisedRoom, protection, protect_record, UnrolledRoom};
+ghost use Rattle.contraction.specs.Plans.{reckon_contractum, flag, FlagRoom, ReckonedRoom, ContractumRoom};
 
 use lattice::{Creator, Indirect, IndirectCreator, Influence, Property, ROW_WIDTH, Reader};
 use memory::Writer;
 use records::{Kind, SCRIPT_WIDTH};
 use substitution::Size;
 
-// How a redex's contractum is made: a protected part of the script; a protected body with a value put in for its variable; the
-// operand raised; a recursion's body with the recursion put in; two literals reckoned. Places are records.
+/// How a redex's contractum is made of parts of its script. Places are records.
 #[derive(Clone, Copy, Debug, PartialEq, Eq)]
 pub enum Plan {
+    /// Of a projection: the component that it takes, protected.
     Part(usize),
+    /// Of an application or a case: a body with a value put in for its variable, protected.
     Body { body: usize, value: usize },
+    /// Of a protect: its operand, raised.
     Raised,
+    /// Of a recursion: its body with the recursion put in for its variable.
     Unrolled,
+    /// Of a sum or a comparison: what is reckoned of two literals.
     Reckoned,
 }
 
 // The plan of the case at record `at`: the branch of its injection's side, with the injected value put in.
 fn branch_of(script: &[u8], at: usize) -> Plan
-    requires { Branches script.now at }
-    ensures { (q : Branches script.now at) → Planned script.now q.tree result }
+    requires { CaseRedex script.now at }
+    ensures { (q : CaseRedex script.now at) → Planned script.now q.tree result }
 {
     let value = at + 2;
     let first = records::end_of(script, value);
@@ -56,12 +60,12 @@ fn branch_of(script: &[u8], at: usize) -> Plan
     }
 }
 
-// The plan of the redex at record `at`. Its first operand's own operand stands two records on, since each record stands before
-// its operands.
+/// The plan of the redex at record `at`: which parts of the script its contractum is made of.
 pub fn plan_of(script: &[u8], at: usize) -> Plan
     requires { Fires script.now at }
     ensures { (q : Fires script.now at) → Planned script.now q.tree result }
 {
+    // The first operand's own operand: each record stands before its operands.
     let inner = at + 2;
     match records::kind_of(script, at) {
         Kind::Recursion => Plan::Unrolled,
@@ -79,8 +83,10 @@ pub fn plan_of(script: &[u8], at: usize) -> Plan
 
 // What a protect around a term of this size measures.
 fn protected(e: Size) -> Size
-    requires { (e.records + 1 < 2 ^ 64) × (e.depth + 1 < 2 ^ 64) }
-    ensures { (result.records ≡ e.records + 1) × (result.depth ≡ e.depth + 1) }
+    requires records_fit { e.records + 1 < 2 ^ 64 }
+    requires depth_fits { e.depth + 1 < 2 ^ 64 }
+    ensures records { result.records ≡ e.records + 1 }
+    ensures depth { result.depth ≡ e.depth + 1 }
 {
     Size {
         records: e.records + 1,
@@ -90,8 +96,8 @@ fn protected(e: Size) -> Size
 
 // A body with a value put in, counted.
 fn measure_body(script: &[u8], body: usize, value: usize) -> Size
-    requires { Both script.now body value }
-    ensures { (q : Both script.now body value) → Measures (subst 0 q.value q.body) result }
+    requires { BodyAndValue script.now body value }
+    ensures { (q : BodyAndValue script.now body value) → Measures (substitute 0 q.value q.body) result }
 {
     let v = substitution::extent_at(script, value).size;
     substitution::measure(script, body, 0, v).size
@@ -115,7 +121,8 @@ fn measure_unrolled(script: &[u8], at: usize) -> Size
 fn measure_reckoned(script: &[u8], at: usize) -> Size
     requires { Literals script.now at }
     ensures { (q : Literals script.now at) (S : Security) (tab : ℕ → Ty)
-        → Measures (contractum S tab (reckon q.operation q.label (literal q.left.own q.left.value) (literal q.right.own q.right.value))) result }
+        → Measures (contractum S tab
+        (reckon q.operation q.label (literal q.left.own q.left.value) (literal q.right.own q.right.value))) result }
 {
     let records = match records::kind_of(script, at) {
         Kind::Sum => 1,
@@ -127,15 +134,18 @@ fn measure_reckoned(script: &[u8], at: usize) -> Size
     }
 }
 
-// The size of the contractum, with nothing written: a substitution can name millions of records, and raising changes no size.
+/// The size of the contractum of the redex at record `at`, by its plan.
+///
+/// Nothing is written: a substitution can name millions of records.
 pub fn measure(script: &[u8], at: usize, plan: Plan) -> Size
-    requires { Ready script.now at plan }
-    ensures { (q : Ready script.now at plan) (S : Security) (tab : ℕ → Ty)
+    requires { PlannedRedex script.now at plan }
+    ensures { (q : PlannedRedex script.now at plan) (S : Security) (tab : ℕ → Ty)
         → Measures (contractum S tab q.tree) result }
 {
     match plan {
         Plan::Part(part) => protected(substitution::extent_at(script, part).size),
         Plan::Body { body, value } => protected(measure_body(script, body, value)),
+        // Raising changes no size.
         Plan::Raised => substitution::extent_at(script, at + 1).size,
         Plan::Unrolled => measure_unrolled(script, at),
         Plan::Reckoned => measure_reckoned(script, at),
@@ -150,7 +160,8 @@ fn term_bytes(script: &[u8], i: usize) -> &[u8]
     records::part(script, i, records::end_of(script, i))
 }
 
-// The rows of groups 0 to g. No later group is below g, so a search for a meet with g finds in them what it finds in the whole table.
+// The rows of groups 0 to g. No later group is below g, so a search for a meet with g finds in them what it finds in
+// the whole table.
 fn up_to(groups: &[u8], g: u8) -> &[u8]
     ensures { result.now ≡ up_to groups.now g }
 {
@@ -180,7 +191,8 @@ fn raised(groups: &[u8], own: Property, by: Influence) -> Property
 // What reckoning by this group gives of operands of these properties.
 fn reckoned(groups: &[u8], left: Property, right: Property, reader: Reader) -> Property
     requires { InOrder groups.now }
-    ensures { said_property result ≡ of_both (properties_of groups.now) reader.0 (said_property left) (said_property right) }
+    ensures { said_property result
+        ≡ of_both (properties_of groups.now) reader.0 (said_property left) (said_property right) }
 {
     let joined = left.ir.0.max(right.ir.0);
     let met = reader.0.min(left.ic.0.max(right.ic.0));
@@ -199,9 +211,11 @@ fn only_reader(r: Reader) -> Property
     }
 }
 
-// The protect that a step leaves: what the destructor at record `at` leaves on its result when it reads the object after it.
+/// The record of the protect that a step leaves: what the destructor at record `at` leaves on its result when it reads
+/// the object at the next record.
 pub fn protect_record(groups: &[u8], script: &[u8], at: usize) -> [u8; SCRIPT_WIDTH]
-    requires { InOrder groups.now × (at + 1 < record_count script.now) }
+    requires order { InOrder groups.now }
+    requires operand { at + 1 < record_count script.now }
     ensures { result ≡ protect_record (protection groups.now script.now at) }
 {
     let read = records::property(script, at + 1);
@@ -217,8 +231,9 @@ pub fn protect_record(groups: &[u8], script: &[u8], at: usize) -> [u8; SCRIPT_WI
 
 // That protect, written.
 fn write_protect(groups: &[u8], script: &[u8], at: usize, out: &mut Writer)
-    requires { InOrder groups.now × (at + 1 < record_count script.now)
-        × Room (protect_record (protection groups.now script.now at)) out.old }
+    requires order { InOrder groups.now }
+    requires operand { at + 1 < record_count script.now }
+    requires room { Room (protect_record (protection groups.now script.now at)) out.old }
     ensures { Written (protect_record (protection groups.now script.now at)) out.old out.new }
 {
     out.put(&protect_record(groups, script, at));
@@ -239,7 +254,7 @@ fn write_body(groups: &[u8], script: &[u8], at: usize, body: usize, value: usize
     requires { BodyRoom groups.now script.now at body value out.old }
     ensures { (q : BodyRoom groups.now script.now at body value out.old)
         → Written
-        (encode (protect (protection groups.now script.now at) (subst 0 q.value q.body)))
+        (encode (protect (protection groups.now script.now at) (substitute 0 q.value q.body)))
         out.old out.new }
 {
     write_protect(groups, script, at, out);
@@ -247,11 +262,14 @@ fn write_body(groups: &[u8], script: &[u8], at: usize, body: usize, value: usize
     substitution::write(script, body, &[], operand, &[], 0, out);
 }
 
-// The own record of the value at record `at` + 1, raised by the protect at record `at`.
+/// The own record of the value at the record after `at`, raised by the protect at record `at`. The rest of the value
+/// stays.
 pub fn raised_record(groups: &[u8], script: &[u8], at: usize) -> [u8; SCRIPT_WIDTH]
-    requires { InOrder groups.now × Here script.now (at + 1) }
-    ensures { (v : Term) → At script.now (at + 1) v → So (is_value v)
-        → encode (raise_value (properties_of groups.now) v (influence_at script.now at)) ≡ result ++ drop script_width (encode v) }
+    requires order { InOrder groups.now }
+    requires operand { Here script.now (at + 1) }
+    ensures { (v : Term) → At script.now (at + 1) v → IsTrue (is_value v)
+        → encode (raise_value (properties_of groups.now) v (influence_at script.now at))
+        ≡ result ++ drop script_width (encode v) }
 {
     let x = at + 1;
     let by = records::influence(script, at);
@@ -274,14 +292,15 @@ fn write_raised(groups: &[u8], script: &[u8], at: usize, out: &mut Writer)
     out.put(&value[SCRIPT_WIDTH..]);
 }
 
-// The body of a recursion, with the recursion put in for its variable: (λx. (μf. e) x), with the groups of the recursion's type,
-// its parameter type the next record of the table, and the application made as the group that the recursion's record names.
+// The body of a recursion, with the recursion put in for its variable: (λx. (μf. e) x), with the groups of the
+// recursion's type, its parameter type the next record of the table, and the application made as the group that the
+// recursion's record names.
 fn write_unrolled(types: &[u8], script: &[u8], at: usize, out: &mut Writer)
     requires { UnrolledRoom types.now script.now at out.old }
     ensures { (q : UnrolledRoom types.now script.now at out.old)
         → Written
         (encode
-        (subst 0 (unrolled (properties_of q.groups) q.label q.type (top (type_at types.now q.type)) q.body) q.body))
+        (substitute 0 (unrolled_function (properties_of q.groups) q.label q.type (top (type_at types.now q.type)) q.body) q.body))
         out.old out.new }
 {
     let named = records::number(script, at);
@@ -306,7 +325,7 @@ fn write_unrolled(types: &[u8], script: &[u8], at: usize, out: &mut Writer)
 
 // The kind of the injection that says whether the left number is less.
 fn flag_kind(is_less: bool) -> Kind
-    ensures { kind_number result ≡ cond is_less kinds.first_injection kinds.second_injection }
+    ensures { kind_number result ≡ (if is_less then kinds.first_injection else kinds.second_injection) }
 {
     if is_less {
         Kind::FirstInjection
@@ -318,7 +337,7 @@ fn flag_kind(is_less: bool) -> Kind
 // The record of that side of type i, a sum of two units.
 fn flag_side(i: usize, is_less: bool) -> usize
     requires { i + 2 < 2 ^ 64 }
-    ensures { result ≡ cond is_less (i + 1) (i + 2) }
+    ensures { result ≡ (if is_less then i + 1 else i + 2) }
 {
     if is_less { i + 1 } else { i + 2 }
 }
@@ -339,7 +358,7 @@ fn write_flag(types: &[u8], i: u16, property: Property, is_less: bool, out: &mut
 fn write_reckoned(groups: &[u8], types: &[u8], script: &[u8], at: usize, out: &mut Writer)
     requires { ReckonedRoom groups.now types.now script.now at out.old }
     ensures { (q : ReckonedRoom groups.now types.now script.now at out.old)
-        → Written (encode (reckoning groups.now types.now q.literals)) out.old out.new }
+        → Written (encode (reckon_contractum groups.now types.now q.literals)) out.old out.new }
 {
     let first = at + 1;
     let second = at + 2;
@@ -355,7 +374,7 @@ fn write_reckoned(groups: &[u8], types: &[u8], script: &[u8], at: usize, out: &m
     }
 }
 
-// The contractum.
+/// Writes the contractum of the redex at record `at`, by its plan.
 pub fn write_contractum(
     groups: &[u8],
     types: &[u8],
@@ -364,8 +383,8 @@ pub fn write_contractum(
     plan: Plan,
     out: &mut Writer,
 )
-    requires { Fit groups.now types.now script.now at plan out.old }
-    ensures { (q : Fit groups.now types.now script.now at plan out.old)
+    requires { ContractumRoom groups.now types.now script.now at plan out.old }
+    ensures { (q : ContractumRoom groups.now types.now script.now at plan out.old)
         → Written
         (encode (contractum (properties_of groups.now) (type_at types.now) q.ready.tree))
         out.old out.new }

@@ -1,5 +1,7 @@
 -- A loop that strips a list from the front, one store a turn.
-use Rattle.std.proofs.Common.{◌≡◌, sym, ap, ◌∙◌, cond, [], ◌∷◌, ◌++◌, append_assoc, append-nil, ℕ, zero, suc, ◌+◌, ◌%◌, ◌<◌, add-one, add-zero, zero-add, arith, length, take, drop, set, get_or, take-suc, drop-cons, length-take-le, take_all}
+use Rattle.std.proofs.Common.{◌≡◌, sym, ap, ◌∙◌, cond, [], ◌∷◌, ◌++◌, append_assoc, append-nil, ℕ, zero, suc, ◌+◌, ◌%◌}
+use Rattle.std.proofs.Common.{◌<◌, add-one, add-zero, zero-add, arith, length, take, drop, set, get_or, take-suc}
+use Rattle.std.proofs.Common.{drop-cons, length-take-le, take_all}
 use Rattle.std.proofs.Math.Seq.{set_at, get_or_at, drop-length}
 use Rattle.rules.specs.Answer.{Bytes}
 use Rattle.rules.specs.Strip.{group_byte, strip_from}

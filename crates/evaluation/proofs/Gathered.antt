@@ -1,6 +1,7 @@
 -- A run in two buffers of one length: how it begins, and what it leaves.
-use Rattle.std.proofs.Common.{◌≡◌, refl, sym, ap, ◌∙◌, [], ◌++◌, append_assoc, append-nil, ℕ, ◌+◌, ◌-◌, ◌*◌, ◌≤◌, arith, length, take, drop, length-append, length-drop, length-take-le, take_at, drop_at, Some, Result}
-use Rattle.std.proofs.Common.{subst as transport}
+use Rattle.std.proofs.Common.{◌≡◌, refl, sym, ap, ◌∙◌, [], ◌++◌, append_assoc, append-nil, ℕ, ◌+◌, ◌-◌, ◌*◌, ◌≤◌, arith}
+use Rattle.std.proofs.Common.{length, take, drop, length-append, length-drop, length-take-le, take_at, drop_at, Some}
+use Rattle.std.proofs.Common.{Result, subst as transport}
 use Rattle.std.proofs.Math.ListN.{drop_of_length-le}
 use Rattle.calculus.specs.Terms.{Term}
 use Rattle.calculus.specs.Reduction.{hole, plug}
@@ -18,32 +19,32 @@ use Rattle.reduction.specs.Steps.{Startable}
 use Rattle.reduction.specs.declared.Stop.TheVariants.{Value}
 use Rattle.refocusing.specs.declared.Point.{Point}
 use Rattle.refocusing.specs.declared.Ended.{Ended}
-use Rattle.refocusing.specs.Focus.{Stands, Standing, value, Settled, at_value, run_ended, Ends}
+use Rattle.refocusing.specs.Focus.{Stands, Standing, focus_value, Settled, settled_at_value, run_ended, EndedRun}
 use Rattle.refocusing.proofs.Stages.{Settles}
 use Rattle.refocusing.proofs.Runs.{begun, run_of_value, ended}
-use Rattle.evaluation.specs.Runs.{front, Loaded, Halted, end_of}
+use Rattle.evaluation.specs.Runs.{front_term, Loaded, Halted, run_end}
 
 -- a whole term that is settled is the value that its run ends at
 settled_ends : {g t : Bytes} {room budget : ℕ} {whole : Term} {m : ℕ} {a b : Bytes} {r : Result Point Ended} → Settled g t room budget whole hole m a b r
-    → Ends g t room budget whole a b (end_of r)
+    → EndedRun g t room budget whole a b (run_end r)
 unfolding plug
-settled_ends (at_value (value v h s) l) = ended s (append-nil (encode v)) (Some Value) (run_of_value s.reached h)
+settled_ends (settled_at_value (focus_value v h s) l) = ended s (append-nil (encode v)) (Some Value) (run_of_value s.reached h)
 settled_ends (run_ended x) = x
 
 -- the term at the front of a, put at the end of b
 module _ {g t a : Bytes} {n : ℕ} (q : Loaded g t a n (length a)) (b : Bytes) {b' : Bytes} (same : length b ≡ length a) (whole : script_width * records b ≡ length b)
     (right : ℕ) (ends : right ≡ records b - n) (kept : length b' ≡ length b) (put : b' ≡ splice (script_width * right) (take (script_width * n) a) b) (budget : ℕ) where
-  pub begins : Stands g t (length b') budget (front a n) hole (front a n) [] (encode (front a n)) (record { left = 0; right = right; steps = 0 }) a b'
+  pub begins : Stands g t (length b') budget (front_term a n) hole (front_term a n) [] (encode (front_term a n)) (record { left = 0; right = right; steps = 0 }) a b'
   unfolding plug before after
   begins =
       let s = take (script_width * n) a in
-      let w : encode (front a n) ≡ s = (started q.start).encoded in
+      let w : encode (front_term a n) ≡ s = (started q.start).encoded in
       let f = q.fits in
       let l : length s ≡ script_width * n = length-take-le (script_width * n) a f in
       let at = script_width * right in
       let z : drop (at + length s) b ≡ [] = drop_of_length-le b {i = at + length s} (omega arith) in
       record {
-        reached = begun budget (front a n) (transport (λ x. Startable g t x) (sym w) q.start) (omega (arith, term_length (front a n), ap length w));
+        reached = begun budget (front_term a n) (transport (λ x. Startable g t x) (sym w) q.start) (omega (arith, term_length (front_term a n), ap length w));
         gap = record {
           front = refl;
           back = ap (drop at) put ∙ drop_at (take at b) (s ++ drop (at + length s) b) at (length-take-le at b (omega arith))
@@ -55,17 +56,17 @@ module _ {g t a : Bytes} {n : ℕ} (q : Loaded g t a n (length a)) (b : Bytes) {
 
   pub begins_so : Standing g t budget 0 (record { left = 0; right = right; steps = 0 }) a b'
   unfolding level
-  begins_so = record { whole = front a n; context = hole; term = front a n; stands = begins; around_is = refl; same_length = omega arith }
+  begins_so = record { whole = front_term a n; context = hole; term = front_term a n; stands = begins; around_is = refl; same_length = omega arith }
 
-  pub run_ends : {x y : Bytes} {r : Result Point Ended} {z : Ended} → Settles g t budget 0 (record { left = 0; right = right; steps = 0 }) a b' x y r → z ≡ end_of r
-      → Ends g t (length a) budget (front a n) x y z
+  pub run_ends : {x y : Bytes} {r : Result Point Ended} {z : Ended} → Settles g t budget 0 (record { left = 0; right = right; steps = 0 }) a b' x y r → z ≡ run_end r
+      → EndedRun g t (length a) budget (front_term a n) x y z
   unfolding level
   run_ends {x} {y} {r} f h =
-      transport (λ z. Ends g t (length a) budget (front a n) x y z) (sym h)
-      (transport (λ m. Ends g t m budget (front a n) x y (end_of r)) (kept ∙ same) (settled_ends (f (front a n) hole (front a n) begins refl)))
+      transport (λ z. EndedRun g t (length a) budget (front_term a n) x y z) (sym h)
+      (transport (λ m. EndedRun g t m budget (front_term a n) x y (run_end r)) (kept ∙ same) (settled_ends (f (front_term a n) hole (front_term a n) begins refl)))
 
 -- what is left, gathered in a
-module _ {g t : Bytes} {room budget : ℕ} {whole : Term} {a b : Bytes} {x : Ended} (z : Ends g t room budget whole a b x) (same : length a ≡ room) where
+module _ {g t : Bytes} {room budget : ℕ} {whole : Term} {a b : Bytes} {x : Ended} (z : EndedRun g t room budget whole a b x) (same : length a ≡ room) where
   counted : script_width * x.point.left + (length b - script_width * x.point.right) ≡ script_width * size z.last
   counted =
       let i = z.inside_a in

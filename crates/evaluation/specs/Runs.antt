@@ -7,18 +7,18 @@ use Rattle.rules.specs.Limits.{script_width}
 use Rattle.rules.specs.Script.{encode, term, size}
 use Rattle.rules.specs.Run.{Ran}
 use Rattle.rules.specs.Calls.{Report, run_report, first_after, scratch_after}
-use Rattle.demands.specs.Demands.{Demand3}
+use Rattle.promises.specs.Promises.{AcceptedRun}
 use Rattle.refocusing.specs.declared.Point.{Point}
 use Rattle.refocusing.specs.declared.Ended.{Ended}
 use Rattle.evaluation.specs.declared.Halt.{Halt}
 use Rattle.reduction.specs.declared.Stop.TheVariants.{Value}
-use Rattle.reduction.specs.Steps.{Startable, end_number}
-use Rattle.answer.specs.Numbers.{number}
+use Rattle.reduction.specs.Steps.{Startable, reported_end}
+use Rattle.answer.specs.Numbers.{question_number}
 use Rattle.answer.specs.declared.Refusal.{Refusal}
 
 -- the term of the first n records of a buffer
-abbrev pub front : Bytes → ℕ → Term
-front a n = term (take (script_width * n) a)
+abbrev pub front_term : Bytes → ℕ → Term
+front_term a n = term (take (script_width * n) a)
 
 -- a buffer starts with a script of n records that can be stepped, within `room` bytes
 pub record Loaded (g t a : Bytes) (n room : ℕ) : Type 0 where
@@ -26,13 +26,13 @@ pub record Loaded (g t a : Bytes) (n room : ℕ) : Type 0 where
   pub fits : script_width * n ≤ room
 
 -- the end of a run of a whole term, which settles to a value or has ended before
-abbrev pub end_of : Result Point Ended → Ended
-end_of (Ok p) = record { stop = Some Value; point = p }
-end_of (Err x) = x
+abbrev pub run_end : Result Point Ended → Ended
+run_end (Ok p) = record { stop = Some Value; point = p }
+run_end (Err x) = x
 
 -- a tells the run's end, steps and record count
 pub record Told (x : Ran) (a : Halt) : Type 0 where
-  pub end : end_number a.stop ≡ x.end
+  pub end : reported_end a.stop ≡ x.end
   pub steps : a.steps ≡ x.steps
   pub records : a.records ≡ size x.last
 
@@ -43,22 +43,32 @@ pub record Halted (x : Ran) (room : ℕ) (a : Halt) (first' : Bytes) : Type 0 wh
   pub fits : script_width * a.records ≤ room
 
 -- a tells the run, which leaves both buffers as the rules say
-pub record Ends (x : Ran) (first scratch : Bytes) (a : Halt) (first' scratch' : Bytes) : Type 0 where
+pub record ReportsRun (x : Ran) (first scratch : Bytes) (a : Halt) (first' scratch' : Bytes) : Type 0 where
   pub told : Told x a
   pub first_is : first' ≡ first_after (accepted x) first
   pub scratch_is : scratch' ≡ scratch_after (accepted x) scratch
 
--- "A run reports end, steps made and record count."
+-- what a run answers: its end, the steps made and a record count
 abbrev pub said_run : Result Halt Refusal → Answer Report
-said_run (Ok halt) = accepted (record { end = end_number halt.stop; steps = halt.steps; count = halt.records })
-said_run (Err e) = refused (number e.question) e.place
+said_run (Ok halt) = accepted (record { end = reported_end halt.stop; steps = halt.steps; count = halt.records })
+said_run (Err e) = refused (question_number e.question) e.place
 
--- Demand 3, and that the run in it is the one that this answer reports: it isn't refused, and its end is neither 2 nor 3.
-pub record Demanded (g t s : Bytes) (type : Ty) (budget : ℕ) (first scratch : Bytes) (a : Result Halt Refusal) (first' scratch' : Bytes) : Type 0 where
-  pub demand : Demand3 g t s type budget first scratch
-  pub reports : said_run a ≡ run_report (accepted demand.ran)
-  pub first_is : first' ≡ first_after (accepted demand.ran) first
-  pub scratch_is : scratch' ≡ scratch_after (accepted demand.ran) scratch
-  pub ended : MatchResult a (λ halt. Told demand.ran halt) (λ e. ⊥)
-  pub not_2 : demand.ran.end ≡ 2 → ⊥
-  pub not_3 : demand.ran.end ≡ 3 → ⊥
+-- A run, or a refusal, is what is answered and left: a reports it, and the buffers `first` and `scratch` end as the
+-- rules say.
+pub record AnswersRun (ran : Answer Ran) (first scratch : Bytes) (a : Result Halt Refusal)
+    (first' scratch' : Bytes) : Type 0 where
+  pub answer : said_run a ≡ run_report ran
+  pub first_is : first' ≡ first_after ran first
+  pub scratch_is : scratch' ≡ scratch_after ran scratch
+
+-- The promise of an accepted script's run, and that the run in it is the one that this answer reports: it isn't
+-- refused, and its end is neither 2 nor 3.
+pub record PromisedRun (g t s : Bytes) (type : Ty) (budget : ℕ) (first scratch : Bytes) (a : Result Halt Refusal)
+    (first' scratch' : Bytes) : Type 0 where
+  pub promise : AcceptedRun g t s type budget first scratch
+  pub reports : said_run a ≡ run_report (accepted promise.ran)
+  pub first_is : first' ≡ first_after (accepted promise.ran) first
+  pub scratch_is : scratch' ≡ scratch_after (accepted promise.ran) scratch
+  pub ended : MatchResult a (λ halt. Told promise.ran halt) (λ e. ⊥)
+  pub not_2 : promise.ran.end ≡ 2 → ⊥
+  pub not_3 : promise.ran.end ≡ 3 → ⊥

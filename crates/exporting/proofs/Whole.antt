@@ -1,11 +1,11 @@
 -- A whole script: what its walk is given, and what stands in front of the lent buffer.
-use Rattle.std.proofs.Common.{◌≡◌, refl, sym, ap, ap₂, ◌∙◌, [], ℕ, ◌*◌, ◌≤◌, arith, leb, leb-true, length}
+use Rattle.std.proofs.Common.{◌≡◌, refl, sym, ap, ap₂, ◌∙◌, [], ℕ, ◌*◌, ◌≤◌, arith, nat_le, leb-true, length}
 use Rattle.std.specs.Borrow.{MutBor}
 use Rattle.rules.specs.Answer.{Bytes, Octets, accepted, ◌>>◌, ask}
 use Rattle.rules.specs.Limits.{office_width, depth_limit}
 use Rattle.rules.specs.Script.{encode, term, depth, records, q13, q18, q19}
 use Rattle.rules.specs.Calls.{types_check, form_check, own_check, script_check, q27}
-use Rattle.rules.specs.Office.{exported, exporting, q28_of_export}
+use Rattle.rules.specs.Office.{export_of, export_call, q28_of_export}
 use Rattle.rules.proofs.Asked.{ask_true, and_then}
 use Rattle.rules.proofs.Form.{form_yes}
 use Rattle.rules.proofs.Depth.{q18_depth}
@@ -14,11 +14,11 @@ use Rattle.rules.proofs.Exports.{office_length}
 use Rattle.memory.specs.Splice.{splice}
 use Rattle.memory.specs.declared.Writer.{Writer}
 use Rattle.records.proofs.Stands.{at_start}
-use Rattle.rewriting.specs.Widened.{fitting}
-use Rattle.exporting.specs.Export.{Ready, Exported}
+use Rattle.rewriting.specs.Widened.{after_27}
+use Rattle.exporting.specs.Export.{Exportable, Exported}
 
-pub exporting_is : (g t s : Bytes) (room : ℕ) → ◌>>◌ (script_check [] g t s) (◌>>◌ (q28_of_export s) (fitting (exported s) room)) ≡ exporting g t s room
-unfolding exporting
+pub exporting_is : (g t s : Bytes) (room : ℕ) → ◌>>◌ (script_check [] g t s) (◌>>◌ (q28_of_export s) (after_27 (export_of s) room)) ≡ export_call g t s room
+unfolding export_call
 exporting_is g t s room = refl
 
 module _ (g t s : Bytes) (octets : Octets s) (yes : accepted tt ≡ script_check [] g t s) where
@@ -38,16 +38,16 @@ module _ (g t s : Bytes) (octets : Octets s) (yes : accepted tt ≡ script_check
   pub encoded : encode (term s) ≡ s
   encoded = read.stands.encoded
 
-  pub exported_length : length (exported s) ≡ office_width * records s
-  unfolding exported
+  pub exported_length : length (export_of s) ≡ office_width * records s
+  unfolding export_of
   exported_length = omega (arith, office_length 0 (term s), read.stands.sized)
 
   -- question 27 of what is to be written, by the record count
-  pub fits : (room : ℕ) {n : ℕ} → n ≡ records s → ask 27 0 (leb (office_width * n) room) ≡ q27 (exported s) room
-  fits room {n} e = ap (λ x. ask 27 0 (leb x room)) (ap (λ x. office_width * x) e ∙ sym exported_length)
+  pub fits : (room : ℕ) {n : ℕ} → n ≡ records s → ask 27 0 (nat_le (office_width * n) room) ≡ q27 (export_of s) room
+  fits room {n} e = ap (λ x. ask 27 0 (nat_le x room)) (ap (λ x. office_width * x) e ∙ sym exported_length)
 
-  pub ready : (out : Writer) (old : Bytes) {n : ℕ} {lent : MutBor Bytes} → n ≡ records s → accepted tt ≡ ask 27 0 (leb (office_width * n) (length old))
-      → (out.end ≡ 0) × (out.out ≡ lent) → lent.now ≡ old → Ready s 0 0 out
+  pub ready : (out : Writer) (old : Bytes) {n : ℕ} {lent : MutBor Bytes} → n ≡ records s → accepted tt ≡ ask 27 0 (nat_le (office_width * n) (length old))
+      → (out.end ≡ 0) × (out.out ≡ lent) → lent.now ≡ old → Exportable s 0 0 out
   ready out old {n} {lent} c f e m = record {
     tree = term s;
     at = at_start s encoded;
@@ -59,8 +59,8 @@ module _ (g t s : Bytes) (octets : Octets s) (yes : accepted tt ≡ script_check
 
   -- what was written, in the lent buffer
   pub written : {out out' : Writer} {next : ℕ} (old : Bytes) {lent : MutBor Bytes} → Exported 0 0 (term s) out next out' → (out.end ≡ 0) × (out.out ≡ lent) → lent.now ≡ old
-      → out'.out.now ≡ splice 0 (exported s) old
-  unfolding exported
+      → out'.out.now ≡ splice 0 (export_of s) old
+  unfolding export_of
   written old x e m =
       x.wrote.holds
-      ∙ ap₂ (λ (n : ℕ) (b : Bytes). splice n (exported s) b) e.0 (ap (λ (o : MutBor Bytes). o.now) e.1 ∙ m)
+      ∙ ap₂ (λ (n : ℕ) (b : Bytes). splice n (export_of s) b) e.0 (ap (λ (o : MutBor Bytes). o.now) e.1 ∙ m)

@@ -1,11 +1,11 @@
 -- A walk over a term's operands, one after the other: what is written.
-use Rattle.std.proofs.Common.{◌≡◌, refl, sym, ap, ◌∙◌, List, [], ◌∷◌, ◌++◌, append_assoc, append-nil, ℕ, suc, ◌+◌, ◌*◌, ◌≤◌, arith, length, length-append}
-use Rattle.std.proofs.Common.{subst as transport}
+use Rattle.std.proofs.Common.{◌≡◌, refl, sym, ap, ◌∙◌, List, [], ◌∷◌, ◌++◌, append_assoc, append-nil, ℕ, suc, ◌+◌, ◌*◌}
+use Rattle.std.proofs.Common.{◌≤◌, arith, length, length-append, subst as transport}
 use Rattle.calculus.specs.Terms.{Term}
 use Rattle.rules.specs.Answer.{Bytes}
 use Rattle.rules.specs.Limits.{office_width}
 use Rattle.rules.specs.Script.{size, depth}
-use Rattle.rules.specs.Names.{naming}
+use Rattle.rules.specs.Names.{level_names}
 use Rattle.rules.specs.Office.{office}
 use Rattle.rules.proofs.Prefix.{total}
 use Rattle.rules.proofs.Parts.{joined_append}
@@ -18,7 +18,7 @@ use Rattle.records.specs.Binders.{binds}
 use Rattle.records.proofs.Passing.{Passed, Ahead, started, split_at, operand_here, passed_more, whole}
 use Rattle.records.proofs.Stands.{kind_of}
 use Rattle.substitution.proofs.Nodes.{operand_size, operand_depth}
-use Rattle.exporting.specs.Export.{Ready, Exported}
+use Rattle.exporting.specs.Export.{Exportable, Exported}
 use Rattle.exporting.proofs.Nodes.{named_from, offices, office_node, named_append, offices_length}
 
 -- the record and the first j operands are written, and the next one stands at record `next`
@@ -36,11 +36,11 @@ module _ {i n : ℕ} {e : Term} {w : Writer} {j next : ℕ} {w' : Writer} (p : C
   copied_more a level h {next'} {w''} m =
       let q = p.passed in
       let us = named_from (kind_of e) n 0 q.before in
-      let d = naming level a.operand in
+      let d = level_names level a.operand in
       let z : 0 + length q.before ≡ j = omega (arith, q.count) in
       let more : named_from (kind_of e) n 0 (q.before ++ a.operand ∷ []) ≡ us ++ (d ∷ []) =
       named_append (kind_of e) n 0 q.before (a.operand ∷ [])
-      ∙ ap (λ x. us ++ (naming (n + binds (kind_of e) x) a.operand ∷ [])) z ∙ ap (λ x. us ++ (naming x a.operand ∷ [])) (sym h) in
+      ∙ ap (λ x. us ++ (level_names (n + binds (kind_of e) x) a.operand ∷ [])) z ∙ ap (λ x. us ++ (level_names x a.operand ∷ [])) (sym h) in
       let bytes : (office_head (n, e) ++ offices us) ++ office d ≡ office_head (n, e) ++ offices (named_from (kind_of e) n 0 (q.before ++ a.operand ∷ [])) =
       append_assoc (office_head (n, e)) (offices us) (office d)
       ∙ ap (λ b. office_head (n, e) ++ b) (ap (λ b. offices us ++ b) (sym (append-nil (office d))) ∙ sym (joined_append office us (d ∷ [])) ∙ ap offices (sym more)) in
@@ -57,7 +57,7 @@ module _ {i n : ℕ} {e : Term} {w : Writer} {j next : ℕ} {w' : Writer} (p : C
       }
 
 -- what writing an operand is given
-module _ {s : Bytes} {i n : ℕ} {w : Writer} (q : Ready s i n w) {j next : ℕ} {w' : Writer} (p : Copied i n q.tree w j next w') (a : Ahead p.passed) where
+module _ {s : Bytes} {i n : ℕ} {w : Writer} (q : Exportable s i n w) {j next : ℕ} {w' : Writer} (p : Copied i n q.tree w j next w') (a : Ahead p.passed) where
   pub room_left : w'.end + office_width * size a.operand ≤ length w'.out.now
   room_left =
       let t = p.passed in
@@ -75,6 +75,6 @@ module _ {s : Bytes} {i n : ℕ} {w : Writer} (q : Ready s i n w) {j next : ℕ}
   pub deeper : suc (depth a.operand) ≤ depth q.tree
   deeper = let t = p.passed in operand_depth q.tree t.before a.operand a.later (split_at t a)
 
-  abbrev pub operand_ready : (level : ℕ) → level ≤ n + 1 → Ready s next level w'
+  abbrev pub operand_ready : (level : ℕ) → level ≤ n + 1 → Exportable s next level w'
   operand_ready level l =
       record { tree = a.operand; at = operand_here p.passed a q.at; shallow = omega (arith, q.shallow, deeper); room = room_left }

@@ -4,14 +4,14 @@ use Rattle.calculus.specs.Terms.{Term}
 use Rattle.rules.specs.Answer.{Bytes}
 use Rattle.rules.specs.Limits.{office_width, depth_limit}
 use Rattle.rules.specs.Script.{size, depth}
-use Rattle.rules.specs.Names.{naming}
+use Rattle.rules.specs.Names.{level_names}
 use Rattle.rules.specs.Office.{office}
 use Rattle.records.specs.Place.{At}
 use Rattle.memory.specs.Written.{Written}
 use Rattle.memory.specs.declared.Writer.{Writer}
 
 -- the term at record i, with n binders outside it, and room for it
-pub record Ready (s : Bytes) (i n : ℕ) (out : Writer) : Type 0 where
+pub record Exportable (s : Bytes) (i n : ℕ) (out : Writer) : Type 0 where
   pub tree : Term
   pub at : At s i tree
   pub shallow : n + depth tree ≤ depth_limit
@@ -20,4 +20,4 @@ pub record Ready (s : Bytes) (i n : ℕ) (out : Writer) : Type 0 where
 -- the record after e, which is written
 pub record Exported (i n : ℕ) (e : Term) (out : Writer) (next : ℕ) (out' : Writer) : Type 0 where
   pub next_is : next ≡ i + size e
-  pub wrote : Written (office (naming n e)) out out'
+  pub wrote : Written (office (level_names n e)) out out'

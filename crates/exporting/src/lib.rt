@@ -6,20 +6,20 @@ ghost use Rattle.std.specs.Prelude.{◌≡◌, ◌≤◌, ◌<◌, length};
 ghost use Rattle.calculus.specs.Terms.{Term};
 ghost use Rattle.rules.specs.Limits.{office_width};
 ghost use Rattle.rules.specs.Script.{records as record_count, kind as kind_at, r, ir, number};
-ghost use Rattle.rules.specs.Office.{office_record, exporting};
-ghost use Rattle.rules.specs.Rewriting.{rewritten_records, rewritten_after};
-ghost use Rattle.answer.specs.Said.{said};
+ghost use Rattle.rules.specs.Office.{office_record, export_call};
+ghost use Rattle.answer.specs.Said.{answer_of};
 ghost use Rattle.records.specs.Numbers.{kind_number};
 ghost use Rattle.records.specs.Place.{At};
+ghost use Rattle.rewriting.specs.HandsOver.{HandsOver};
 ghost use Rattle.exporting.specs.Numbers.{number_in, first_in, second_in};
-ghost use Rattle.exporting.specs.Export.{Ready, Exported};
+ghost use Rattle.exporting.specs.Export.{Exportable, Exported};
 
 use answer::{Question, Refusal};
 use memory::Writer;
 use records::Kind;
 use rewriting::{OFFICE_LIMIT, OFFICE_WIDTH};
 
-// What a record of the old form holds beside its kind and groups.
+// What a record of the old office form holds beside its kind and groups.
 #[derive(Clone, Copy, Debug, PartialEq, Eq)]
 struct Held {
     number: u16,
@@ -27,12 +27,12 @@ struct Held {
     second: u16,
 }
 
-// Those of a record of this kind and number with so many binders outside it. A variable's name is that of its binder, which has as many
-// binders inside it as the variable's number says.
+// Those of a record of this kind and number with so many binders outside it. A variable's name is that of its binder,
+// which has as many binders inside it as the variable's number says.
 fn held_by(kind: Kind, number: u16, outside: u16) -> Held
-    ensures { (result.number ≡ number_in (kind_number kind) number)
-        × (result.first ≡ first_in (kind_number kind) number outside)
-        × (result.second ≡ second_in (kind_number kind) outside) }
+    ensures number { result.number ≡ number_in (kind_number kind) number }
+    ensures first { result.first ≡ first_in (kind_number kind) number outside }
+    ensures second { result.second ≡ second_in (kind_number kind) outside }
 {
     match kind {
         Kind::Variable => Held {
@@ -58,9 +58,10 @@ fn held_by(kind: Kind, number: u16, outside: u16) -> Held
     }
 }
 
-// Record i, which has this kind, in the old form. Its creators are not written.
+// Record i, which has this kind, in the old office form. Its creators are not written.
 fn office_record(script: &[u8], i: usize, kind: Kind, outside: u16) -> [u8; OFFICE_WIDTH]
-    requires { (i < record_count script.now) × (kind_number kind ≡ kind_at script.now i) }
+    requires there { i < record_count script.now }
+    requires kind { kind_number kind ≡ kind_at script.now i }
     ensures { result ≡ office_record (kind_at script.now i) (r script.now i) (ir script.now i)
         (number_in (kind_at script.now i) (number script.now i))
         (first_in (kind_at script.now i) (number script.now i) outside)
@@ -84,9 +85,9 @@ fn office_record(script: &[u8], i: usize, kind: Kind, outside: u16) -> [u8; OFFI
     ]
 }
 
-// The term at record i with so many binders outside it, in the old form; the record after it is returned.
+// The term at record i with so many binders outside it, in the old office form; the record after it is returned.
 fn write(script: &[u8], i: usize, outside: u16, out: &mut Writer) -> usize
-    requires { Ready script.now i outside out.old }
+    requires { Exportable script.now i outside out.old }
     ensures { (e : Term) → At script.now i e → Exported i outside e out.old result out.new }
 {
     let kind = records::kind_of(script, i);
@@ -99,12 +100,13 @@ fn write(script: &[u8], i: usize, outside: u16, out: &mut Writer) -> usize
     next
 }
 
-// A script in the form of the old office program, to the front of `old`: questions 2 to 19, 28 and 27. The answer is the record count.
+/// Writes a script in the form of the old office program, without creators, to the front of `old`; the answer is the
+/// record count. Each binder is named by its count of binders outside it. Refused where script and tables fail their
+/// check (questions 2 to 19), by 28, `OfficeLength`, where it has more than 6,000 records, or by 27, `Room`. A
+/// refusal writes nothing.
 pub fn export(groups: &[u8], types: &[u8], script: &[u8], old: &mut [u8]) -> Result<usize, Refusal>
-    ensures { (said result
-        ≡ rewritten_records office_width (exporting groups.now types.now script.now (length old.old)))
-        × (old.new
-        ≡ rewritten_after (exporting groups.now types.now script.now (length old.old)) old.old) }
+    ensures { HandsOver office_width (export_call groups.now types.now script.now (length old.old))
+        old.old (answer_of result) old.new }
 {
     syntax::script_check(groups, types, script, &[])?;
     let count = records::record_count(script);

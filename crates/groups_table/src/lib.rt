@@ -1,4 +1,4 @@
-// A groups table: questions 2 to 7.
+// The check of a groups table: a function for each of its questions, 2 to 7, and all of them in order.
 
 #![tactic(auto)]
 
@@ -6,15 +6,15 @@ ghost use Rattle.std.specs.Prelude.{◌≡◌, ◌≤◌, ◌<◌};
 ghost use Rattle.rules.specs.Limits.{group_limit};
 ghost use Rattle.rules.specs.Groups.{rows, ok3, ok4, ok5, ok6, q2, q3, q4, q5, q6, q7};
 ghost use Rattle.rules.specs.Calls.{groups_check};
-ghost use Rattle.answer.specs.Said.{said};
+ghost use Rattle.answer.specs.Said.{answer_of};
 ghost use Rattle.groups_table.specs.Pairs.{pair5, pair6};
 
 use answer::{Checked, Question};
 use lattice::{GROUP_LIMIT, ROW_WIDTH};
 
-// 2. Whole rows, 1 to 32?
+/// Whole rows of 4 bytes, 1 to 32? Question 2, `GroupsLength`.
 pub fn question_2(groups: &[u8]) -> Checked
-    ensures { said result ≡ q2 groups.now }
+    ensures { answer_of result ≡ q2 groups.now }
 {
     answer::ask(
         Question::GroupsLength,
@@ -31,10 +31,10 @@ fn within_table(groups: &[u8], g: usize) -> bool
     u64::from(lattice::row(groups, g)) >> lattice::row_count(groups) == 0
 }
 
-// 3. No bit at or past the row count?
+/// Has no row a bit at or past the row count? Question 3, `BitsInTable`, refused at the first row that has one.
 pub fn question_3(groups: &[u8]) -> Checked
     requires { rows groups.now ≤ group_limit }
-    ensures { said result ≡ q3 groups.now }
+    ensures { answer_of result ≡ q3 groups.now }
 {
     let n = lattice::row_count(groups);
     answer::each(Question::BitsInTable, n, |g| within_table(groups, g))
@@ -48,10 +48,10 @@ fn lowest_is_own(groups: &[u8], g: usize) -> bool
     lattice::row(groups, g).trailing_zeros() as usize == g
 }
 
-// 4. Is g the lowest bit of row g?
+/// Is g the lowest bit of row g? Question 4, `LowestBit`, of every row.
 pub fn question_4(groups: &[u8]) -> Checked
     requires { rows groups.now ≤ group_limit }
-    ensures { said result ≡ q4 groups.now }
+    ensures { answer_of result ≡ q4 groups.now }
 {
     let n = lattice::row_count(groups);
     answer::each(Question::LowestBit, n, |g| lowest_is_own(groups, g))
@@ -76,9 +76,9 @@ fn transitive(groups: &[u8], g: usize) -> bool
     answer::all(GROUP_LIMIT, |above| transitive_through(groups, g, above))
 }
 
-// 5. Is row h within row g for every bit h of row g?
+/// Is row h within row g for every bit h of row g? Question 5, `Transitive`, of every row g.
 pub fn question_5(groups: &[u8]) -> Checked
-    ensures { said result ≡ q5 groups.now }
+    ensures { answer_of result ≡ q5 groups.now }
 {
     let n = lattice::row_count(groups);
     answer::each(Question::Transitive, n, |g| transitive(groups, g))
@@ -100,27 +100,28 @@ fn has_joins(groups: &[u8], g: usize) -> bool
     answer::all(n, |other| has_join(groups, g, other))
 }
 
-// 6. For each pair g, h, are the bits common to both rows exactly the row of the lowest of them?
+/// For every row h, are the bits common to rows g and h exactly the row of the lowest of them? Question 6, `Joins`,
+/// of every row g.
 pub fn question_6(groups: &[u8]) -> Checked
-    ensures { said result ≡ q6 groups.now }
+    ensures { answer_of result ≡ q6 groups.now }
 {
     let n = lattice::row_count(groups);
     answer::each(Question::Joins, n, |g| has_joins(groups, g))
 }
 
-// 7. Has row 0 all bits?
+/// Has row 0 all bits below the row count? Question 7, `LowestGroup`.
 pub fn question_7(groups: &[u8]) -> Checked
-    ensures { said result ≡ q7 groups.now }
+    ensures { answer_of result ≡ q7 groups.now }
 {
     let lowest = lattice::row(groups, 0);
     let all = answer::all(lattice::row_count(groups), |h| lattice::bit(lowest, h));
     answer::ask(Question::LowestGroup, 0, all)
 }
 
-// Questions 2 to 7, in order: the first refusal is passed on.
+/// The check of a groups table, of any bytes: questions 2 to 7, in order. The first refusal is passed on.
 #[tactic(auto, using(answer::proofs::Passed::then_asked, answer::proofs::Passed::stopped), unfolding(rules::specs::Calls::groups_check))]
 pub fn groups_check(groups: &[u8]) -> Checked
-    ensures { said result ≡ groups_check groups.now }
+    ensures { answer_of result ≡ groups_check groups.now }
 {
     let a2 = question_2(groups);
     let Ok(()) = a2 else {

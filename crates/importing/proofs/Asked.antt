@@ -5,7 +5,7 @@ use Rattle.rules.specs.Limits.{script_width, depth_limit, office_limit}
 use Rattle.rules.specs.Script.{encode, term, depth, q18}
 use Rattle.rules.specs.Calls.{types_check, form_check}
 use Rattle.rules.specs.Names.{meant}
-use Rattle.rules.specs.Office.{office_records, nameless, with_names, named_term, q28, q29, q30, imported, importing}
+use Rattle.rules.specs.Office.{office_records, nameless, with_names, named_term, q28, q29, q30, import_of, import_call}
 use Rattle.rules.proofs.Asked.{and_then}
 use Rattle.rules.proofs.PrefixLaws.{encode_length}
 use Rattle.rules.proofs.TermCode.{term_code}
@@ -15,16 +15,16 @@ use Rattle.rules.proofs.Form.{form_yes, form_whole}
 use Rattle.rules.proofs.Office.{q28_measured, nameless_13, nameless_length, nameless_records, nameless_octets}
 use Rattle.memory.specs.Splice.{splice}
 use Rattle.memory.proofs.Laws.{splice_front}
-use Rattle.rewriting.specs.Widened.{fitting}
+use Rattle.rewriting.specs.Widened.{after_27}
 use Rattle.importing.specs.Check.{office_check}
 use Rattle.importing.proofs.Turns.{meant_size}
 
-pub importing_is : (g t s : Bytes) (room : ℕ) → ◌>>◌ (office_check g t s) (◌>>◌ (q30 s) (fitting (imported s) room)) ≡ importing g t s room
-unfolding office_check importing
+pub importing_is : (g t s : Bytes) (room : ℕ) → ◌>>◌ (office_check g t s) (◌>>◌ (q30 s) (after_27 (import_of s) room)) ≡ import_call g t s room
+unfolding office_check import_call
 importing_is g t s room = go (types_check g t) (q28 s) (form_check g t (nameless s)) (q29 s)
   where
     later : Answer Bytes
-    later = ◌>>◌ (q30 s) (fitting (imported s) room)
+    later = ◌>>◌ (q30 s) (after_27 (import_of s) room)
 
     go : (a b c d : Answer (Unit {0})) → ◌>>◌ (◌>>◌ a (◌>>◌ b (◌>>◌ c d))) later ≡ ◌>>◌ a (◌>>◌ b (◌>>◌ c (◌>>◌ d later)))
     go (refused q p) b c d = refl
@@ -38,9 +38,6 @@ front b w w' n l e = ap (take n) (e ∙ splice_front b w) ∙ take_at b (drop (l
 
 pub nameless_front : (s w : Bytes) {w' : Bytes} → w' ≡ splice 0 (nameless s) w → take (script_width * office_records s) w' ≡ nameless s
 nameless_front s w e = front (nameless s) w _ (script_width * office_records s) (sym (nameless_length s)) e
-
-pub few : (s : Bytes) → accepted tt ≡ q28 s → office_records s ≤ office_limit
-few s q = (q28_measured s (sym q)).limited
 
 -- An old script that was asked all that comes before its names.
 module _ (g t s : Bytes) (yes : accepted tt ≡ office_check g t s) where
@@ -65,8 +62,8 @@ module _ (g t s : Bytes) (yes : accepted tt ≡ office_check g t s) where
     pub shallow : depth (term (nameless s)) ≤ depth_limit
     shallow = q18_depth (term (nameless s)) (ap q18 whole.encoded ∙ (form_yes g t (nameless s) form_is).shallow)
 
-    imported_length : length (imported s) ≡ script_width * office_records s
-    unfolding imported named_term
+    imported_length : length (import_of s) ≡ script_width * office_records s
+    unfolding import_of named_term
     imported_length =
         omega (
           arith,
@@ -76,5 +73,5 @@ module _ (g t s : Bytes) (yes : accepted tt ≡ office_check g t s) where
           nameless_records s,
         )
 
-    pub imported_front : (w : Bytes) {w' : Bytes} → w' ≡ splice 0 (imported s) w → take (script_width * office_records s) w' ≡ imported s
-    imported_front w e = front (imported s) w _ (script_width * office_records s) (sym imported_length) e
+    pub imported_front : (w : Bytes) {w' : Bytes} → w' ≡ splice 0 (import_of s) w → take (script_width * office_records s) w' ≡ import_of s
+    imported_front w e = front (import_of s) w _ (script_width * office_records s) (sym imported_length) e

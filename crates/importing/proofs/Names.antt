@@ -1,12 +1,13 @@
 -- Names in an array: those that stand before place n are the names over a record under n binders.
-use Rattle.std.proofs.Common.{◌≡◌, refl, sym, ap, ap₂, ◌∙◌, Bool, true, false, cond, List, [], ◌∷◌, ℕ, zero, suc, ◌+◌, ◌-◌, ◌≤◌, ◌<◌, arith, eqb, length, get_or, set}
+use Rattle.std.proofs.Common.{◌≡◌, refl, sym, ap, ap₂, ◌∙◌, Bool, true, false, cond, List, [], ◌∷◌, ℕ, zero, suc, ◌+◌}
+use Rattle.std.proofs.Common.{◌-◌, ◌≤◌, ◌<◌, arith, nat_eq, length, get_or, set, eq-eqb, ne_eqb}
 use Rattle.std.proofs.lemmas.List.{get_or-set_same, get_or-set_other}
-use borrow.Author.Tests.{eq-eqb, ne_eqb}
 use Rattle.rules.specs.Answer.{Bytes}
 use Rattle.rules.specs.Names.{nearest}
 use Rattle.records.specs.Binders.{binds}
-use Rattle.importing.specs.Fields.{name_over, inner}
+use Rattle.importing.specs.Fields.{name_over}
 use Rattle.importing.specs.Scope.{scope}
+use Rattle.importing.proofs.NamesOver.{inner}
 
 pub scope_length : (names : List ℕ) (n : ℕ) → length (scope names n) ≡ n
 unfolding scope
@@ -28,11 +29,6 @@ scope_more names n v l = ap₂ ◌∷◌ (get_or-set_same names n v 0 l) (scope_
 pub record Sought (names : List ℕ) (n x k : ℕ) : Type 0 where
   pub within : k ≤ n
   pub so_far : nearest x (scope names n) ≡ k + nearest x (scope names (n - k))
-
-pub sought_none : (names : List ℕ) (n x : ℕ) → Sought names n x 0
-sought_none names n x =
-    let z : n - 0 ≡ n = omega arith in
-    record { within = omega arith; so_far = sym (ap (λ m. 0 + nearest x (scope names m)) z ∙ omega arith) }
 
 module _ (names : List ℕ) (n x k : ℕ) where
   last : k < n → scope names (n - k) ≡ get_or names (n - 1 - k) 0 ∷ scope names (n - (k + 1))
@@ -83,7 +79,7 @@ scope_inner o i kind j names n l = go (binds kind j) refl (at_most_one kind j)
     v : ℕ
     v = name_over o i j
 
-    go : (b : ℕ) → binds kind j ≡ b → b ≤ 1 → scope (set names n v) (n + binds kind j) ≡ cond (eqb (binds kind j) 1) (v ∷ scope names n) (scope names n)
+    go : (b : ℕ) → binds kind j ≡ b → b ≤ 1 → scope (set names n v) (n + binds kind j) ≡ cond (nat_eq (binds kind j) 1) (v ∷ scope names n) (scope names n)
     go zero p m = let z : n + 0 ≡ n = omega arith in rw p (ap (scope (set names n v)) z ∙ scope_set names n n v (omega arith))
     go (suc zero) p m = let z : n + 1 ≡ suc n = omega arith in rw p (ap (scope (set names n v)) z ∙ scope_more names n v l)
     go (suc (suc b)) p m = absurd (omega arith)

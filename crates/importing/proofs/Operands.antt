@@ -1,7 +1,8 @@
 -- What a term with names means, and the names over its records, by its operands, whatever its kind.
-use Rattle.std.proofs.Common.{◌≡◌, refl, sym, ap, ap₂, ◌∙◌, List, [], ◌∷◌, ◌++◌, append-nil, ℕ, suc, ◌+◌, ◌<◌, arith, eqb, length}
-use borrow.Author.Tests.{ne_eqb}
-use Rattle.calculus.specs.Terms.{first, second, plus, less, Term, var, unit, lam, pair, inj, app, proj, case, protect, mu, literal, reckon}
+use Rattle.std.proofs.Common.{◌≡◌, refl, sym, ap, ap₂, ◌∙◌, List, [], ◌∷◌, ◌++◌, append-nil, ℕ, suc, ◌+◌, ◌<◌, arith}
+use Rattle.std.proofs.Common.{nat_eq, length, ne_eqb}
+use Rattle.calculus.specs.Terms.{first, second, plus, less, Term, var, unit, lam, pair, inj, app, proj, case, protect}
+use Rattle.calculus.specs.Terms.{mu, literal, reckon}
 use Rattle.rules.specs.Answer.{Bytes}
 use Rattle.rules.specs.Script.{encode, size}
 use Rattle.rules.specs.Names.{meant, scopes}
@@ -11,10 +12,11 @@ use Rattle.rules.proofs.TermCode.{term_operands, term_head, term_encode_is}
 use Rattle.records.specs.Kinds as kinds
 use Rattle.records.specs.Binders.{binds}
 use Rattle.records.proofs.Stands.{kind_of}
-use Rattle.importing.specs.Fields.{inner}
+use Rattle.importing.proofs.NamesOver.{inner}
 
 module _ (o : Bytes) where
-  -- the operands from the j-th on of record i, which has this kind and stands under ns; the first of them is at record `next`
+  -- the operands from the j-th on of record i, which has this kind and stands under ns; the first of them is at record
+  -- `next`
   abbrev pub scopes_from : ℕ → ℕ → List ℕ → ℕ → ℕ → List Term → List (List ℕ)
   scopes_from i kind ns j next [] = []
   scopes_from i kind ns j next (e ∷ es) = scopes (inner o i kind j ns) (with_names o next e) ++ scopes_from i kind ns (suc j) (next + size e) es
@@ -27,19 +29,11 @@ module _ (o : Bytes) where
   unfolding scopes with_names binds
   scopes_are i ns (var n) = refl
   scopes_are i ns (unit k) = refl
-  scopes_are i ns (lam k t e) = simp append-nil
-  scopes_are i ns (pair k a b) = simp append-nil
   scopes_are i ns (inj first k t e) = simp append-nil
-  scopes_are i ns (inj second k t e) = simp append-nil
-  scopes_are i ns (app w f a) = simp append-nil
   scopes_are i ns (proj first w e) = simp append-nil
-  scopes_are i ns (proj second w e) = simp append-nil
-  scopes_are i ns (case w t e a b) = simp append-nil
-  scopes_are i ns (protect m e) = simp append-nil
-  scopes_are i ns (mu w t e) = simp append-nil
   scopes_are i ns (literal k n) = refl
   scopes_are i ns (reckon plus w a b) = simp append-nil
-  scopes_are i ns (reckon (less t) w a b) = simp append-nil
+  scopes_are i ns _ = simp append-nil
 
   record Node (i : ℕ) (ns : List ℕ) (e : Term) : Type 0 where
     head : term_head (meant ns (with_names o i e)) ≡ term_head e
@@ -48,20 +42,10 @@ module _ (o : Bytes) where
   meant_node : (i : ℕ) (ns : List ℕ) (e : Term) → (kind_of e ≡ kinds.variable → ⊥) → Node i ns e
   unfolding meant with_names binds
   meant_node i ns (var n) h = absurd (h refl)
-  meant_node i ns (unit k) h = record { head = refl; operands = refl }
-  meant_node i ns (lam k t e) h = record { head = refl; operands = refl }
-  meant_node i ns (pair k a b) h = record { head = refl; operands = refl }
   meant_node i ns (inj first k t e) h = record { head = refl; operands = refl }
-  meant_node i ns (inj second k t e) h = record { head = refl; operands = refl }
-  meant_node i ns (app w f a) h = record { head = refl; operands = refl }
   meant_node i ns (proj first w e) h = record { head = refl; operands = refl }
-  meant_node i ns (proj second w e) h = record { head = refl; operands = refl }
-  meant_node i ns (case w t e a b) h = record { head = refl; operands = refl }
-  meant_node i ns (protect m e) h = record { head = refl; operands = refl }
-  meant_node i ns (mu w t e) h = record { head = refl; operands = refl }
-  meant_node i ns (literal k n) h = record { head = refl; operands = refl }
   meant_node i ns (reckon plus w a b) h = record { head = refl; operands = refl }
-  meant_node i ns (reckon (less t) w a b) h = record { head = refl; operands = refl }
+  meant_node i ns _ h = record { head = refl; operands = refl }
 
   -- a record that is no variable's stays, and its operands are what they mean
   pub meant_encode : (i : ℕ) (ns : List ℕ) (e : Term) → (kind_of e ≡ kinds.variable → ⊥)
@@ -87,17 +71,7 @@ module _ (o : Bytes) where
 -- a variable stands alone
 pub variable_alone : (e : Term) → kind_of e ≡ kinds.variable → (m : ℕ) × (e ≡ var m)
 variable_alone (var m) h = (m, refl)
-variable_alone (unit k) h = absurd (omega arith)
-variable_alone (lam k i e) h = absurd (omega arith)
-variable_alone (pair k a b) h = absurd (omega arith)
 variable_alone (inj first k i e) h = absurd (omega arith)
-variable_alone (inj second k i e) h = absurd (omega arith)
-variable_alone (app w f a) h = absurd (omega arith)
 variable_alone (proj first w e) h = absurd (omega arith)
-variable_alone (proj second w e) h = absurd (omega arith)
-variable_alone (case w i e a b) h = absurd (omega arith)
-variable_alone (protect m e) h = absurd (omega arith)
-variable_alone (mu w i e) h = absurd (omega arith)
-variable_alone (literal k n) h = absurd (omega arith)
 variable_alone (reckon plus w a b) h = absurd (omega arith)
-variable_alone (reckon (less i) w a b) h = absurd (omega arith)
+variable_alone _ h = absurd (omega arith)

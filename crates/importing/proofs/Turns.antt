@@ -1,6 +1,7 @@
--- A turn of the loop over a record's operands: the operand's name is put after the names over the record, and the walk goes on with the operand.
-use Rattle.std.proofs.Common.{◌≡◌, refl, sym, ap, ap₂, ◌∙◌, List, [], ◌∷◌, ◌++◌, ℕ, suc, ◌+◌, ◌*◌, ◌≤◌, ◌<◌, arith, length, set, length-append}
-use Rattle.std.proofs.Common.{subst as transport}
+-- A turn of the loop over a record's operands: the operand's name is put after the names over the record, and the walk
+-- goes on with the operand.
+use Rattle.std.proofs.Common.{◌≡◌, refl, sym, ap, ap₂, ◌∙◌, List, [], ◌∷◌, ◌++◌, ℕ, suc, ◌+◌, ◌*◌, ◌≤◌, ◌<◌, arith}
+use Rattle.std.proofs.Common.{length, set, length-append, subst as transport}
 use Rattle.std.proofs.lemmas.List.{length-set}
 use Rattle.calculus.specs.Terms.{Term}
 use Rattle.rules.specs.Answer.{Bytes, Answer, accepted, refused}
@@ -21,11 +22,12 @@ use Rattle.records.proofs.Passing.{Passed, Ahead, split_at, operand_here}
 use Rattle.records.proofs.Stands.{kind_of}
 use Rattle.records.proofs.Weights.{weights}
 use Rattle.substitution.proofs.Nodes.{term_depth_is, operand_size, operand_depth}
-use Rattle.importing.specs.Fields.{name_over, inner, bound}
-use Rattle.importing.specs.Scope.{scope, Ready, Resolved}
+use Rattle.importing.specs.Fields.{name_over, is_bound}
+use Rattle.importing.specs.Scope.{scope, Importable, Resolved}
 use Rattle.importing.proofs.Names.{scope_set, scope_inner, at_most_one}
 use Rattle.importing.proofs.Operands.{meant_from}
 use Rattle.importing.proofs.Walks.{scanned, Reached, stop, pass}
+use Rattle.importing.proofs.NamesOver.{inner}
 
 -- what a term means has as many records
 pub meant_size : (o : Bytes) (i : ℕ) (ns : List ℕ) (e : Term) → size (meant ns (with_names o i e)) ≡ size e
@@ -62,7 +64,7 @@ module _ {names : List ℕ} {n : ℕ} {names₁ : List ℕ} (x : Kept names n na
   }
 
 -- What the walk over the next operand is given.
-module _ {s o : Bytes} {i n : ℕ} {names : List ℕ} {w : Writer} (q : Ready s o i n names w) {j next : ℕ} {w' : Writer}
+module _ {s o : Bytes} {i n : ℕ} {names : List ℕ} {w : Writer} (q : Importable s o i n names w) {j next : ℕ} {w' : Writer}
     (p : Reached o i (scope names n) q.tree w j next w') (a : Ahead p.passed) where
   pub room_left : w'.end + script_width * size a.operand ≤ length w'.out.now
   room_left =
@@ -86,7 +88,7 @@ module _ {s o : Bytes} {i n : ℕ} {names : List ℕ} {w : Writer} (q : Ready s 
   pub level_here : n < length names
   level_here = omega (arith, q.shallow, q.levels, deeper, depth_positive a.operand)
 
-  abbrev pub operand_ready : (names₁ : List ℕ) (b v : ℕ) → b ≤ 1 → length names₁ ≡ length names → Ready s o next (n + b) (set names₁ n v) w'
+  abbrev pub operand_ready : (names₁ : List ℕ) (b v : ℕ) → b ≤ 1 → length names₁ ≡ length names → Importable s o next (n + b) (set names₁ n v) w'
   operand_ready names₁ b v l h = record {
     tree = a.operand;
     at = operand_here p.passed a q.at;

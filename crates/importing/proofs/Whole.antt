@@ -1,13 +1,13 @@
 -- A whole old script: what the walk over it is given, and what it gives.
-use Rattle.std.proofs.Common.{◌≡◌, refl, sym, ap, ap₂, ◌∙◌, List, [], ◌++◌, append-nil, ℕ, ◌+◌, ◌*◌, ◌≤◌, ◌<◌, arith, length, drop}
+use Rattle.std.proofs.Common.{◌≡◌, refl, sym, ap, ap₂, ◌∙◌, List, [], ◌++◌, append-nil, ℕ, ◌+◌, ◌*◌, ◌≤◌, ◌<◌, arith}
+use Rattle.std.proofs.Common.{length, drop, subst as transport, get_or}
 use Rattle.std.specs.Borrow.{MutBor}
-use Rattle.std.proofs.Common.{subst as transport, get_or}
 use Rattle.calculus.specs.Terms.{Term}
 use Rattle.rules.specs.Answer.{Bytes, Answer, accepted, each}
 use Rattle.rules.specs.Limits.{script_width, depth_limit}
 use Rattle.rules.specs.Script.{encode, term, size, depth, kind, records}
 use Rattle.rules.specs.Names.{meant, scopes}
-use Rattle.rules.specs.Office.{office_records, office_kind, nameless, with_names, named_term, ok30, q30, imported}
+use Rattle.rules.specs.Office.{office_records, office_kind, nameless, with_names, named_term, ok30, q30, import_of}
 use Rattle.rules.proofs.Scripts.{records_encode}
 use Rattle.rules.proofs.Office.{nameless_records, nameless_kind, scopes_length}
 use Rattle.rules.proofs.PrefixLaws.{encode_length}
@@ -16,10 +16,10 @@ use Rattle.memory.specs.Splice.{splice}
 use Rattle.memory.specs.Written.{Written}
 use Rattle.memory.specs.declared.Writer.{Writer}
 use Rattle.records.proofs.Stands.{at_start}
-use Rattle.scope.specs.Walk.{scan}
+use Rattle.scope.specs.Walk.{scan_records}
 use Rattle.scope.proofs.Scans.{finish, scan_each}
-use Rattle.importing.specs.Fields.{bound}
-use Rattle.importing.specs.Scope.{scope, Ready, Resolved}
+use Rattle.importing.specs.Fields.{is_bound}
+use Rattle.importing.specs.Scope.{scope, Importable, Resolved}
 
 -- no names are over a script
 no_names : (names : List ℕ) → scope names 0 ≡ []
@@ -34,7 +34,7 @@ module _ (s o : Bytes) (is : s ≡ nameless o) (encoded : encode (term s) ≡ s)
   kinds_same j l = sym (nameless_kind o j l) ∙ ap (λ (b : Bytes). kind b j) (sym is)
 
   pub ready : (names : List ℕ) (out : Writer) (new : Bytes) {lent : MutBor Bytes} → depth (term s) ≤ depth_limit → length names ≡ depth_limit → length s ≤ length new
-      → (out.end ≡ 0) × (out.out ≡ lent) → lent.now ≡ new → Ready s o 0 0 names out
+      → (out.end ≡ 0) × (out.out ≡ lent) → lent.now ≡ new → Importable s o 0 0 names out
   ready names out new {lent} d l m e n = record {
     tree = term s;
     at = at_start s encoded;
@@ -52,12 +52,12 @@ module _ (s o : Bytes) (is : s ≡ nameless o) (encoded : encode (term s) ≡ s)
     pub asked_is : finish a ≡ q30 o
     unfolding ok30 named_term
     asked_is =
-        scan_each 30 (bound o) [] a lists (office_records o) r.asked (omega (arith, count, scopes_length o 0 (scope names 0) (term s)))
-        ∙ ap₂ (λ (ns : List ℕ) (b : Bytes). each 30 (office_records o) (λ k. bound o k (get_or (scopes ns (with_names o 0 (term b))) k []))) (no_names names) is
+        scan_each 30 (is_bound o) [] a lists (office_records o) r.asked (omega (arith, count, scopes_length o 0 (scope names 0) (term s)))
+        ∙ ap₂ (λ (ns : List ℕ) (b : Bytes). each 30 (office_records o) (λ k. is_bound o k (get_or (scopes ns (with_names o 0 (term b))) k []))) (no_names names) is
 
     -- and what is written
-    pub written_is : (next : ℕ) → a ≡ accepted next → Written (imported o) out out'
-    unfolding imported named_term
+    pub written_is : (next : ℕ) → a ≡ accepted next → Written (import_of o) out out'
+    unfolding import_of named_term
     written_is next e =
         transport (λ (b : Bytes). Written b out out')
         (ap₂ (λ (ns : List ℕ) (b : Bytes). encode (meant ns (with_names o 0 (term b)))) (no_names names) is)

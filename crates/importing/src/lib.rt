@@ -9,15 +9,15 @@ ghost use Rattle.rules.specs.Limits.{script_width, depth_limit, office_limit};
 ghost use Rattle.rules.specs.Script.{kind, encode, term, depth};
 ghost use Rattle.rules.specs.Names.{nearest};
 ghost use Rattle.rules.specs.Office.{office_records, office_kind, office_number, first_name, second_name};
-ghost use Rattle.rules.specs.Office.{ok29, q28, q29, q30, nameless, imported, importing};
-ghost use Rattle.rules.specs.Rewriting.{rewritten_records, rewritten_after};
-ghost use Rattle.answer.specs.Said.{said};
+ghost use Rattle.rules.specs.Office.{ok29, q28, q29, q30, nameless, import_of, import_call};
+ghost use Rattle.answer.specs.Said.{answer_of};
 ghost use Rattle.memory.specs.Splice.{splice};
 ghost use Rattle.records.specs.Kinds as kinds;
 ghost use Rattle.records.specs.Place.{At};
+ghost use Rattle.rewriting.specs.HandsOver.{HandsOver};
 ghost use Rattle.importing.specs.Check.{office_check};
 ghost use Rattle.importing.specs.Fields.{name_over};
-ghost use Rattle.importing.specs.Scope.{scope, Ready, Resolved};
+ghost use Rattle.importing.specs.Scope.{scope, Importable, Resolved};
 
 use answer::{Checked, Question, Refusal};
 use lattice::{Creator, Indirect, IndirectCreator, Property, Reader};
@@ -68,7 +68,7 @@ fn second_name(script: &[u8], i: usize) -> u16
 
 // 28. 1 to 6,000 whole records?
 fn question_28(script: &[u8]) -> Checked
-    ensures { said result ≡ q28 script.now }
+    ensures { answer_of result ≡ q28 script.now }
 {
     answer::ask(
         Question::OfficeLength,
@@ -94,7 +94,7 @@ fn unused_right(script: &[u8], i: usize) -> bool
 
 // 29. Is every unused name 0, and every variable's number?
 fn question_29(script: &[u8]) -> Checked
-    ensures { said result ≡ q29 script.now }
+    ensures { answer_of result ≡ q29 script.now }
 {
     answer::each(
         Question::UnusedNames,
@@ -103,7 +103,8 @@ fn question_29(script: &[u8]) -> Checked
     )
 }
 
-// The name that operand j of record i is under, if a binder stands over it: a case's second branch, operand 2, has the second.
+// The name that operand j of record i is under, if a binder stands over it: a case's second branch, operand 2, has
+// the second.
 fn name_over(script: &[u8], i: usize, j: usize) -> u16
     requires { i < office_records script.now }
     ensures { result ≡ name_over script.now i j }
@@ -118,7 +119,8 @@ fn name_over(script: &[u8], i: usize, j: usize) -> u16
 // How many of the first n names are nearer than the nearest that is `name`, from the last on; all n, if none is.
 fn nearest(names: &[u16], n: usize, name: u16) -> usize
     requires { n ≤ length names.now }
-    ensures { (result ≡ nearest name (scope names.now n)) × (result ≤ n) }
+    ensures value { result ≡ nearest name (scope names.now n) }
+    ensures within { result ≤ n }
 {
     for k in 0..n {
         if names[n - 1 - k] == name {
@@ -136,9 +138,10 @@ fn resolve_variable(
     n: usize,
     out: &mut Writer,
 ) -> Result<usize, Refusal>
-    requires { (script : List ℕ) × Ready script old.now i n names.now out.old × (kind script i ≡ kinds.variable) × (office_kind old.now i ≡ kinds.variable) }
+    requires ready { (script : List ℕ) × Importable script old.now i n names.now out.old × (kind script i ≡ kinds.variable) }
+    requires variable { office_kind old.now i ≡ kinds.variable }
     ensures { (script : List ℕ) (e : Term) → At script i e → kind script i ≡ kinds.variable
-        → Resolved old.now i n e names.now out.old (said result) names.now out.new }
+        → Resolved old.now i n e names.now out.old (answer_of result) names.now out.new }
 {
     let number = nearest(names, n, first_name(old, i));
     answer::ask(Question::BoundNames, i, number < n)?;
@@ -146,8 +149,8 @@ fn resolve_variable(
     Ok(i + 1)
 }
 
-// The term at record i of a script without names, which are at the same records of the old one, with each variable's number: question 30 of
-// each record, in script order, under the first n names. Calls are no deeper than the term.
+// The term at record i of a script without names, which are at the same records of the old one, with each variable's
+// number: question 30 of each record, in script order, under the first n names. Calls are no deeper than the term.
 fn resolve(
     script: &[u8],
     old: &[u8],
@@ -156,8 +159,10 @@ fn resolve(
     n: usize,
     out: &mut Writer,
 ) -> Result<usize, Refusal>
-    requires { Ready script.now old.now i n names.old out.old × ((j : ℕ) → j < office_records old.now → office_kind old.now j ≡ kind script.now j) }
-    ensures { (e : Term) → At script.now i e → Resolved old.now i n e names.old out.old (said result) names.new out.new }
+    requires ready { Importable script.now old.now i n names.old out.old }
+    requires same_kinds { (j : ℕ) → j < office_records old.now → office_kind old.now j ≡ kind script.now j }
+    ensures { (e : Term) → At script.now i e
+        → Resolved old.now i n e names.old out.old (answer_of result) names.new out.new }
 {
     let kind = records::kind_of(script, i);
     if kind == Kind::Variable {
@@ -173,13 +178,16 @@ fn resolve(
     Ok(next)
 }
 
-// Question 30 of an old script, and what it means to the front of `new`: `script` has its records without names, and `names` room for one a
-// level.
+// Question 30 of an old script, and what it means to the front of `new`: `script` has its records without names, and
+// `names` room for one a level.
 fn question_30(script: &[u8], old: &[u8], names: &mut [u16], new: &mut [u8]) -> Checked
-    requires { (script.now ≡ nameless old.now) × (encode (term script.now) ≡ script.now) × (depth (term script.now) ≤ depth_limit)
-        × (length names.old ≡ depth_limit) × (length script.now ≤ length new.old) }
-    ensures asked { said result ≡ q30 old.now }
-    ensures written { said result ≡ accepted tt → new.new ≡ splice 0 (imported old.now) new.old }
+    requires nameless { script.now ≡ nameless old.now }
+    requires whole { encode (term script.now) ≡ script.now }
+    requires shallow { depth (term script.now) ≤ depth_limit }
+    requires levels { length names.old ≡ depth_limit }
+    requires room { length script.now ≤ length new.old }
+    ensures asked { answer_of result ≡ q30 old.now }
+    ensures written { answer_of result ≡ accepted tt → new.new ≡ splice 0 (import_of old.now) new.old }
 {
     let mut out = Writer::new(new);
     resolve(script, old, 0, names, 0, &mut out)?;
@@ -190,8 +198,8 @@ fn question_30(script: &[u8], old: &[u8], names: &mut [u16], new: &mut [u8]) -> 
 #[tactic(auto, using(answer::proofs::Passed::then_asked, answer::proofs::Passed::stopped), unfolding(crate::specs::Check::office_check))]
 fn office_check(groups: &[u8], types: &[u8], old: &[u8], wide: &mut [u8]) -> Checked
     requires { script_width * office_limit ≤ length wide.old }
-    ensures asked { said result ≡ office_check groups.now types.now old.now }
-    ensures written { said result ≡ accepted tt → wide.new ≡ splice 0 (nameless old.now) wide.old }
+    ensures asked { answer_of result ≡ office_check groups.now types.now old.now }
+    ensures written { answer_of result ≡ accepted tt → wide.new ≡ splice 0 (nameless old.now) wide.old }
 {
     let a12 = types_table::types_check(groups, types);
     let Ok(()) = a12 else {
@@ -210,13 +218,12 @@ fn office_check(groups: &[u8], types: &[u8], old: &[u8], wide: &mut [u8]) -> Che
     question_29(old)
 }
 
-// A script of the old office program in the present form, to the front of `script`: questions 2 to 12, 28, 14 to 18, 29, 30 and 27. They
-// are asked of copies, so that a refusal writes nothing. The answer is the record count.
+/// Writes a script of the old office program in the present form, with group 0 as c and ic, to the front of `script`;
+/// the answer is the record count. Refused by the tables' check (questions 2 to 12), by 28, 14 to 18, 29 and 30 of
+/// the script, or by 27, `Room`. They are asked of copies, so that a refusal writes nothing.
 pub fn import(groups: &[u8], types: &[u8], old: &[u8], script: &mut [u8]) -> Result<usize, Refusal>
-    ensures { (said result
-        ≡ rewritten_records script_width (importing groups.now types.now old.now (length script.old)))
-        × (script.new
-        ≡ rewritten_after (importing groups.now types.now old.now (length script.old)) script.old) }
+    ensures { HandsOver script_width (import_call groups.now types.now old.now (length script.old))
+        script.old (answer_of result) script.new }
 {
     let mut wide = [0u8; IMPORTED_LENGTH];
     office_check(groups, types, old, &mut wide)?;

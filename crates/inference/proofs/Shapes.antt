@@ -2,7 +2,7 @@
 use Rattle.std.proofs.Common.{◌≡◌, refl, sym, ap, ◌∙◌, cond, List, [], append-nil, ◌⊎◌, inl, inr, ℕ, ◌≤◌, length, arith}
 use Rattle.calculus.specs.Security.{Property, Indirect, Security}
 use Rattle.calculus.specs.Types.{Ty}
-use Rattle.calculus.specs.Terms.{Side, first, second, Operation, plus, less, Term, var, unit, lam, pair, inj, app, proj, case, protect, mu, literal, reckon}
+use Rattle.calculus.specs.Terms.{Side, Operation, plus, less, Term, unit, pair, inj, app, proj, case, reckon, first}
 use Rattle.rules.specs.Limits.{script_width, type_width}
 use Rattle.rules.specs.Answer.{Bytes, accepted}
 use Rattle.rules.specs.Script.{kind, r, ir, number, c, ic, arity, encode, depth, make}
@@ -13,13 +13,16 @@ use Rattle.records.specs.Kinds as kinds
 use Rattle.records.specs.Kinds.{is_injection}
 use Rattle.records.specs.Numbers.{kind_number}
 use Rattle.records.specs.declared.Kind.{Kind}
-use Rattle.records.specs.declared.Kind.TheVariants.{Variable, Unit, Function, Pair, FirstInjection, SecondInjection, Application, FirstProjection, SecondProjection, Case, Protect, Recursion, Literal, Sum, Less}
+use Rattle.records.specs.declared.Kind.TheVariants.{Variable, Function, Pair, FirstInjection, SecondInjection}
+use Rattle.records.specs.declared.Kind.TheVariants.{Application, FirstProjection, SecondProjection, Protect, Recursion}
+use Rattle.records.specs.declared.Kind.TheVariants.{Literal, Sum, Less}
 use Rattle.records.specs.Place.{At, Here}
 use Rattle.records.specs.Labels.{property_at}
-use Rattle.records.specs.Operands.{first_operand, second_operand, third_operand}
+use Rattle.records.specs.Operands.{first_operand, second_operand}
 use Rattle.records.proofs.Weights.{weights}
 use Rattle.records.proofs.Stands.{stands_kind, here}
 use Rattle.records.proofs.Made.{form, by_kind, number_of, number_at, property_stands}
+use Rattle.records.proofs.ThirdOperand.{third_operand}
 use Rattle.inference.specs.Sides.{named_side}
 use Rattle.inference.specs.Stages.{before_first, first_context, kept_front}
 
@@ -58,12 +61,10 @@ left_by s m = record { r = r s 0; ir = m.ir; c = c s 0; ic = m.ic }
 
 -- an injection and a projection, by the side that its kind names
 pub injected : {k : Kind} {d : Side} (p : Property) (n : ℕ) (e : Term) → (k ≡ FirstInjection) ⊎ (k ≡ SecondInjection) → d ≡ named_side k → labelled (kind_number k) p n e ≡ inj d p n (first_operand e)
-injected p n e (inl q) y = rw (y, q)
-injected p n e (inr q) y = rw (y, q)
+injected p n e m y = grind arith
 
 pub projected : {k : Kind} {d : Side} (p : Property) (n : ℕ) (e : Term) → (k ≡ FirstProjection) ⊎ (k ≡ SecondProjection) → d ≡ named_side k → labelled (kind_number k) p n e ≡ proj d p.r (first_operand e)
-projected p n e (inl q) y = rw (y, q)
-projected p n e (inr q) y = rw (y, q)
+projected p n e m y = grind arith
 
 -- what is reckoned, by either operation
 pub reckons : {k : Kind} (p : Property) (n : ℕ) (e : Term) → (k ≡ Sum) ⊎ (k ≡ Less)
@@ -73,64 +74,31 @@ reckons p n e (inr q) = (less n, rw q)
 
 pub counted : (e : Term) → arity (kind (encode e) 0) ≡ operand_count e
 unfolding arity encode operand_count
-counted (var n) = refl
-counted (unit k) = refl
-counted (lam k i e) = refl
-counted (pair k a b) = refl
-counted (inj first k i e) = refl
-counted (inj second k i e) = refl
-counted (app w f a) = refl
-counted (proj first w e) = refl
-counted (proj second w e) = refl
-counted (case w i e a b) = refl
-counted (protect m e) = refl
-counted (mu w i e) = refl
-counted (literal k n) = refl
-counted (reckon plus w a b) = refl
-counted (reckon (less i) w a b) = refl
+counted e = grind arith
 
 pub counted_of : {s : Bytes} (e : Term) → s ≡ encode e → arity (kind s 0) ≡ operand_count e
-counted_of {s} e p = ap (λ b. arity (kind b 0)) p ∙ counted e
+counted_of {s} e p = rw p (counted e)
 
 pub arity_of : {s : Bytes} (e : Term) {k : ℕ} → s ≡ encode e → k ≡ kind s 0 → arity k ≡ operand_count e
-arity_of e p f = ap arity f ∙ counted_of e p
+arity_of e p f = rw (f, p) (counted e)
 
 -- which kind is left when the others of as many operands are ruled out
 pub unit_left : (k : Kind) → arity (kind_number k) ≡ 0 → (k ≡ Variable → ⊥) → (k ≡ Literal → ⊥) → kind_number k ≡ kinds.unit
 unfolding arity
-unit_left Variable o a b = absurd (a refl)
-unit_left Literal o a b = absurd (b refl)
-unit_left Unit o a b = refl
-unit_left k o a b = absurd (omega arith)
+unit_left k o a b = grind (arith)
 
 pub recursion_left : (k : Kind) → arity (kind_number k) ≡ 1 → (k ≡ Function → ⊥) → (k ≡ FirstInjection → ⊥) → (k ≡ SecondInjection → ⊥) → (k ≡ FirstProjection → ⊥) → (k ≡ SecondProjection → ⊥) → (k ≡ Protect → ⊥)
     → kind_number k ≡ kinds.recursion
 unfolding arity
-recursion_left Function o a b c d f g = absurd (a refl)
-recursion_left FirstInjection o a b c d f g = absurd (b refl)
-recursion_left SecondInjection o a b c d f g = absurd (c refl)
-recursion_left FirstProjection o a b c d f g = absurd (d refl)
-recursion_left SecondProjection o a b c d f g = absurd (f refl)
-recursion_left Protect o a b c d f g = absurd (g refl)
-recursion_left Recursion o a b c d f g = refl
-recursion_left k o a b c d f g = absurd (omega arith)
+recursion_left k o a b n d f g = grind arith
 
 pub less_left : (k : Kind) → arity (kind_number k) ≡ 2 → (k ≡ Pair → ⊥) → (k ≡ Application → ⊥) → (k ≡ Sum → ⊥) → kind_number k ≡ kinds.less
 unfolding arity
-less_left Pair o a b c = absurd (a refl)
-less_left Application o a b c = absurd (b refl)
-less_left Sum o a b c = absurd (c refl)
-less_left Less o a b c = refl
-less_left k o a b c = absurd (omega arith)
+less_left k o a b n = grind arith
 
 pub case_left : (k : Kind) → 2 ≤ arity (kind_number k) → (k ≡ Pair → ⊥) → (k ≡ Application → ⊥) → (k ≡ Sum → ⊥) → (k ≡ Less → ⊥) → kind_number k ≡ kinds.case
 unfolding arity
-case_left Pair o a b c d = absurd (a refl)
-case_left Application o a b c d = absurd (b refl)
-case_left Sum o a b c d = absurd (c refl)
-case_left Less o a b c d = absurd (d refl)
-case_left Case o a b c d = refl
-case_left k o a b c d = absurd (omega arith)
+case_left k o a b n d = grind arith
 
 -- what a node of two or more operands is
 pub data Several : Term → Type 0 where
@@ -161,13 +129,7 @@ plain S tab Γ place k p n e a b = record { asked = refl; context = refl }
 -- what is kept of the front, by the kind of the node's record
 pub front_is : (e : Term) → kept_front e ≡ cond (is_injection (kind (encode e) 0)) type_width 0
 unfolding encode kept_front
-front_is (inj first k i e) = refl
-front_is (inj second k i e) = refl
-front_is (proj first w e) = refl
-front_is (proj second w e) = refl
-front_is (reckon plus w a b) = refl
-front_is (reckon (less i) w a b) = refl
-front_is e = refl
+front_is e = grind arith
 
 pub depth_positive : (e : Term) → 1 ≤ depth e
 unfolding depth

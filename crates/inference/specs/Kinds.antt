@@ -6,6 +6,7 @@ use Rattle.rules.specs.Typing.{has_form, is_number}
 use Rattle.types.specs.declared.Kind.{Kind}
 use Rattle.types.specs.declared.Kind.TheVariants.{Unit, Sum, Pair, Function, Number}
 
+-- is the type of this kind? Of a unit and a number too.
 abbrev pub has_kind : Kind → Ty → Bool
 has_kind Unit t = is_unit t
 has_kind Sum t = has_form sum t

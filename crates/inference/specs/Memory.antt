@@ -7,10 +7,10 @@ use Rattle.rules.specs.Limits.{type_width, script_limit, answer_length}
 use Rattle.rules.specs.Types.{type_count, no_type, sides, type_at}
 use Rattle.rules.specs.Script.{encode, size, depth}
 use Rattle.rules.specs.Typing.{left, right}
-use Rattle.types.specs.Held.{Held, kind_of}
-use Rattle.inference.specs.Operands.{Formed}
-use Rattle.answer.specs.Numbers.{number}
-use Rattle.answer.specs.Said.{said}
+use Rattle.types.specs.Held.{Held, kind_of_type}
+use Rattle.inference.specs.Operands.{WellFormed}
+use Rattle.answer.specs.Numbers.{question_number}
+use Rattle.answer.specs.Said.{answer_of}
 use Rattle.answer.specs.declared.Refusal.{Refusal}
 
 -- the last b slots; each holds a type of the most records that there may be
@@ -22,19 +22,19 @@ pub record Slot (l : Bytes) (t : Ty) : Type 0 where
   pub held : Held l t
   pub small : size_t t ≤ type_limit
 
--- and n is its record count
+-- a type in front that fits a slot, with n records
 pub record Sized (l : Bytes) (n : ℕ) (t : Ty) : Type 0 where
   pub held : Held l t
   pub small : size_t t ≤ type_limit
   pub count : n ≡ size_t t
 
 -- the slots hold the context
-pub record Holds (Γ : List Ty) (hi : Bytes) : Type 0 where
+pub record HoldsContext (Γ : List Ty) (hi : Bytes) : Type 0 where
   pub len : length hi ≡ answer_length * length Γ
   pub slot : (n : ℕ) → n < length Γ → Slot (drop (answer_length * n) hi) (get_or Γ n no_type)
 
 -- every record of the types table starts a type that fits a slot
-pub record Table (types : Bytes) : Type 0 where
+pub record SlotTable (types : Bytes) : Type 0 where
   pub entry : (i : ℕ) → i < type_count types → Slot (drop (type_width * i) types) (type_at types i)
 
 -- a type found: its bytes in front, its record count, the slots as they were
@@ -44,42 +44,43 @@ pub record Wrote (t : Ty) (b : ℕ) (w : Bytes) (n : ℕ) (w' : Bytes) : Type 0 
 
 -- what a typing rule gives, against the answer and the buffer before and after
 pub data Meets : Answer Ty → ℕ → Bytes → Result ℕ Refusal → Bytes → Type 0 where
-  finds : {t : Ty} {b : ℕ} {w : Bytes} {n : ℕ} {w' : Bytes} → Wrote t b w n w' → Meets (accepted t) b w (Ok n) w'
-  refuses : {e : Refusal} {b : ℕ} {w w' : Bytes} → Meets (refused (number e.question) e.place) b w (Err e) w'
+  meets_type : {t : Ty} {b : ℕ} {w : Bytes} {n : ℕ} {w' : Bytes} → Wrote t b w n w' → Meets (accepted t) b w (Ok n) w'
+  meets_refusal : {e : Refusal} {b : ℕ} {w w' : Bytes} → Meets (refused (question_number e.question) e.place) b w (Err e) w'
 
 -- the same under any count of binders that the buffer has slots for
 abbrev pub Gives : Answer Ty → Bytes → Result ℕ Refusal → Bytes → Type 0
 Gives a w x w' = (b : ℕ) → answer_length * (b + 1) ≤ length w → Meets a b w x w'
 
--- What a call of the checker is given: the context in b slots, the script part of one formed node, and a slot's room for each
--- level below it.
-pub record Ready (types s : Bytes) (place b : ℕ) (w : Bytes) : Type 0 where
-  pub table : Table types
+-- What a call of the checker is given: the context in b slots, the script part of one formed node, and a slot's room
+-- for each level below it.
+pub record CheckerInput (types s : Bytes) (place b : ℕ) (w : Bytes) : Type 0 where
+  pub table : SlotTable types
   pub ctx : List Ty
   pub binders : length ctx ≡ b
-  pub holds : Holds ctx (high b w)
+  pub holds : HoldsContext ctx (high b w)
   pub tree : Term
   pub is : s ≡ encode tree
-  pub formed : Formed types b tree
+  pub formed : WellFormed types b tree
   pub room : answer_length * (b + depth tree) ≤ length w
   pub placed : place + size tree ≤ script_limit
 
 -- the slots with a context over that of b binders
 pub record Entered (Γ : List Ty) (b : ℕ) (w w' : Bytes) : Type 0 where
   pub least : b ≤ length Γ
-  pub holds : Holds Γ (high (length Γ) w')
+  pub holds : HoldsContext Γ (high (length Γ) w')
   pub kept : high b w' ≡ high b w
 
 -- questions with no type of their own; if they are answered yes, the slots hold the next operand's context
-pub record Enters (asked : Answer (Unit {0})) (Γ : List Ty) (b : ℕ) (w : Bytes) (x : Result (Unit {0}) Refusal) (w' : Bytes) : Type 0 where
-  pub says : said x ≡ asked
+pub record Enters (asked : Answer (Unit {0})) (Γ : List Ty) (b : ℕ) (w : Bytes)
+    (x : Result (Unit {0}) Refusal) (w' : Bytes) : Type 0 where
+  pub says : answer_of x ≡ asked
   pub entered : asked ≡ accepted tt → Entered Γ b w w'
 
 -- a variable's slot
 pub record InScope (i b : ℕ) (w : Bytes) : Type 0 where
   pub ctx : List Ty
   pub binders : length ctx ≡ b
-  pub holds : Holds ctx (high b w)
+  pub holds : HoldsContext ctx (high b w)
   pub below : i < b
   pub room : answer_length * (b + 1) ≤ length w
 
@@ -89,7 +90,7 @@ pub record TypedFront (l : Bytes) (n : ℕ) : Type 0 where
   pub sized : Sized l n type
 
 -- a type in front, and another behind the room that any type has there
-pub record Both (w : Bytes) : Type 0 where
+pub record TwoTypesHeld (w : Bytes) : Type 0 where
   pub first : Ty
   pub second : Ty
   pub slot : Slot w first
@@ -100,11 +101,11 @@ pub record SlotType (l : Bytes) : Type 0 where
   pub type : Ty
   pub slot : Slot l type
 
--- with two sides
+-- so with a type of two sides
 pub record SlotSided (l : Bytes) : Type 0 where
   pub type : Ty
   pub slot : Slot l type
-  pub two : sides (kind_of type) ≡ 2
+  pub two : sides (kind_of_type type) ≡ 2
 
 -- a case's slot b + 1 holds the two sides of the tested type, one after the other
 pub record Beside (t : Ty) (b : ℕ) (w : Bytes) : Type 0 where

@@ -5,6 +5,7 @@ use Rattle.records.specs.declared.Kind.TheVariants.{FirstInjection, FirstProject
 use Rattle.inference.specs.declared.Side.{Side}
 use Rattle.inference.specs.declared.Side.TheVariants.{First, Second}
 
+-- a side, as the calculus has it
 abbrev pub said_side : Side → calculus.Side
 said_side First = calculus.first
 said_side Second = calculus.second

@@ -1,9 +1,10 @@
 -- The rules of `typing`, taken apart at the operands: what is asked before, between and after them.
-use Rattle.std.specs.Prelude.{◌≡◌, true, false, cond, List, ◌∷◌, ℕ, ◌+◌, ◌*◌, ◌≤◌, ◌<◌, length, get_or, drop}
+use Rattle.std.specs.Prelude.{◌≡◌, true, false, if◌then◌else◌, List, ◌∷◌, ℕ, ◌+◌, ◌*◌, ◌≤◌, ◌<◌, length, get_or, drop}
 use Rattle.calculus.specs.Security.{Property, Indirect, Security}
 use Rattle.calculus.specs.Types.{one, number as number_leaf, sum, product, function, Ty, leaf, node, top, raise_t}
 use Rattle.calculus.specs.Typing.{finds_own}
-use Rattle.calculus.specs.Terms.{Side, first, second, Operation, Term, var, unit, lam, pair, inj, app, proj, case, protect, mu, literal, reckon}
+use Rattle.calculus.specs.Terms.{Side, first, second, Operation, Term, var, unit, lam, pair, inj, app, proj, case}
+use Rattle.calculus.specs.Terms.{protect, mu, literal, reckon}
 use Rattle.calculus.specs.Numbers.{of_both}
 use Rattle.rules.specs.Answer.{Bytes, Answer, accepted, ◌>>=◌, ◌>>◌, ask}
 use Rattle.rules.specs.Limits.{type_width, script_width, answer_length}
@@ -16,23 +17,15 @@ use Rattle.types.specs.declared.Kind.{Kind}
 use Rattle.types.specs.declared.Kind.TheVariants.{Sum, Pair, Function, Number}
 use Rattle.records.specs.Kinds as kinds
 use Rattle.inference.specs.Kinds.{has_kind}
-use Rattle.inference.specs.Operands.{operand_count, Formed}
-use Rattle.inference.specs.Memory.{high, Slot, Sized, Holds, Table, Beside}
+use Rattle.inference.specs.Operands.{operand_count, WellFormed}
+use Rattle.inference.specs.Memory.{high, Slot, Sized, HoldsContext, SlotTable, Beside}
 
 -- a term without operands
 unfoldable pub leaf_type : List Ty → Term → Answer Ty
 leaf_type Γ (var n) = accepted (get_or Γ n no_type)
 leaf_type Γ (unit k) = accepted (leaf one k)
-leaf_type Γ (lam k i e) = accepted no_type
-leaf_type Γ (pair k a b) = accepted no_type
-leaf_type Γ (inj d k i e) = accepted no_type
-leaf_type Γ (app w f a) = accepted no_type
-leaf_type Γ (proj d w e) = accepted no_type
-leaf_type Γ (case w i e a b) = accepted no_type
-leaf_type Γ (protect m e) = accepted no_type
-leaf_type Γ (mu w i e) = accepted no_type
 leaf_type Γ (literal k n) = accepted (leaf number_leaf k)
-leaf_type Γ (reckon o w a b) = accepted no_type
+leaf_type Γ _ = accepted no_type
 
 -- calling a recursion of type s as group w: questions 21 and 23
 abbrev pub may_recur : Security → ℕ → Ty → ℕ → Answer (Unit {0})
@@ -42,48 +35,19 @@ may_recur S p s w = do
 
 -- before the first operand: a recursion's questions
 unfoldable pub before_first : Security → (ℕ → Ty) → ℕ → Term → Answer (Unit {0})
-before_first S tab p (var n) = accepted tt
-before_first S tab p (unit k) = accepted tt
-before_first S tab p (lam k i e) = accepted tt
-before_first S tab p (pair k a b) = accepted tt
-before_first S tab p (inj d k i e) = accepted tt
-before_first S tab p (app w f a) = accepted tt
-before_first S tab p (proj d w e) = accepted tt
-before_first S tab p (case w i e a b) = accepted tt
-before_first S tab p (protect m e) = accepted tt
 before_first S tab p (mu w i e) = may_recur S p (tab i) w
-before_first S tab p (literal k n) = accepted tt
-before_first S tab p (reckon o w a b) = accepted tt
+before_first S tab p _ = accepted tt
 
 -- the first operand's context
 unfoldable pub first_context : (ℕ → Ty) → List Ty → Term → List Ty
-first_context tab Γ (var n) = Γ
-first_context tab Γ (unit k) = Γ
 first_context tab Γ (lam k i e) = tab i ∷ Γ
-first_context tab Γ (pair k a b) = Γ
-first_context tab Γ (inj d k i e) = Γ
-first_context tab Γ (app w f a) = Γ
-first_context tab Γ (proj d w e) = Γ
-first_context tab Γ (case w i e a b) = Γ
-first_context tab Γ (protect m e) = Γ
 first_context tab Γ (mu w i e) = tab i ∷ Γ
-first_context tab Γ (literal k n) = Γ
-first_context tab Γ (reckon o w a b) = Γ
+first_context tab Γ _ = Γ
 
 -- bytes of the front that are not lent for the first operand: an injection's record
 unfoldable pub kept_front : Term → ℕ
-kept_front (var n) = 0
-kept_front (unit k) = 0
-kept_front (lam k i e) = 0
-kept_front (pair k a b) = 0
 kept_front (inj d k i e) = type_width
-kept_front (app w f a) = 0
-kept_front (proj d w e) = 0
-kept_front (case w i e a b) = 0
-kept_front (protect m e) = 0
-kept_front (mu w i e) = 0
-kept_front (literal k n) = 0
-kept_front (reckon o w a b) = 0
+kept_front _ = 0
 
 -- a function's type
 abbrev pub function_type : ℕ → Property → Ty → Ty → Answer Ty
@@ -98,14 +62,14 @@ pair_type p k s t = do
   accepted (node product k s t)
 
 -- question 22 of t, and what is found then
-abbrev pub wanting : Security → ℕ → Ty → Ty → Ty → Answer Ty
-wanting S p t wanted result = do
+abbrev pub after_22 : Security → ℕ → Ty → Ty → Ty → Answer Ty
+after_22 S p t wanted result = do
   q22 S p t wanted
   accepted result
 
 -- an injection's type, of a sum type u, where `wanted` is its side
 abbrev pub injection_type : Security → ℕ → Property → Ty → Ty → Ty → Answer Ty
-injection_type S p k u wanted t = wanting S p t wanted (node sum k (left u) (right u))
+injection_type S p k u wanted t = after_22 S p t wanted (node sum k (left u) (right u))
 
 -- the type of what reading s gives
 abbrev pub reads : Security → Ty → ℕ → Ty → Ty
@@ -118,91 +82,59 @@ may_read S p k s w = do
   q21 S p s w
 
 -- the side that an injection or a projection names
-abbrev pub side_of : Side → Ty → Ty
-side_of first t = left t
-side_of second t = right t
+abbrev pub type_side : Side → Ty → Ty
+type_side first t = left t
+type_side second t = right t
 
 -- a projection's type
 abbrev pub projection_type : Security → ℕ → ℕ → Side → Ty → Answer Ty
 projection_type S p w d t = do
   may_read S p Pair t w
-  accepted (reads S t w (side_of d t))
+  accepted (reads S t w (type_side d t))
 
 -- one operand of type t
 unfoldable pub after_one : Security → (ℕ → Ty) → ℕ → Term → Ty → Answer Ty
-after_one S tab p (var n) t = accepted t
-after_one S tab p (unit k) t = accepted t
 after_one S tab p (lam k i e) t = function_type p k (tab i) t
-after_one S tab p (pair k a b) t = accepted t
-after_one S tab p (inj d k i e) t = injection_type S p k (tab i) (side_of d (tab i)) t
-after_one S tab p (app w f a) t = accepted t
+after_one S tab p (inj d k i e) t = injection_type S p k (tab i) (type_side d (tab i)) t
 after_one S tab p (proj d w e) t = projection_type S p w d t
-after_one S tab p (case w i e a b) t = accepted t
 after_one S tab p (protect m e) t = accepted (raise_t S t m)
-after_one S tab p (mu w i e) t = wanting S p t (tab i) (tab i)
-after_one S tab p (literal k n) t = accepted t
-after_one S tab p (reckon o w a b) t = accepted t
+after_one S tab p (mu w i e) t = after_22 S p t (tab i) (tab i)
+after_one S tab p _ t = accepted t
 
 -- between the first operand, of type s, and the second: questions 20 and 21
 unfoldable pub between : Security → ℕ → Term → Ty → Answer (Unit {0})
-between S p (var n) s = accepted tt
-between S p (unit k) s = accepted tt
-between S p (lam k i e) s = accepted tt
-between S p (pair k a b) s = accepted tt
-between S p (inj d k i e) s = accepted tt
 between S p (app w f a) s = may_read S p Function s w
-between S p (proj d w e) s = accepted tt
 between S p (case w i e a b) s = may_read S p Sum s w
-between S p (protect m e) s = accepted tt
-between S p (mu w i e) s = accepted tt
-between S p (literal k n) s = accepted tt
 between S p (reckon o w a b) s = may_read S p Number s w
+between S p _ s = accepted tt
 
 -- the second operand's context
 unfoldable pub second_context : List Ty → Term → Ty → List Ty
-second_context Γ (var n) s = Γ
-second_context Γ (unit k) s = Γ
-second_context Γ (lam k i e) s = Γ
-second_context Γ (pair k a b) s = Γ
-second_context Γ (inj d k i e) s = Γ
-second_context Γ (app w f a) s = Γ
-second_context Γ (proj d w e) s = Γ
 second_context Γ (case w i e a b) s = left s ∷ Γ
-second_context Γ (protect m e) s = Γ
-second_context Γ (mu w i e) s = Γ
-second_context Γ (literal k n) s = Γ
-second_context Γ (reckon o w a b) s = Γ
+second_context Γ _ s = Γ
 
 -- the property of what is reckoned of operands of types s and t: questions 20 and 21 of the right one
-abbrev pub reckoned : Security → ℕ → ℕ → Ty → Ty → Answer Property
-reckoned S p w s t = do
+abbrev pub operands_property : Security → ℕ → ℕ → Ty → Ty → Answer Property
+operands_property S p w s t = do
   may_read S p Number t w
   accepted (of_both S w (top s) (top t))
 
 -- its type
-abbrev pub reckoned_type : Security → (ℕ → Ty) → ℕ → Operation → ℕ → Ty → Ty → Answer Ty
-reckoned_type S tab p o w s t = do
-  k ← reckoned S p w s t
+abbrev pub operation_type : Security → (ℕ → Ty) → ℕ → Operation → ℕ → Ty → Ty → Answer Ty
+operation_type S tab p o w s t = do
+  k ← operands_property S p w s t
   accepted (number_result tab o k)
 
 -- two operands of types s and t
 unfoldable pub after_two : Security → (ℕ → Ty) → ℕ → Term → Ty → Ty → Answer Ty
-after_two S tab p (var n) s t = accepted t
-after_two S tab p (unit k) s t = accepted t
-after_two S tab p (lam k i e) s t = accepted t
 after_two S tab p (pair k a b) s t = pair_type p k s t
-after_two S tab p (inj d k i e) s t = accepted t
-after_two S tab p (app w f a) s t = wanting S p t (left s) (reads S s w (right s))
-after_two S tab p (proj d w e) s t = accepted t
-after_two S tab p (case w i e a b) s t = accepted t
-after_two S tab p (protect m e) s t = accepted t
-after_two S tab p (mu w i e) s t = accepted t
-after_two S tab p (literal k n) s t = accepted t
-after_two S tab p (reckon o w a b) s t = reckoned_type S tab p o w s t
+after_two S tab p (app w f a) s t = after_22 S p t (left s) (reads S s w (right s))
+after_two S tab p (reckon o w a b) s t = operation_type S tab p o w s t
+after_two S tab p _ s t = accepted t
 
 -- bytes of the front that are not lent for a case's second branch: the first one's type, where the case finds its own
 abbrev pub kept_branch : Bytes → ℕ
-kept_branch s = cond (own_at s 0) answer_length 0
+kept_branch s = if own_at s 0 then answer_length else 0
 
 -- the type of a case of number i, before it is raised, when its branches have the types t and u
 abbrev pub result_type : Security → (ℕ → Ty) → ℕ → ℕ → Ty → Ty → Answer Ty
@@ -218,31 +150,31 @@ case_type S tab p i t u by = do
   accepted (raise_t S r by)
 
 -- a node without operands
-pub record Leaf (s : Bytes) (b : ℕ) (w : Bytes) : Type 0 where
+pub record LeafNode (s : Bytes) (b : ℕ) (w : Bytes) : Type 0 where
   pub ctx : List Ty
   pub binders : length ctx ≡ b
-  pub holds : Holds ctx (high b w)
+  pub holds : HoldsContext ctx (high b w)
   pub tree : Term
   pub is : s ≡ encode tree
   pub leaf : operand_count tree ≡ 0
   pub types : Bytes
-  pub formed : Formed types b tree
+  pub formed : WellFormed types b tree
   pub room : answer_length * (b + 1) ≤ length w
 
 -- what a node of one operand is given when that has its type
-pub record One (types s w : Bytes) (n : ℕ) : Type 0 where
-  pub table : Table types
+pub record OneOperand (types s w : Bytes) (n : ℕ) : Type 0 where
+  pub table : SlotTable types
   pub tree : Term
   pub is : s ≡ encode tree
   pub one : operand_count tree ≡ 1
   pub binders : ℕ
-  pub formed : Formed types binders tree
+  pub formed : WellFormed types binders tree
   pub type : Ty
   pub sized : Sized (drop (kept_front tree) w) n type
   pub room : answer_length ≤ length w
 
 -- a node of two or three operands, when the first has its type
-pub record Some (s : Bytes) (b : ℕ) (w : Bytes) (n : ℕ) : Type 0 where
+pub record AfterFirst (s : Bytes) (b : ℕ) (w : Bytes) (n : ℕ) : Type 0 where
   pub tree : Term
   pub is : s ≡ encode tree
   pub some : 2 ≤ operand_count tree
@@ -250,7 +182,7 @@ pub record Some (s : Bytes) (b : ℕ) (w : Bytes) (n : ℕ) : Type 0 where
   pub sized : Sized w n type
   pub ctx : List Ty
   pub binders : length ctx ≡ b
-  pub holds : Holds ctx (high b w)
+  pub holds : HoldsContext ctx (high b w)
   pub room : answer_length * (b + 2) ≤ length w
 
 -- where the first operand's type is kept while the second is typed: in front, or its two sides in the slot
@@ -259,13 +191,13 @@ pub record Aside (e : Term) (s : Ty) (b : ℕ) (w : Bytes) (n : ℕ) : Type 0 wh
   pub slot : operand_count e ≡ 3 → Beside s b w
 
 -- a node of two operands, when both have their types
-pub record Two (g types s : Bytes) (place : ℕ) (w : Bytes) (n m : ℕ) : Type 0 where
-  pub table : Table types
+pub record TwoOperands (g types s : Bytes) (place : ℕ) (w : Bytes) (n m : ℕ) : Type 0 where
+  pub table : SlotTable types
   pub tree : Term
   pub is : s ≡ encode tree
   pub two : operand_count tree ≡ 2
   pub binders : ℕ
-  pub formed : Formed types binders tree
+  pub formed : WellFormed types binders tree
   pub first : Ty
   pub second : Ty
   pub sized : Sized w n first
@@ -274,27 +206,27 @@ pub record Two (g types s : Bytes) (place : ℕ) (w : Bytes) (n m : ℕ) : Type 
   pub room : answer_length * 2 ≤ length w
 
 -- a case, whose type is in the table where it names one
-pub record Case (types s : Bytes) : Type 0 where
-  pub table : Table types
+pub record CaseNode (types s : Bytes) : Type 0 where
+  pub table : SlotTable types
   pub long : script_width ≤ length s
   pub kind_is : kind s 0 ≡ kinds.case
   pub named : finds_own (number s 0) ≡ false → number s 0 < type_count types
 
 -- a case, when its first branch has its type, in front
-pub record Branch (types s : Bytes) (b : ℕ) (w : Bytes) : Type 0 where
-  pub node : Case types s
+pub record FirstBranchTyped (types s : Bytes) (b : ℕ) (w : Bytes) : Type 0 where
+  pub node : CaseNode types s
   pub tested : Ty
   pub sides : Beside tested b w
   pub type : Ty
   pub slot : Slot w type
   pub ctx : List Ty
   pub binders : length ctx ≡ b
-  pub holds : Holds ctx (high b w)
+  pub holds : HoldsContext ctx (high b w)
   pub room : answer_length * (b + 2) ≤ length w
 
 -- a case, when both branches have their types: the first one's is still in front where the case finds its own
-pub record Branches (types s w : Bytes) : Type 0 where
-  pub node : Case types s
+pub record BranchesTyped (types s w : Bytes) : Type 0 where
+  pub node : CaseNode types s
   pub first : Ty
   pub second : Ty
   pub front : own_at s 0 ≡ true → Slot w first

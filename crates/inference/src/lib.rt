@@ -1,16 +1,16 @@
-// The typing rules in the lent work buffer, named by where they stand in the traversal: what is asked and written before a node's
-// operands, after one, between two, after two and after each branch of a case. Where a type is found it is left in front of the buffer,
-// and the answer is its record count.
+// The typing rules in the lent work buffer, named by where they stand in the traversal: what is asked and written
+// before a node's operands, after one, between two, after two and after each branch of a case. Where a type is found it
+// is left in front of the buffer, and the answer is its record count.
 
 #![tactic(auto)]
 
 ghost use Rattle.std.specs.Prelude.{◌≡◌, List, ◌∷◌, ℕ, ◌+◌, ◌*◌, ◌≤◌, length, drop, get_or};
 ghost use Rattle.calculus.specs.Types.{sum, Ty, node, top, raise_t, size_t};
 ghost use Rattle.calculus.specs.Subtyping.{subtype, below};
-ghost use Rattle.calculus.specs.Common.{common};
+ghost use Rattle.calculus.specs.Common.{nearest_type};
 ghost use Rattle.calculus.specs.Terms.{plus, less, Term};
 ghost use Rattle.rules.specs.Answer.{accepted, ◌>>=◌ as bind, ask};
-ghost use Rattle.answer.specs.Said.{said};
+ghost use Rattle.answer.specs.Said.{answer_of};
 ghost use Rattle.rules.specs.Limits.{type_width, script_width, answer_length};
 ghost use Rattle.rules.specs.Groups.{properties_of};
 ghost use Rattle.rules.specs.Types.{type_record, no_type, type_at, encode_type};
@@ -18,16 +18,17 @@ ghost use Rattle.rules.specs.Script.{number, encode};
 ghost use Rattle.rules.specs.Typing.{left, right, q22_of_branch, found_or};
 ghost use Rattle.memory.specs.Splice.{splice};
 ghost use Rattle.lattice.specs.Said.{said_property, said_influence};
-ghost use Rattle.types.specs.Held.{Held, Starts, Sided};
-ghost use Rattle.types.specs.Kinds.{kind_number};
+ghost use Rattle.types.specs.Held.{Held, Starts, TwoSided};
+ghost use Rattle.types.specs.Kinds.{type_kind_number};
 ghost use Rattle.types.specs.declared.Kind.TheVariants.{Sum};
 ghost use Rattle.inference.specs.Sides.{said_side, named_side};
-ghost use Rattle.inference.specs.Memory.{high, Slot, Sized, Holds, Meets, Gives, Ready, Enters, SlotType, SlotSided, Beside};
-ghost use Rattle.inference.specs.Memory.{InScope, TypedFront, Both, Entered};
-ghost use Rattle.inference.specs.Stages.{leaf_type, may_recur, before_first, first_context, kept_front, function_type, pair_type};
-ghost use Rattle.inference.specs.Stages.{injection_type, may_read, after_one, between, second_context, after_two, Leaf, One, Aside};
-ghost use Rattle.inference.specs.Stages.{Some, Two, side_of, reads, wanting, projection_type, reckoned, reckoned_type};
-ghost use Rattle.inference.specs.Stages.{kept_branch, result_type, case_type, Case, Branch, Branches};
+ghost use Rattle.inference.specs.Memory.{high, Slot, Sized, HoldsContext, Meets, Gives, CheckerInput, Enters, SlotType, SlotSided};
+ghost use Rattle.inference.specs.Memory.{Beside, InScope, TypedFront, TwoTypesHeld, Entered};
+ghost use Rattle.inference.specs.Stages.{leaf_type, may_recur, before_first, first_context, kept_front, function_type};
+ghost use Rattle.inference.specs.Stages.{pair_type, injection_type, may_read, after_one, between, second_context};
+ghost use Rattle.inference.specs.Stages.{after_two, LeafNode, OneOperand, Aside, AfterFirst, TwoOperands, type_side, reads, after_22};
+ghost use Rattle.inference.specs.Stages.{projection_type, operands_property, operation_type, kept_branch, result_type, case_type};
+ghost use Rattle.inference.specs.Stages.{CaseNode, FirstBranchTyped, BranchesTyped};
 
 use answer::{Checked, Question, Refusal};
 use common_types::Direction;
@@ -54,76 +55,81 @@ impl Side {
     }
 }
 
-// A slot holds any type. Question 1 asks for one for each level of a script.
+/// The bytes of a slot, which holds any type. The work buffer has one for each level that a script may have (question
+/// 1).
 pub const SLOT: usize = TYPE_LIMIT * TYPE_WIDTH;
 
-// The second of two found types starts behind any first: at this record, and with the part of the work buffer from this byte on.
+// The second of two found types starts behind any first, at this record of the work buffer.
 const SECOND_RECORD: usize = TYPE_LIMIT;
 
+/// The byte of the work buffer from which the second of two found types lies: behind any first.
 pub const SECOND_PART: usize = SECOND_RECORD * TYPE_WIDTH;
 
-// The number field of the record that s starts with.
-fn index(s: &[u8]) -> usize
-    requires { script_width ≤ length s.now }
-    ensures { result ≡ number s.now 0 }
+// The number field of a node's own record, the first of its part.
+fn index(part: &[u8]) -> usize
+    requires { script_width ≤ length part.now }
+    ensures { result ≡ number part.now 0 }
 {
-    usize::from(records::number(s, 0))
+    usize::from(records::number(part, 0))
 }
 
 // A type record, to the front of the work buffer.
-fn put(w: &mut [u8], kind: types::Kind, property: Property)
-    requires { type_width ≤ length w.old }
-    ensures { w.new ≡ splice 0 (type_record (kind_number kind) (said_property property)) w.old }
+fn put(work: &mut [u8], kind: types::Kind, property: Property)
+    requires { type_width ≤ length work.old }
+    ensures { work.new ≡ splice 0 (type_record (type_kind_number kind) (said_property property)) work.old }
 {
-    w[0] = kind.number();
-    w[types::ZERO] = 0;
-    types::put_property(w, 0, property);
+    work[0] = kind.number();
+    work[types::ZERO] = 0;
+    types::put_property(work, 0, property);
 }
 
 // A type without sides, to the front of the work buffer: one record.
-fn one_record(kind: types::Kind, property: Property, w: &mut [u8]) -> Result<usize, Refusal>
-    requires { answer_length ≤ length w.old }
-    ensures { (t : Ty) → encode_type t ≡ type_record (kind_number kind) (said_property property)
-        → Gives (accepted t) w.old result w.new }
+fn one_record(kind: types::Kind, property: Property, work: &mut [u8]) -> Result<usize, Refusal>
+    requires { answer_length ≤ length work.old }
+    ensures { (t : Ty) → encode_type t ≡ type_record (type_kind_number kind) (said_property property)
+        → Gives (accepted t) work.old result work.new }
 {
-    put(w, kind, property);
+    put(work, kind, property);
     Ok(1)
 }
 
-// The part of the types table that starts with the type that the record in front of s names.
-fn named<'a>(types: &'a [u8], s: &[u8]) -> &'a [u8]
-    requires { (script_width ≤ length s.now) × (type_width * number s.now 0 ≤ length types.now) }
-    ensures { result.now ≡ drop (type_width * number s.now 0) types.now }
+// The part of the types table that starts with the type that a node's own record names.
+fn named<'a>(types: &'a [u8], part: &[u8]) -> &'a [u8]
+    requires node { script_width ≤ length part.now }
+    requires in_table { type_width * number part.now 0 ≤ length types.now }
+    ensures { result.now ≡ drop (type_width * number part.now 0) types.now }
 {
-    types::part_from(types, index(s))
+    types::part_from(types, index(part))
 }
 
 // The type that t starts with to the work buffer, from byte `at` on: its record count.
-fn copy_type(t: &[u8], w: &mut [u8], at: usize) -> usize
-    requires { SlotType t.now × (at + answer_length ≤ length w.old) }
-    ensures { (u : Ty) → Held t.now u
-        → (result ≡ size_t u) × (w.new ≡ splice at (encode_type u) w.old) }
+fn copy_type(t: &[u8], work: &mut [u8], at: usize) -> usize
+    requires slot { SlotType t.now }
+    requires room { at + answer_length ≤ length work.old }
+    ensures count { (u : Ty) → Held t.now u → result ≡ size_t u }
+    ensures work { (u : Ty) → Held t.now u → work.new ≡ splice at (encode_type u) work.old }
 {
     let n = types::type_records(t);
-    memory::put(&t[..TYPE_WIDTH * n], w, at);
+    memory::put(&t[..TYPE_WIDTH * n], work, at);
     n
 }
 
 // The type that byte `from` of the work buffer starts, moved down to byte `to`: its record count.
-fn move_type(w: &mut [u8], from: usize, to: usize) -> usize
-    requires { Starts (drop from w.old) × (to ≤ from) }
-    ensures { (t : Ty) → Held (drop from w.old) t
-        → (result ≡ size_t t) × (w.new ≡ splice to (encode_type t) w.old) }
+fn move_type(work: &mut [u8], from: usize, to: usize) -> usize
+    requires starts { Starts (drop from work.old) }
+    requires down { to ≤ from }
+    ensures count { (t : Ty) → Held (drop from work.old) t → result ≡ size_t t }
+    ensures work { (t : Ty) → Held (drop from work.old) t → work.new ≡ splice to (encode_type t) work.old }
 {
-    let n = types::type_records(&w[from..]);
-    memory::shift(w, from, to, TYPE_WIDTH * n);
+    let n = types::type_records(&work[from..]);
+    memory::shift(work, from, to, TYPE_WIDTH * n);
     n
 }
 
 // The byte at which a side of the type in front of s starts: past its record, or past its left side too.
 fn side_at(s: &[u8], side: Side) -> usize
-    requires { Sided s.now }
-    ensures { (t : Ty) → Held s.now t → Held (drop result s.now) (side_of (said_side side) t) }
+    requires { TwoSided s.now }
+    ensures { (t : Ty) → Held s.now t → Held (drop result s.now) (type_side (said_side side) t) }
 {
     match side {
         Side::First => TYPE_WIDTH,
@@ -133,76 +139,82 @@ fn side_at(s: &[u8], side: Side) -> usize
 
 // The part of s that starts with a side of the type in front.
 fn side_of(s: &[u8], side: Side) -> &[u8]
-    requires { Sided s.now }
-    ensures { (t : Ty) → Held s.now t → Held result.now (side_of (said_side side) t) }
+    requires { TwoSided s.now }
+    ensures { (t : Ty) → Held s.now t → Held result.now (type_side (said_side side) t) }
 {
     let from = side_at(s, side);
     &s[from..]
 }
 
 // Questions 20 and 21: the type in front is of this kind, and r may read the object.
-fn may_read(groups: &[u8], kind: types::Kind, r: Reader, place: usize, w: &[u8]) -> Checked
-    requires { Starts w.now }
-    ensures { (t : Ty) → Held w.now t
-        → said result ≡ may_read (properties_of groups.now) place kind t r.0 }
+fn may_read(groups: &[u8], kind: types::Kind, r: Reader, place: usize, work: &[u8]) -> Checked
+    requires { Starts work.now }
+    ensures { (t : Ty) → Held work.now t
+        → answer_of result ≡ may_read (properties_of groups.now) place kind t r.0 }
 {
-    let of_kind = types::kind_of(w) == kind;
-    let own = types::reader(w);
+    let of_kind = types::kind_of(work) == kind;
+    let own = types::reader(work);
     let readable = own.at_or_below(groups, r);
     answer::ask(Question::Former, place, of_kind)?;
     answer::ask(Question::Reader, place, readable)
 }
 
 // What reading the object in front as r gives: a side of its type, raised by what the reading leaves.
-fn read_side(groups: &[u8], r: Reader, side: Side, w: &mut [u8]) -> Result<usize, Refusal>
-    requires { Sided w.old × (answer_length ≤ length w.old) }
-    ensures { (t : Ty) → Slot w.old t
-        → Gives (accepted (reads (properties_of groups.now) t r.0 (side_of (said_side side) t))) w.old result w.new }
+fn read_side(groups: &[u8], r: Reader, side: Side, work: &mut [u8]) -> Result<usize, Refusal>
+    requires sided { TwoSided work.old }
+    requires room { answer_length ≤ length work.old }
+    ensures { (t : Ty) → Slot work.old t
+        → Gives (accepted (reads (properties_of groups.now) t r.0 (type_side (said_side side) t)))
+        work.old result work.new }
 {
-    let by = types::property(w).influence(groups, r);
-    let from = side_at(w, side);
-    let n = move_type(w, from, 0);
-    types::raise(groups, w, by);
+    let by = types::property(work).influence(groups, r);
+    let from = side_at(work, side);
+    let n = move_type(work, from, 0);
+    types::raise(groups, work, by);
     Ok(n)
 }
 
 // A variable: the type in its slot.
-fn variable(i: usize, b: usize, w: &mut [u8]) -> Result<usize, Refusal>
-    requires { InScope i b w.old }
-    ensures { (Γ : List Ty) → length Γ ≡ b → Holds Γ (high b w.old)
-        → Meets (accepted (get_or Γ i no_type)) b w.old result w.new }
+fn variable(i: usize, binders: usize, work: &mut [u8]) -> Result<usize, Refusal>
+    requires { InScope i binders work.old }
+    ensures { (Γ : List Ty) → length Γ ≡ binders → HoldsContext Γ (high binders work.old)
+        → Meets (accepted (get_or Γ i no_type)) binders work.old result work.new }
 {
-    let at = w.len() - SLOT * (b - i);
-    Ok(move_type(w, at, 0))
+    let at = work.len() - SLOT * (binders - i);
+    Ok(move_type(work, at, 0))
 }
 
-// Without operands: a variable's type is in its slot, a unit's and a literal's are one record.
+/// The type of a node without operands: a variable's is in its slot, a unit's and a literal's are one record.
+///
+/// `part` is the node's part of the script, under `binders` binders, whose types are in slots at the end of `work`. The
+/// type is left in front of `work`, and the answer is its record count.
 #[tactic(auto, using(crate::proofs::Shapes::long))]
-pub fn leaf(s: &[u8], b: usize, w: &mut [u8]) -> Result<usize, Refusal>
-    requires { Leaf s.now b w.old }
-    ensures { (v : Leaf s.now b w.old)
-        → Meets (leaf_type v.ctx v.tree) b w.old result w.new }
+pub fn leaf(part: &[u8], binders: usize, work: &mut [u8]) -> Result<usize, Refusal>
+    requires { LeafNode part.now binders work.old }
+    ensures { (v : LeafNode part.now binders work.old)
+        → Meets (leaf_type v.ctx v.tree) binders work.old result work.new }
 {
-    match records::kind_of(s, 0) {
-        Kind::Variable => variable(index(s), b, w),
-        Kind::Literal => one_record(types::Kind::Number, records::property(s, 0), w),
-        _ => one_record(types::Kind::Unit, records::property(s, 0), w),
+    match records::kind_of(part, 0) {
+        Kind::Variable => variable(index(part), binders, work),
+        Kind::Literal => one_record(types::Kind::Number, records::property(part, 0), work),
+        _ => one_record(types::Kind::Unit, records::property(part, 0), work),
     }
 }
 
 // A binder of the type that t starts with, which goes to the next slot.
-fn bind(t: &[u8], b: usize, w: &mut [u8])
-    requires { SlotType t.now × (answer_length * (b + 1) ≤ length w.old) }
-    ensures { (Γ : List Ty) (u : Ty) → Slot t.now u → length Γ ≡ b
-        → Holds Γ (high b w.old) → Entered (u ∷ Γ) b w.old w.new }
+fn bind(t: &[u8], binders: usize, work: &mut [u8])
+    requires slot { SlotType t.now }
+    requires room { answer_length * (binders + 1) ≤ length work.old }
+    ensures { (Γ : List Ty) (u : Ty) → Slot t.now u → length Γ ≡ binders
+        → HoldsContext Γ (high binders work.old) → Entered (u ∷ Γ) binders work.old work.new }
 {
-    let at = w.len() - SLOT * (b + 1);
-    copy_type(t, w, at);
+    let at = work.len() - SLOT * (binders + 1);
+    copy_type(t, work, at);
 }
 
 // Question 23 of the function type that t starts with: may its result be read through it, called as this group?
 fn absorbs(groups: &[u8], t: &[u8], caller: Reader) -> bool
-    requires { Sided t.now }
+    requires { TwoSided t.now }
     ensures { (s : Ty) → Held t.now s
         → result ≡ (properties_of groups.now).absorbs (top s) caller.0 (top (right s)) }
 {
@@ -211,11 +223,12 @@ fn absorbs(groups: &[u8], t: &[u8], caller: Reader) -> bool
     result.absorbed_by(groups, own, caller)
 }
 
-// Questions 21 and 23 of a recursion of the type that t starts with: may its group call it, and may its result be read through it?
+// Questions 21 and 23 of a recursion of the type that t starts with: may its group call it, and may its result be read
+// through it?
 fn may_recur(groups: &[u8], t: &[u8], caller: Reader, place: usize) -> Checked
-    requires { Sided t.now }
+    requires { TwoSided t.now }
     ensures { (u : Ty) → Held t.now u
-        → said result ≡ may_recur (properties_of groups.now) place u caller.0 }
+        → answer_of result ≡ may_recur (properties_of groups.now) place u caller.0 }
 {
     let called = types::reader(t).at_or_below(groups, caller);
     let absorbed = absorbs(groups, t, caller);
@@ -223,98 +236,109 @@ fn may_recur(groups: &[u8], t: &[u8], caller: Reader, place: usize) -> Checked
     answer::ask(Question::Recursion, place, absorbed)
 }
 
-// Before the operands: questions 21 and 23 of a recursion, and the binder of a function or a recursion.
+/// What is asked and written before the operands of the node at record `place`, whose part of the script `part` is.
+///
+/// Refuses at `place` a recursion that its group may not call (21), or whose result may not be read through it (23).
+/// The type of the binder of a function or a recursion goes to the slot of `work` that is next to those of `binders`
+/// binders.
 #[tactic(auto, using(crate::proofs::Shapes::long))]
 pub fn before_operands(
     groups: &[u8],
     types: &[u8],
-    s: &[u8],
+    part: &[u8],
     place: usize,
-    b: usize,
-    w: &mut [u8],
+    binders: usize,
+    work: &mut [u8],
 ) -> Checked
-    requires { Ready types.now s.now place b w.old }
-    ensures { (v : Ready types.now s.now place b w.old)
+    requires { CheckerInput types.now part.now place binders work.old }
+    ensures { (v : CheckerInput types.now part.now place binders work.old)
         → Enters (before_first (properties_of groups.now) (type_at types.now) place v.tree)
-        (first_context (type_at types.now) v.ctx v.tree) b w.old result w.new }
+        (first_context (type_at types.now) v.ctx v.tree) binders work.old result work.new }
 {
-    match records::kind_of(s, 0) {
+    match records::kind_of(part, 0) {
         Kind::Function => {
-            bind(named(types, s), b, w);
+            bind(named(types, part), binders, work);
             Ok(())
         }
         Kind::Recursion => {
-            let t = named(types, s);
-            let asked = may_recur(groups, t, records::reader(s, 0), place);
-            bind(t, b, w);
+            let t = named(types, part);
+            let asked = may_recur(groups, t, records::reader(part, 0), place);
+            bind(t, binders, work);
             asked
         }
         _ => Ok(()),
     }
 }
 
-// How many bytes of the front are not lent to the first operand: room for an injection's record.
-pub fn kept_front(s: &[u8]) -> usize
-    requires { script_width ≤ length s.now }
-    ensures { (e : Term) → s.now ≡ encode e → result ≡ kept_front e }
+/// How many bytes of the front of the work buffer are not lent to the first operand of the node whose part of the
+/// script `part` is: room for an injection's record.
+pub fn kept_front(part: &[u8]) -> usize
+    requires { script_width ≤ length part.now }
+    ensures { (e : Term) → part.now ≡ encode e → result ≡ kept_front e }
 {
-    match records::kind_at(s, 0) {
+    match records::kind_at(part, 0) {
         Some(kind) if kind.is_injection() => TYPE_WIDTH,
         _ => 0,
     }
 }
 
-// A function: the body's type is in front; the parameter's, which t starts with, goes before it, and the record before both.
-// Question 24.
+// A function: the body's type is in front; the parameter's, which t starts with, goes before it, and the record before
+// both. Is the whole type within the limit of records (24)?
 fn function(
     t: &[u8],
     property: Property,
     place: usize,
-    w: &mut [u8],
+    work: &mut [u8],
     n: usize,
 ) -> Result<usize, Refusal>
-    requires { SlotType t.now × (TypedFront w.old n × (answer_length ≤ length w.old)) }
-    ensures { (u v : Ty) → Slot t.now u → Sized w.old n v
-        → Gives (function_type place (said_property property) u v) w.old result w.new }
+    requires parameter { SlotType t.now }
+    requires body { TypedFront work.old n }
+    requires room { answer_length ≤ length work.old }
+    ensures { (u v : Ty) → Slot t.now u → Sized work.old n v
+        → Gives (function_type place (said_property property) u v) work.old result work.new }
 {
     let m = types::type_records(t);
     let count = m + n + 1;
     answer::ask(Question::FoundLength, place, count <= TYPE_LIMIT)?;
     let at = TYPE_WIDTH + TYPE_WIDTH * m;
-    memory::shift(w, 0, at, TYPE_WIDTH * n);
-    memory::put(&t[..TYPE_WIDTH * m], w, TYPE_WIDTH);
-    put(w, types::Kind::Function, property);
+    memory::shift(work, 0, at, TYPE_WIDTH * n);
+    memory::put(&t[..TYPE_WIDTH * m], work, TYPE_WIDTH);
+    put(work, types::Kind::Function, property);
     Ok(count)
 }
 
 // The sum type that t starts with to the front of the work buffer, with another property: its record count.
-fn named_sum(t: &[u8], property: Property, w: &mut [u8]) -> Result<usize, Refusal>
-    requires { SlotSided t.now × (answer_length ≤ length w.old) }
+fn named_sum(t: &[u8], property: Property, work: &mut [u8]) -> Result<usize, Refusal>
+    requires sum { SlotSided t.now }
+    requires room { answer_length ≤ length work.old }
     ensures { (u : Ty) → Slot t.now u
-        → Gives (accepted (node sum (said_property property) (left u) (right u))) w.old result w.new }
+        → Gives (accepted (node sum (said_property property) (left u) (right u))) work.old result work.new }
 {
-    let n = copy_type(t, w, 0);
-    put(w, types::Kind::Sum, property);
+    let n = copy_type(t, work, 0);
+    put(work, types::Kind::Sum, property);
     Ok(n)
 }
 
-// An injection of the sum type that t starts with: the operand's type is behind the room of its record. Question 22, and the sides of t.
+// An injection of the sum type that t starts with: the operand's type is behind the room of its record. Is it at or
+// below the side of the sum (22)? The sides are those of t.
 fn inject(
     groups: &[u8],
     t: &[u8],
     side: Side,
     property: Property,
     place: usize,
-    w: &mut [u8],
+    work: &mut [u8],
 ) -> Result<usize, Refusal>
-    requires { SlotSided t.now × (Starts (drop type_width w.old) × (answer_length ≤ length w.old)) }
-    ensures { (u v : Ty) → Slot t.now u → Held (drop type_width w.old) v
-        → Gives (injection_type (properties_of groups.now) place (said_property property) u (side_of (said_side side) u) v)
-        w.old result w.new }
+    requires sum { SlotSided t.now }
+    requires operand { Starts (drop type_width work.old) }
+    requires room { answer_length ≤ length work.old }
+    ensures { (u v : Ty) → Slot t.now u → Held (drop type_width work.old) v
+        → Gives (injection_type (properties_of groups.now) place (said_property property)
+        u (type_side (said_side side) u) v) work.old result work.new }
 {
-    let fits = subtyping::is_subtype(groups, &w[TYPE_WIDTH..], side_of(t, side));
+    let fits = subtyping::is_subtype(groups, &work[TYPE_WIDTH..], side_of(t, side));
     answer::ask(Question::Wanted, place, fits)?;
-    named_sum(t, property, w)
+    named_sum(t, property, work)
 }
 
 // A projection of the type in front: questions 20 and 21, and the side.
@@ -323,174 +347,256 @@ fn project(
     side: Side,
     r: Reader,
     place: usize,
-    w: &mut [u8],
+    work: &mut [u8],
 ) -> Result<usize, Refusal>
-    requires { Starts w.old × (answer_length ≤ length w.old) }
-    ensures { (t : Ty) → Slot w.old t
-        → Gives (projection_type (properties_of groups.now) place r.0 (said_side side) t) w.old result w.new }
+    requires starts { Starts work.old }
+    requires room { answer_length ≤ length work.old }
+    ensures { (t : Ty) → Slot work.old t
+        → Gives (projection_type (properties_of groups.now) place r.0 (said_side side) t) work.old result work.new }
 {
-    may_read(groups, types::Kind::Pair, r, place, w)?;
-    read_side(groups, r, side, w)
+    may_read(groups, types::Kind::Pair, r, place, work)?;
+    read_side(groups, r, side, work)
 }
 
 // A protect: the type in front, raised.
-fn protect(groups: &[u8], by: Influence, w: &mut [u8], n: usize) -> Result<usize, Refusal>
-    requires { TypedFront w.old n }
-    ensures { (t : Ty) → Sized w.old n t
-        → Gives (accepted (raise_t (properties_of groups.now) t (said_influence by))) w.old result w.new }
+fn protect(groups: &[u8], by: Influence, work: &mut [u8], n: usize) -> Result<usize, Refusal>
+    requires { TypedFront work.old n }
+    ensures { (t : Ty) → Sized work.old n t
+        → Gives (accepted (raise_t (properties_of groups.now) t (said_influence by))) work.old result work.new }
 {
-    types::raise(groups, w, by);
+    types::raise(groups, work, by);
     Ok(n)
 }
 
-// Question 22 against the type that t starts with, which is then the node's: a recursion's, or that of a case that names its type.
-fn adopt(groups: &[u8], t: &[u8], place: usize, w: &mut [u8]) -> Result<usize, Refusal>
-    requires { SlotType t.now × (Starts w.old × (answer_length ≤ length w.old)) }
-    ensures { (v u : Ty) → Held w.old v → Slot t.now u
-        → Gives (wanting (properties_of groups.now) place v u u) w.old result w.new }
+// Is the type in front at or below the one that t starts with (22)? That one is then the node's: a recursion's, or that
+// of a case that names its type.
+fn adopt(groups: &[u8], t: &[u8], place: usize, work: &mut [u8]) -> Result<usize, Refusal>
+    requires wanted { SlotType t.now }
+    requires starts { Starts work.old }
+    requires room { answer_length ≤ length work.old }
+    ensures { (v u : Ty) → Held work.old v → Slot t.now u
+        → Gives (after_22 (properties_of groups.now) place v u u) work.old result work.new }
 {
-    answer::ask(Question::Wanted, place, subtyping::is_subtype(groups, w, t))?;
-    Ok(copy_type(t, w, 0))
+    answer::ask(
+        Question::Wanted,
+        place,
+        subtyping::is_subtype(groups, work, t),
+    )?;
+    Ok(copy_type(t, work, 0))
 }
 
-// After the one operand: the node's type from its operand's. 22 or 20 and 21, and 24 last.
+/// The type of a node of one operand, from its operand's type of `count` records, which lies in front of `work`, behind
+/// the bytes that `kept_front` tells. It is left in front of `work`, and the answer is its record count.
+///
+/// Refuses at `place`, the node's record, a projection of what is no pair (20) or may not be read (21), an operand's
+/// type that isn't at or below the one that an injection or a recursion wants (22), and a function's type of too many
+/// records (24).
 #[tactic(auto, using(crate::proofs::Shapes::long))]
 pub fn after_one(
     groups: &[u8],
     types: &[u8],
-    s: &[u8],
+    part: &[u8],
     place: usize,
-    w: &mut [u8],
-    n: usize,
+    work: &mut [u8],
+    count: usize,
 ) -> Result<usize, Refusal>
-    requires { One types.now s.now w.old n }
-    ensures { (v : One types.now s.now w.old n)
-        → Gives (after_one (properties_of groups.now) (type_at types.now) place v.tree v.type) w.old result w.new }
+    requires { OneOperand types.now part.now work.old count }
+    ensures { (v : OneOperand types.now part.now work.old count)
+        → Gives (after_one (properties_of groups.now) (type_at types.now) place v.tree v.type)
+        work.old result work.new }
 {
-    let kind = records::kind_of(s, 0);
+    let kind = records::kind_of(part, 0);
     match kind {
-        Kind::Function => function(named(types, s), records::property(s, 0), place, w, n),
+        Kind::Function => function(
+            named(types, part),
+            records::property(part, 0),
+            place,
+            work,
+            count,
+        ),
         Kind::FirstInjection | Kind::SecondInjection => {
-            let t = named(types, s);
-            inject(groups, t, Side::of(kind), records::property(s, 0), place, w)
+            let t = named(types, part);
+            inject(
+                groups,
+                t,
+                Side::of(kind),
+                records::property(part, 0),
+                place,
+                work,
+            )
         }
         Kind::FirstProjection | Kind::SecondProjection => {
-            project(groups, Side::of(kind), records::reader(s, 0), place, w)
+            project(
+                groups,
+                Side::of(kind),
+                records::reader(part, 0),
+                place,
+                work,
+            )
         }
-        Kind::Protect => protect(groups, records::influence(s, 0), w, n),
-        _ => adopt(groups, named(types, s), place, w),
+        Kind::Protect => protect(groups, records::influence(part, 0), work, count),
+        _ => adopt(groups, named(types, part), place, work),
     }
 }
 
-// A case's tested type: questions 20 and 21, and the two sides to the next slot, of which the first is the binder's type.
-fn test(groups: &[u8], r: Reader, place: usize, b: usize, w: &mut [u8], n: usize) -> Checked
-    requires { TypedFront w.old n × (answer_length * (b + 2) ≤ length w.old) }
-    ensures { (Γ : List Ty) (t : Ty) → Sized w.old n t → length Γ ≡ b → Holds Γ (high b w.old)
-        → Enters (may_read (properties_of groups.now) place Sum t r.0) (left t ∷ Γ) b w.old result w.new
-        × (may_read (properties_of groups.now) place Sum t r.0 ≡ accepted tt → Beside t b w.new) }
+// A case's tested type: questions 20 and 21, and the two sides to the next slot, of which the first is the binder's
+// type.
+fn test(
+    groups: &[u8],
+    r: Reader,
+    place: usize,
+    binders: usize,
+    work: &mut [u8],
+    n: usize,
+) -> Checked
+    requires tested { TypedFront work.old n }
+    requires room { answer_length * (binders + 2) ≤ length work.old }
+    ensures enters { (Γ : List Ty) (t : Ty) → Sized work.old n t → length Γ ≡ binders
+        → HoldsContext Γ (high binders work.old)
+        → Enters (may_read (properties_of groups.now) place Sum t r.0)
+        (left t ∷ Γ) binders work.old result work.new }
+    ensures kept { (Γ : List Ty) (t : Ty) → Sized work.old n t → length Γ ≡ binders
+        → HoldsContext Γ (high binders work.old)
+        → may_read (properties_of groups.now) place Sum t r.0 ≡ accepted tt → Beside t binders work.new }
 {
-    let asked = may_read(groups, types::Kind::Sum, r, place, w);
+    let asked = may_read(groups, types::Kind::Sum, r, place, work);
     let Ok(()) = asked else {
         return asked;
     };
-    let at = w.len() - SLOT * (b + 1);
-    memory::shift(w, TYPE_WIDTH, at, TYPE_WIDTH * (n - 1));
+    let at = work.len() - SLOT * (binders + 1);
+    memory::shift(work, TYPE_WIDTH, at, TYPE_WIDTH * (n - 1));
     Ok(())
 }
 
-// Between the first operand and the second: what is asked of the first type. It stays in front, or its sides are set aside in the
-// slot of a case's binder.
+/// What is asked of the first operand's type, of `count` records in front of `work`, before the second operand.
+///
+/// Refuses at `place`, the node's record, a type that isn't of the kind that an application, a case, a sum or a
+/// comparison takes apart (20), or that the node's group may not read (21). The type stays in front; of a case its two
+/// sides go, one after the other, to the slot that is next to those of `binders` binders.
 #[tactic(auto, using(crate::proofs::Shapes::long))]
-pub fn between(groups: &[u8], s: &[u8], place: usize, b: usize, w: &mut [u8], n: usize) -> Checked
-    requires { Some s.now b w.old n }
-    ensures { (v : Some s.now b w.old n)
+pub fn between(
+    groups: &[u8],
+    part: &[u8],
+    place: usize,
+    binders: usize,
+    work: &mut [u8],
+    count: usize,
+) -> Checked
+    requires { AfterFirst part.now binders work.old count }
+    ensures enters { (v : AfterFirst part.now binders work.old count)
         → Enters (between (properties_of groups.now) place v.tree v.type)
-        (second_context v.ctx v.tree v.type) b w.old result w.new
-        × (between (properties_of groups.now) place v.tree v.type ≡ accepted tt
-        → Aside v.tree v.type b w.new n) }
+        (second_context v.ctx v.tree v.type) binders work.old result work.new }
+    ensures kept { (v : AfterFirst part.now binders work.old count)
+        → between (properties_of groups.now) place v.tree v.type ≡ accepted tt
+        → Aside v.tree v.type binders work.new count }
 {
-    match records::kind_of(s, 0) {
+    match records::kind_of(part, 0) {
         Kind::Pair => Ok(()),
         Kind::Application => {
             may_read(
                 groups,
                 types::Kind::Function,
-                records::reader(s, 0),
+                records::reader(part, 0),
                 place,
-                w,
+                work,
             )
         }
         Kind::Sum | Kind::Less => {
-            may_read(groups, types::Kind::Number, records::reader(s, 0), place, w)
+            may_read(
+                groups,
+                types::Kind::Number,
+                records::reader(part, 0),
+                place,
+                work,
+            )
         }
-        _ => test(groups, records::reader(s, 0), place, b, w, n),
+        _ => test(
+            groups,
+            records::reader(part, 0),
+            place,
+            binders,
+            work,
+            count,
+        ),
     }
 }
 
-// A pair: its first type is in front, the second from the next slot's length on. Question 24.
+// A pair: its first type is in front, the second from the next slot's length on. Is the whole type within the limit of
+// records (24)?
 fn pair(
     property: Property,
     place: usize,
-    w: &mut [u8],
+    work: &mut [u8],
     n: usize,
     m: usize,
 ) -> Result<usize, Refusal>
-    requires { TypedFront w.old n × (TypedFront (drop answer_length w.old) m × (answer_length * 2 ≤ length w.old)) }
-    ensures { (s t : Ty) → Sized w.old n s → Sized (drop answer_length w.old) m t
-        → Gives (pair_type place (said_property property) s t) w.old result w.new }
+    requires first { TypedFront work.old n }
+    requires second { TypedFront (drop answer_length work.old) m }
+    requires room { answer_length * 2 ≤ length work.old }
+    ensures { (s t : Ty) → Sized work.old n s → Sized (drop answer_length work.old) m t
+        → Gives (pair_type place (said_property property) s t) work.old result work.new }
 {
     let count = n + m + 1;
     answer::ask(Question::FoundLength, place, count <= TYPE_LIMIT)?;
-    memory::shift(w, 0, TYPE_WIDTH, TYPE_WIDTH * n);
+    memory::shift(work, 0, TYPE_WIDTH, TYPE_WIDTH * n);
     let at = TYPE_WIDTH + TYPE_WIDTH * n;
-    memory::shift(w, SECOND_PART, at, TYPE_WIDTH * m);
-    put(w, types::Kind::Pair, property);
+    memory::shift(work, SECOND_PART, at, TYPE_WIDTH * m);
+    put(work, types::Kind::Pair, property);
     Ok(count)
 }
 
-// Question 22 of an application: the argument's type, from the next slot's length on, against the parameter's, in front.
-fn argument_fits(groups: &[u8], w: &[u8]) -> bool
-    requires { Sided w.now × (Starts (drop answer_length w.now) × (answer_length ≤ length w.now)) }
-    ensures { (s t : Ty) → Held w.now s → Held (drop answer_length w.now) t
+// Is an application's argument's type, from the next slot's length on, at or below the parameter's, in front (22)?
+fn argument_fits(groups: &[u8], work: &[u8]) -> bool
+    requires function { TwoSided work.now }
+    requires argument { Starts (drop answer_length work.now) }
+    requires room { answer_length ≤ length work.now }
+    ensures { (s t : Ty) → Held work.now s → Held (drop answer_length work.now) t
         → result ≡ subtype (properties_of groups.now) below t (left s) }
 {
-    subtyping::is_subtype(groups, &w[SECOND_PART..], side_of(w, Side::First))
+    subtyping::is_subtype(groups, &work[SECOND_PART..], side_of(work, Side::First))
 }
 
-// An application: the function's type is in front, the argument's from the next slot's length on. Question 22, and the result.
-fn apply(groups: &[u8], r: Reader, place: usize, w: &mut [u8]) -> Result<usize, Refusal>
-    requires { Sided w.old × (Starts (drop answer_length w.old) × (answer_length * 2 ≤ length w.old)) }
-    ensures { (s t : Ty) → Slot w.old s → Held (drop answer_length w.old) t
-        → Gives (wanting (properties_of groups.now) place t (left s)
-        (reads (properties_of groups.now) s r.0 (right s))) w.old result w.new }
+// An application: the function's type is in front, the argument's from the next slot's length on. The argument is asked
+// (22), and the result's type is read.
+fn apply(groups: &[u8], r: Reader, place: usize, work: &mut [u8]) -> Result<usize, Refusal>
+    requires function { TwoSided work.old }
+    requires argument { Starts (drop answer_length work.old) }
+    requires room { answer_length * 2 ≤ length work.old }
+    ensures { (s t : Ty) → Slot work.old s → Held (drop answer_length work.old) t
+        → Gives (after_22 (properties_of groups.now) place t (left s)
+        (reads (properties_of groups.now) s r.0 (right s))) work.old result work.new }
 {
-    answer::ask(Question::Wanted, place, argument_fits(groups, w))?;
-    read_side(groups, r, Side::Second, w)
+    answer::ask(Question::Wanted, place, argument_fits(groups, work))?;
+    read_side(groups, r, Side::Second, work)
 }
 
-// The property of what r reckons of two numbers: the left one's type is in front, the right one's from the next slot's length on, which
-// questions 20 and 21 are put to.
-fn reckoned(groups: &[u8], r: Reader, place: usize, w: &[u8]) -> Result<Property, Refusal>
-    requires { Starts w.now × (Starts (drop answer_length w.now) × (answer_length ≤ length w.now)) }
-    ensures { (s t : Ty) → Held w.now s → Held (drop answer_length w.now) t
-        → bind (said result) (λ k. accepted (said_property k))
-        ≡ reckoned (properties_of groups.now) place r.0 s t }
+// The property of what r reckons of two numbers: the left one's type is in front, the right one's from the next slot's
+// length on, which questions 20 and 21 are put to.
+fn reckoned(groups: &[u8], r: Reader, place: usize, work: &[u8]) -> Result<Property, Refusal>
+    requires left { Starts work.now }
+    requires right { Starts (drop answer_length work.now) }
+    requires room { answer_length ≤ length work.now }
+    ensures { (s t : Ty) → Held work.now s → Held (drop answer_length work.now) t
+        → bind (answer_of result) (λ k. accepted (said_property k))
+        ≡ operands_property (properties_of groups.now) place r.0 s t }
 {
-    let second = &w[SECOND_PART..];
+    let second = &work[SECOND_PART..];
     may_read(groups, types::Kind::Number, r, place, second)?;
-    let left = types::property(w);
+    let left = types::property(work);
     let right = types::property(second);
     Ok(left.reckoned_with(groups, right, r))
 }
 
 // A sum of two: a number.
-fn total(groups: &[u8], r: Reader, place: usize, w: &mut [u8]) -> Result<usize, Refusal>
-    requires { Starts w.old × (Starts (drop answer_length w.old) × (answer_length ≤ length w.old)) }
-    ensures { (tab : ℕ → Ty) (s t : Ty) → Held w.old s → Held (drop answer_length w.old) t
-        → Gives (reckoned_type (properties_of groups.now) tab place plus r.0 s t) w.old result w.new }
+fn total(groups: &[u8], r: Reader, place: usize, work: &mut [u8]) -> Result<usize, Refusal>
+    requires left { Starts work.old }
+    requires right { Starts (drop answer_length work.old) }
+    requires room { answer_length ≤ length work.old }
+    ensures { (tab : ℕ → Ty) (s t : Ty) → Held work.old s → Held (drop answer_length work.old) t
+        → Gives (operation_type (properties_of groups.now) tab place plus r.0 s t) work.old result work.new }
 {
-    let property = reckoned(groups, r, place, w)?;
-    one_record(types::Kind::Number, property, w)
+    let property = reckoned(groups, r, place, work)?;
+    one_record(types::Kind::Number, property, work)
 }
 
 // A less than: the sum type that `flag` starts with, whose own groups aren't read.
@@ -499,133 +605,163 @@ fn comparison(
     flag: &[u8],
     r: Reader,
     place: usize,
-    w: &mut [u8],
+    work: &mut [u8],
 ) -> Result<usize, Refusal>
-    requires { SlotSided flag.now
-        × (Starts w.old × (Starts (drop answer_length w.old) × (answer_length ≤ length w.old))) }
-    ensures { (tab : ℕ → Ty) (i : ℕ) (s t : Ty) → Slot flag.now (tab i) → Held w.old s
-        → Held (drop answer_length w.old) t
-        → Gives (reckoned_type (properties_of groups.now) tab place (less i) r.0 s t) w.old result w.new }
+    requires flag { SlotSided flag.now }
+    requires left { Starts work.old }
+    requires right { Starts (drop answer_length work.old) }
+    requires room { answer_length ≤ length work.old }
+    ensures { (tab : ℕ → Ty) (i : ℕ) (s t : Ty) → Slot flag.now (tab i) → Held work.old s
+        → Held (drop answer_length work.old) t
+        → Gives (operation_type (properties_of groups.now) tab place (less i) r.0 s t) work.old result work.new }
 {
-    let property = reckoned(groups, r, place, w)?;
-    named_sum(flag, property, w)
+    let property = reckoned(groups, r, place, work)?;
+    named_sum(flag, property, work)
 }
 
-// After both operands of a node of two: its type from theirs.
+/// The type of a node of two operands, from theirs: of `first` records in front of `work`, and of `second` records from
+/// `SECOND_PART` on. It is left in front of `work`, and the answer is its record count.
+///
+/// Refuses at `place`, the node's record, a right operand of a sum or a comparison that is no number (20) or may not be
+/// read (21), an argument's type that isn't at or below the parameter's (22), and a pair's type of too many records
+/// (24).
 #[tactic(auto, using(crate::proofs::Shapes::long))]
 pub fn after_two(
     groups: &[u8],
     types: &[u8],
-    s: &[u8],
+    part: &[u8],
     place: usize,
-    w: &mut [u8],
-    n: usize,
-    m: usize,
+    work: &mut [u8],
+    first: usize,
+    second: usize,
 ) -> Result<usize, Refusal>
-    requires { Two groups.now types.now s.now place w.old n m }
-    ensures { (v : Two groups.now types.now s.now place w.old n m)
+    requires { TwoOperands groups.now types.now part.now place work.old first second }
+    ensures { (v : TwoOperands groups.now types.now part.now place work.old first second)
         → Gives (after_two (properties_of groups.now) (type_at types.now) place v.tree v.first v.second)
-        w.old result w.new }
+        work.old result work.new }
 {
-    match records::kind_of(s, 0) {
-        Kind::Pair => pair(records::property(s, 0), place, w, n, m),
-        Kind::Application => apply(groups, records::reader(s, 0), place, w),
-        Kind::Sum => total(groups, records::reader(s, 0), place, w),
-        _ => comparison(groups, named(types, s), records::reader(s, 0), place, w),
+    match records::kind_of(part, 0) {
+        Kind::Pair => pair(records::property(part, 0), place, work, first, second),
+        Kind::Application => apply(groups, records::reader(part, 0), place, work),
+        Kind::Sum => total(groups, records::reader(part, 0), place, work),
+        _ => comparison(
+            groups,
+            named(types, part),
+            records::reader(part, 0),
+            place,
+            work,
+        ),
     }
 }
 
-// Question 22 of a case's first branch, whose type is in front. Where the case finds its own type, any will do.
-fn branch_fits(groups: &[u8], types: &[u8], s: &[u8], w: &[u8]) -> bool
-    requires { Case types.now s.now × Starts w.now }
-    ensures { (t : Ty) (place : ℕ) → Held w.now t
+// Is the type of a case's first branch, which is in front, at or below the case's (22)? Where the case finds its own,
+// any will do.
+fn branch_fits(groups: &[u8], types: &[u8], part: &[u8], work: &[u8]) -> bool
+    requires node { CaseNode types.now part.now }
+    requires starts { Starts work.now }
+    ensures { (t : Ty) (place : ℕ) → Held work.now t
         → ask 22 place result
-        ≡ q22_of_branch (properties_of groups.now) place (type_at types.now) (number s.now 0) t }
+        ≡ q22_of_branch (properties_of groups.now) place (type_at types.now) (number part.now 0) t }
 {
-    records::finds_own(s, 0) || subtyping::is_subtype(groups, w, named(types, s))
+    records::finds_own(part, 0) || subtyping::is_subtype(groups, work, named(types, part))
 }
 
-// After a case's first branch: question 22, and the right side to the slot's start, as the type of the second branch's binder.
-// The first branch's type stays in front.
+/// What is asked of the type of a case's first branch, which is in front of `work`, before the second branch.
+///
+/// Refuses at `place`, the case's record, a type that isn't at or below the one that the case names (22). The branch's
+/// type stays in front, and the right side of the tested type goes to the start of the slot next to those of `binders`
+/// binders.
 pub fn after_first_branch(
     groups: &[u8],
     types: &[u8],
-    s: &[u8],
+    part: &[u8],
     place: usize,
-    b: usize,
-    w: &mut [u8],
+    binders: usize,
+    work: &mut [u8],
 ) -> Checked
-    requires { Branch types.now s.now b w.old }
-    ensures { (v : Branch types.now s.now b w.old)
-        → Enters (q22_of_branch (properties_of groups.now) place (type_at types.now) (number s.now 0) v.type)
-        (right v.tested ∷ v.ctx) b w.old result w.new × Slot w.new v.type }
+    requires { FirstBranchTyped types.now part.now binders work.old }
+    ensures enters { (v : FirstBranchTyped types.now part.now binders work.old)
+        → Enters (q22_of_branch (properties_of groups.now) place (type_at types.now) (number part.now 0) v.type)
+        (right v.tested ∷ v.ctx) binders work.old result work.new }
+    ensures kept { (v : FirstBranchTyped types.now part.now binders work.old) → Slot work.new v.type }
 {
-    let asked = answer::ask(Question::Wanted, place, branch_fits(groups, types, s, w));
-    let at = w.len() - SLOT * (b + 1);
-    let from = at + TYPE_WIDTH * types::type_records(&w[at..]);
-    move_type(w, from, at);
+    let asked = answer::ask(
+        Question::Wanted,
+        place,
+        branch_fits(groups, types, part, work),
+    );
+    let at = work.len() - SLOT * (binders + 1);
+    let from = at + TYPE_WIDTH * types::type_records(&work[at..]);
+    move_type(work, from, at);
     asked
 }
 
-// How many bytes of the front are not lent to a case's second branch: the first one's type, where the case finds its own.
-pub fn kept_branch(s: &[u8]) -> usize
-    requires { script_width ≤ length s.now }
-    ensures { result ≡ kept_branch s.now }
+/// How many bytes of the front of the work buffer are not lent to the second branch of the case whose part of the
+/// script `part` is: the first branch's type, where the case finds its own.
+pub fn kept_branch(part: &[u8]) -> usize
+    requires { script_width ≤ length part.now }
+    ensures { result ≡ kept_branch part.now }
 {
-    if records::finds_own(s, 0) {
+    if records::finds_own(part, 0) {
         SECOND_PART
     } else {
         0
     }
 }
 
-// The lowest type at or above the two found ones, written over the first. Question 31.
-fn common_type(groups: &[u8], place: usize, w: &mut [u8]) -> Result<usize, Refusal>
-    requires { Both w.old }
-    ensures { (v : Both w.old)
-        → Gives (found_or place (common (properties_of groups.now) below v.first v.second)) w.old result w.new }
+// The lowest type at or above the two found ones, written over the first, if there is one (31).
+fn common_type(groups: &[u8], place: usize, work: &mut [u8]) -> Result<usize, Refusal>
+    requires { TwoTypesHeld work.old }
+    ensures { (v : TwoTypesHeld work.old)
+        → Gives (found_or place (nearest_type (properties_of groups.now) below v.first v.second)) work.old result work.new }
 {
-    common_types::common(groups, Direction::Below, w, 0, SECOND_RECORD).ok_or(Refusal {
+    common_types::common(groups, Direction::Below, work, 0, SECOND_RECORD).ok_or(Refusal {
         question: Question::CommonType,
         place,
     })
 }
 
-// A case's type before it is raised: the one that it names, with question 22 of the second branch, or the common one.
+// A case's type before it is raised: the one that it names, if the second branch's is at or below it (22), or the
+// common one.
 fn result_type(
     groups: &[u8],
     types: &[u8],
-    s: &[u8],
+    part: &[u8],
     place: usize,
-    w: &mut [u8],
+    work: &mut [u8],
 ) -> Result<usize, Refusal>
-    requires { Branches types.now s.now w.old }
-    ensures { (v : Branches types.now s.now w.old)
-        → Gives (result_type (properties_of groups.now) (type_at types.now) place (number s.now 0)
-        v.first v.second) w.old result w.new }
+    requires { BranchesTyped types.now part.now work.old }
+    ensures { (v : BranchesTyped types.now part.now work.old)
+        → Gives (result_type (properties_of groups.now) (type_at types.now) place (number part.now 0)
+        v.first v.second) work.old result work.new }
 {
-    if records::finds_own(s, 0) {
-        common_type(groups, place, w)
+    if records::finds_own(part, 0) {
+        common_type(groups, place, work)
     } else {
-        adopt(groups, named(types, s), place, w)
+        adopt(groups, named(types, part), place, work)
     }
 }
 
-// After a case's second branch: the case's type, raised by what testing left.
+/// The type of a case after its second branch, raised by `by`, which is what testing left. The second branch's type
+/// lies in front of `work`, behind the bytes that `kept_branch` tells, where the first one's is. The case's is left in
+/// front of `work`, and the answer is its record count.
+///
+/// Refuses at `place`, the case's record, a branch's type that isn't at or below the one that the case names (22), or,
+/// where it finds its own, two types that have no common one (31).
 pub fn after_second_branch(
     groups: &[u8],
     types: &[u8],
-    s: &[u8],
+    part: &[u8],
     place: usize,
     by: Influence,
-    w: &mut [u8],
+    work: &mut [u8],
 ) -> Result<usize, Refusal>
-    requires { Branches types.now s.now w.old }
-    ensures { (v : Branches types.now s.now w.old)
-        → Gives (case_type (properties_of groups.now) (type_at types.now) place (number s.now 0)
-        v.first v.second (said_influence by)) w.old result w.new }
+    requires { BranchesTyped types.now part.now work.old }
+    ensures { (v : BranchesTyped types.now part.now work.old)
+        → Gives (case_type (properties_of groups.now) (type_at types.now) place (number part.now 0)
+        v.first v.second (said_influence by)) work.old result work.new }
 {
-    let n = result_type(groups, types, s, place, w)?;
-    types::raise(groups, w, by);
+    let n = result_type(groups, types, part, place, work)?;
+    types::raise(groups, work, by);
     Ok(n)
 }

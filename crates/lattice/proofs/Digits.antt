@@ -1,8 +1,9 @@
 -- The bits of a word are its binary digits.
-use Rattle.std.proofs.Common.{◌≡◌, refl, ap, ◌∙◌, Bool, true, false, cond, ℕ, zero, suc, ◌+◌, ◌*◌, ◌/◌, ◌%◌, ◌^◌, ◌<◌, arith, eq-eqb, ne_eqb, eqb}
+use Rattle.std.proofs.Common.{◌≡◌, refl, ap, ◌∙◌, Bool, true, false, cond, ℕ, zero, suc, ◌+◌, ◌*◌, ◌/◌, ◌%◌, ◌^◌, ◌<◌}
+use Rattle.std.proofs.Common.{arith, eq-eqb, ne_eqb, nat_eq}
 use Rattle.rules.specs.Groups.{bit}
 use Rattle.lattice.proofs.Bits.{bit_suc, bit_zero, half_lt, digit_lt}
-use Rattle.lattice.specs.Digits.{word_of, BitsAreDigits}
+use Rattle.lattice.specs.Digits.{word_of, BitsAreDigits, BitsOfWords}
 
 word_same : (n : ℕ) (a b : ℕ → Bool) → ((h : ℕ) → a h ≡ b h) → word_of a n ≡ word_of b n
 unfolding word_of
@@ -10,10 +11,10 @@ word_same zero a b e = refl
 word_same (suc n) a b e = rw (e 0, word_same n (λ h. a (suc h)) (λ h. b (suc h)) (λ h. e (suc h)))
 
 -- the lowest digit, as a number
-low : (x : ℕ) → cond (eqb (x % 2) 1) 1 0 ≡ x % 2
+low : (x : ℕ) → cond (nat_eq (x % 2) 1) 1 0 ≡ x % 2
 low x = go (x % 2) (digit_lt x)
   where
-    go : (d : ℕ) → d < 2 → cond (eqb d 1) 1 0 ≡ d
+    go : (d : ℕ) → d < 2 → cond (nat_eq d 1) 1 0 ≡ d
     go zero l = refl
     go (suc zero) l = refl
     go (suc (suc d)) l = absurd (omega arith)
@@ -33,7 +34,7 @@ halved : (b : Bool) (y : ℕ) → (cond b 1 0 + 2 * y) / 2 ≡ y
 halved true y = omega arith
 halved false y = omega arith
 
-lowest : (b : Bool) (y : ℕ) → eqb ((cond b 1 0 + 2 * y) % 2) 1 ≡ b
+lowest : (b : Bool) (y : ℕ) → nat_eq ((cond b 1 0 + 2 * y) % 2) 1 ≡ b
 lowest true y = eq-eqb ((1 + 2 * y) % 2) 1 (omega arith)
 lowest false y = ne_eqb ((0 + 2 * y) % 2) 1 (λ e. omega arith)
 
@@ -48,3 +49,7 @@ right (suc n) digit (suc h) l =
 
 pub bits_are_digits : (n : ℕ) → BitsAreDigits n
 bits_are_digits n = record { every_word = every_word n; right = right n }
+
+pub bits_of_words : BitsOfWords
+unfolding BitsOfWords
+bits_of_words = bits_are_digits

@@ -1,14 +1,16 @@
 -- What bit h of a word is, apart from how it is taken: the binary digit of weight 2^h.
-use Rattle.std.specs.Prelude.{◌≡◌, Bool, cond, ℕ, zero, suc, ◌+◌, ◌*◌, ◌^◌, ◌<◌}
+use Rattle.std.specs.Prelude.{◌≡◌, Bool, if◌then◌else◌, ℕ, zero, suc, ◌+◌, ◌*◌, ◌^◌, ◌<◌}
 use Rattle.rules.specs.Groups.{bit}
 
 -- the word of n digits, the lowest first
 unfoldable pub word_of : (ℕ → Bool) → ℕ → ℕ
 word_of digit zero = 0
-word_of digit (suc n) = cond (digit 0) 1 0 + 2 * word_of (λ h. digit (suc h)) n
+word_of digit (suc n) = (if digit 0 then 1 else 0) + 2 * word_of (λ h. digit (suc h)) n
 
--- "Its answer must be right for every 32-bit row and every h from 0 to 31": every word of n bits is that of its bits, and of n
--- digits, bit h is digit h.
+-- every word of n bits is that of its bits, and of n digits, bit h is digit h
 pub record BitsAreDigits (n : ℕ) : Type 0 where
   pub every_word : (word : ℕ) → word < 2 ^ n → word_of (bit word) n ≡ word
   pub right : (digit : ℕ → Bool) (h : ℕ) → h < n → bit (word_of digit n) h ≡ digit h
+
+unfoldable pub BitsOfWords : Type 0
+BitsOfWords = (n : ℕ) → BitsAreDigits n

@@ -1,41 +1,44 @@
-// The lattice of groups over a table of rows: readers and indirect readers, creators and indirect creators, their order, their
-// join and their meet, and the properties made of them.
+// The lattice of groups over a table of rows: readers and indirect readers, creators and indirect creators, their
+// order, their join and their meet, and the properties made of them.
 
 #![tactic(auto)]
 
-ghost use Rattle.std.specs.Prelude.{◌≡◌, ℕ, ◌≤◌, ◌<◌, ltb, length};
+ghost use Rattle.std.specs.Prelude.{◌≡◌, ℕ, ◌≤◌, ◌<◌, nat_lt, length};
 ghost use Rattle.calculus.specs.Numbers.{of_both};
 ghost use Rattle.rules.specs.Answer.{byte};
 ghost use Rattle.rules.specs.Limits.{group_limit};
 ghost use Rattle.rules.specs.Groups.{rows, row, bit, leq, join, below_both, meet, properties_of};
+ghost use Rattle.lattice.specs.Digits.{BitsOfWords};
 ghost use Rattle.lattice.specs.Said.{said_property, said_influence};
 
-// A group, in one of the four places that it may have in a property: a type for each, so that none is handed over in another's place.
+/// A group, in one of the four places that it may have in a property: a type for each, so that none is handed over in
+/// another's place.
 pub trait Group: Copy {
     ghost number: { Self → ℕ };
 
-    // The group of this number.
-    fn numbered(n: u8) -> Self
-        ensures { number result ≡ n };
+    /// The group of this number: its row in the groups table, and its bit in every row.
+    fn numbered(value: u8) -> Self
+        ensures { number result ≡ value };
 
+    /// The number of the group.
     fn number(self) -> u8
         ensures { result ≡ number self };
 
-    // Is it in a table of so many groups?
+    /// Is it in a table of so many groups?
     fn is_among(self, count: usize) -> bool
-        ensures { result ≡ ltb (number self) count }
+        ensures { result ≡ nat_lt (number self) count }
     {
         usize::from(self.number()) < count
     }
 
-    // g ⊑ h
+    /// self ⊑ other, in the order of this groups table.
     fn at_or_below(self, groups: &[u8], other: Self) -> bool
         ensures { result ≡ leq groups.now (number self) (number other) }
     {
         leq(groups, self.number(), other.number())
     }
 
-    // g ⊔ h
+    /// self ⊔ other: the lowest group at or above both; 0 where they have none in common.
     fn join(self, groups: &[u8], other: Self) -> Self
         ensures { number result ≡ join groups.now (number self) (number other) }
     {
@@ -43,27 +46,27 @@ pub trait Group: Copy {
     }
 }
 
-// Who may read an object.
+/// The group r: who may read an object.
 #[derive(Clone, Copy, Debug, PartialEq, Eq)]
 pub struct Reader(pub u8);
 
-// Who may be influenced by it.
+/// The group ir: who may be influenced by it.
 #[derive(Clone, Copy, Debug, PartialEq, Eq)]
 pub struct Indirect(pub u8);
 
-// Who made it.
+/// The group c: who made it.
 #[derive(Clone, Copy, Debug, PartialEq, Eq)]
 pub struct Creator(pub u8);
 
-// Who had an influence on it.
+/// The group ic: who had an influence on it.
 #[derive(Clone, Copy, Debug, PartialEq, Eq)]
 pub struct IndirectCreator(pub u8);
 
 impl Group for Reader {
     ghost number = { λ g. g.0 };
 
-    fn numbered(n: u8) -> Self {
-        Reader(n)
+    fn numbered(value: u8) -> Self {
+        Reader(value)
     }
 
     fn number(self) -> u8 {
@@ -74,8 +77,8 @@ impl Group for Reader {
 impl Group for Indirect {
     ghost number = { λ g. g.0 };
 
-    fn numbered(n: u8) -> Self {
-        Indirect(n)
+    fn numbered(value: u8) -> Self {
+        Indirect(value)
     }
 
     fn number(self) -> u8 {
@@ -86,8 +89,8 @@ impl Group for Indirect {
 impl Group for Creator {
     ghost number = { λ g. g.0 };
 
-    fn numbered(n: u8) -> Self {
-        Creator(n)
+    fn numbered(value: u8) -> Self {
+        Creator(value)
     }
 
     fn number(self) -> u8 {
@@ -98,8 +101,8 @@ impl Group for Creator {
 impl Group for IndirectCreator {
     ghost number = { λ g. g.0 };
 
-    fn numbered(n: u8) -> Self {
-        IndirectCreator(n)
+    fn numbered(value: u8) -> Self {
+        IndirectCreator(value)
     }
 
     fn number(self) -> u8 {
@@ -107,24 +110,30 @@ impl Group for IndirectCreator {
     }
 }
 
-// The property of an object.
+/// The property κ of an object or a type: its four groups.
 #[derive(Clone, Copy, Debug, PartialEq, Eq)]
 pub struct Property {
+    /// Who may read it.
     pub r: Reader,
+    /// Who may be influenced by it.
     pub ir: Indirect,
+    /// Who made it.
     pub c: Creator,
+    /// Who had an influence on it.
     pub ic: IndirectCreator,
 }
 
-// What a reading leaves on its result, and what a protect carries.
+/// An influence (ir, ic): what a reading leaves on its result, and what a protect carries.
 #[derive(Clone, Copy, Debug, PartialEq, Eq)]
 pub struct Influence {
     pub ir: Indirect,
     pub ic: IndirectCreator,
 }
 
+/// The bytes of a row of a groups table: a 32-bit word, lowest byte first.
 pub const ROW_WIDTH: usize = 4;
 
+/// The most groups of a table: a row has a bit for each.
 pub const GROUP_LIMIT: usize = 32;
 
 // Byte i, and 0 past the end, so that order, join and meet are total in the table's length.
@@ -134,7 +143,7 @@ fn byte(groups: &[u8], i: usize) -> u8
     groups.get(i).copied().unwrap_or(0)
 }
 
-// How many whole rows the table has: a group is in the table when its number is below.
+/// How many whole rows a groups table has: a group is in the table where its number is below.
 pub fn row_count(groups: &[u8]) -> usize
     ensures { result ≡ rows groups.now }
 {
@@ -150,17 +159,18 @@ fn whole_row(groups: &[u8], g: usize) -> u32
     u32::from_le_bytes([groups[i], groups[i + 1], groups[i + 2], groups[i + 3]])
 }
 
-// The row of g, a little-endian word: a row cut short is read as far as it goes, and one past the table is 0.
-pub fn row(groups: &[u8], g: usize) -> u32
-    ensures { result ≡ row groups.now g }
+/// The row of a group, a word of which bit h is set where the group is at or below group h. A row cut short is read
+/// as far as it goes, and one past the table is 0.
+pub fn row(groups: &[u8], group: usize) -> u32
+    ensures { result ≡ row groups.now group }
 {
-    if g < row_count(groups) {
-        return whole_row(groups, g);
+    if group < row_count(groups) {
+        return whole_row(groups, group);
     }
-    if row_count(groups) < g {
+    if row_count(groups) < group {
         return 0;
     }
-    let i = ROW_WIDTH * g;
+    let i = ROW_WIDTH * group;
     u32::from_le_bytes([
         byte(groups, i),
         byte(groups, i + 1),
@@ -169,14 +179,21 @@ pub fn row(groups: &[u8], g: usize) -> u32
     ])
 }
 
-// Is bit h of a row set? Division by a power of two and remainder, with no branch: the same instructions for every row and every
-// group. A row has no bit past the last; there the remainder, which is 0 or 1, is held against more than 1.
-pub fn bit(word: u32, h: usize) -> bool
-    ensures { result ≡ bit word h }
+/// Is bit `group` of a row set? Division by a power of two and remainder, with no branch: the same instructions for
+/// every row and every group. A row has no bit past the last; there the remainder, which is 0 or 1, is held against
+/// more than 1.
+pub fn bit(word: u32, group: usize) -> bool
+    ensures { result ≡ bit word group }
 {
-    let power = 1u32 << (h % GROUP_LIMIT);
-    (word / power % 2) as usize == 1 + h / GROUP_LIMIT
+    let power = 1u32 << (group % GROUP_LIMIT);
+    (word / power % 2) as usize == 1 + group / GROUP_LIMIT
 }
+
+/// A word is made of its bits, and they are its binary digits, however they are taken.
+#[tactic(auto, using(crate::proofs::Digits::bits_of_words))]
+pub fn bits_are_digits()
+    ensures { BitsOfWords }
+{}
 
 // g ⊑ h
 fn leq(groups: &[u8], g: u8, h: u8) -> bool
@@ -198,8 +215,8 @@ fn join(groups: &[u8], g: u8, h: u8) -> u8
 
 // How many rows a search over the groups goes through: past the table they are 0. A row cut short is one of them.
 fn rows_to_search(groups: &[u8]) -> usize
-    ensures { (result ≤ group_limit)
-        × ((k : ℕ) → result ≤ k → k < group_limit → 0 ≡ row groups.now k) }
+    ensures within { result ≤ group_limit }
+    ensures zeros { (k : ℕ) → result ≤ k → k < group_limit → 0 ≡ row groups.now k }
 {
     (row_count(groups) + 1).min(GROUP_LIMIT)
 }
@@ -212,8 +229,8 @@ fn below_both(groups: &[u8], k: usize, g: u8, h: u8) -> bool
     bit(word, usize::from(g)) && bit(word, usize::from(h))
 }
 
-// g ⊓ h, the highest group ⊑ both; 0 where there is none. The groups below a group stand in its column, so this costs a pass down
-// the table, at most 32 rows, where a join costs two.
+// g ⊓ h, the highest group ⊑ both; 0 where there is none. The groups below a group stand in its column, so this costs
+// a pass down the table, at most 32 rows, where a join costs two.
 fn meet(groups: &[u8], g: u8, h: u8) -> u8
     ensures { result ≡ meet groups.now g h }
 {
@@ -225,9 +242,11 @@ fn meet(groups: &[u8], g: u8, h: u8) -> u8
     0
 }
 
-// g ⊓ by and h ⊓ also. One search serves both where they are the same, as a group and the indirect one beside it mostly are.
+// g ⊓ by and h ⊓ also. One search serves both where they are the same, as a group and the indirect one beside it
+// mostly are.
 fn meet_both(groups: &[u8], g: u8, by: u8, h: u8, also: u8) -> (u8, u8)
-    ensures { (result.0 ≡ meet groups.now g by) × (result.1 ≡ meet groups.now h also) }
+    ensures first { result.0 ≡ meet groups.now g by }
+    ensures second { result.1 ≡ meet groups.now h also }
 {
     let first = meet(groups, g, by);
     if (g == h) & (by == also) {
@@ -237,7 +256,7 @@ fn meet_both(groups: &[u8], g: u8, by: u8, h: u8, also: u8) -> (u8, u8)
 }
 
 impl Reader {
-    // r ⊔ ir: what • makes of the reader
+    /// r ⊔ ir: what • makes of the reader.
     pub fn joined(self, groups: &[u8], by: Indirect) -> Reader
         ensures { result.0 ≡ join groups.now self.0 by.0 }
     {
@@ -246,32 +265,32 @@ impl Reader {
 }
 
 impl Indirect {
-    // ir ⊑ r
-    pub fn within(self, groups: &[u8], r: Reader) -> bool
-        ensures { result ≡ leq groups.now self.0 r.0 }
+    /// ir ⊑ r.
+    pub fn within(self, groups: &[u8], reader: Reader) -> bool
+        ensures { result ≡ leq groups.now self.0 reader.0 }
     {
-        leq(groups, self.0, r.0)
+        leq(groups, self.0, reader.0)
     }
 }
 
 impl Creator {
-    // c ⊑ ic: 23's condition on a recursion's result
-    pub fn within(self, groups: &[u8], ic: IndirectCreator) -> bool
-        ensures { result ≡ leq groups.now self.0 ic.0 }
+    /// c ⊑ ic.
+    pub fn within(self, groups: &[u8], indirect: IndirectCreator) -> bool
+        ensures { result ≡ leq groups.now self.0 indirect.0 }
     {
-        leq(groups, self.0, ic.0)
+        leq(groups, self.0, indirect.0)
     }
 }
 
 impl IndirectCreator {
-    // ic ⊑ c
-    pub fn within(self, groups: &[u8], c: Creator) -> bool
-        ensures { result ≡ leq groups.now self.0 c.0 }
+    /// ic ⊑ c.
+    pub fn within(self, groups: &[u8], creator: Creator) -> bool
+        ensures { result ≡ leq groups.now self.0 creator.0 }
     {
-        leq(groups, self.0, c.0)
+        leq(groups, self.0, creator.0)
     }
 
-    // ic ⊓ r, where the readers r are who read
+    /// ic ⊓ r, where the group r reads.
     pub fn read_by(self, groups: &[u8], reader: Reader) -> IndirectCreator
         ensures { result.0 ≡ meet groups.now self.0 reader.0 }
     {
@@ -280,7 +299,7 @@ impl IndirectCreator {
 }
 
 impl Property {
-    // κ ≤ κ': creators are turned round
+    /// κ ≤ κ': is `self` at or below `property`? Readers rise with the order, and creators fall.
     pub fn at_or_below(self, groups: &[u8], property: Property) -> bool
         ensures { result ≡ (properties_of groups.now).le (said_property self) (said_property property) }
     {
@@ -290,9 +309,10 @@ impl Property {
                     && property.ic.at_or_below(groups, self.ic)))
     }
 
-    // κ ⊔ κ': the least property at or above both
+    /// κ ⊔ κ': the least property at or above both.
     pub fn join(self, groups: &[u8], property: Property) -> Property
-        ensures { said_property result ≡ (properties_of groups.now).join (said_property self) (said_property property) }
+        ensures { said_property result
+            ≡ (properties_of groups.now).join (said_property self) (said_property property) }
     {
         let r = self.r.join(groups, property.r);
         let ir = self.ir.join(groups, property.ir);
@@ -302,9 +322,10 @@ impl Property {
         Property { r, ir, c, ic }
     }
 
-    // κ ⊓ κ': the greatest property at or below both
+    /// κ ⊓ κ': the greatest property at or below both.
     pub fn meet(self, groups: &[u8], property: Property) -> Property
-        ensures { said_property result ≡ (properties_of groups.now).meet (said_property self) (said_property property) }
+        ensures { said_property result
+            ≡ (properties_of groups.now).meet (said_property self) (said_property property) }
     {
         let read = meet_both(groups, self.r.0, property.r.0, self.ir.0, property.ir.0);
         let r = Reader(read.0);
@@ -314,7 +335,7 @@ impl Property {
         Property { r, ir, c, ic }
     }
 
-    // κ • (ir, ic)
+    /// κ • (ir, ic): the property after an influence. ir is joined into r and ir, and ic met into c and ic.
     pub fn raised(self, groups: &[u8], by: Influence) -> Property
         ensures { said_property result ≡ (properties_of groups.now).raise (said_property self) (said_influence by) }
     {
@@ -326,7 +347,7 @@ impl Property {
         Property { r, ir, c, ic }
     }
 
-    // What a reading by this group leaves on its result: ir, and ic ⊓ the group.
+    /// What a reading by this group leaves on its result: ir, and ic ⊓ the group.
     pub fn influence(self, groups: &[u8], reader: Reader) -> Influence
         ensures { said_influence result ≡ (properties_of groups.now).influence (said_property self) reader.0 }
     {
@@ -335,10 +356,12 @@ impl Property {
         Influence { ir, ic }
     }
 
-    // What reckoning by this group gives of a left operand of this property and a right one: nobody's readers and the group as
-    // creators, raised by the left's influence and then by the right's. So neither operand's r and c enter.
+    /// What reckoning by this group gives of a left operand of this property and a right one: nobody's readers and
+    /// the group as creators, raised by the left's influence and then by the right's. So neither operand's r and c
+    /// enter.
     pub fn reckoned_with(self, groups: &[u8], right: Property, reader: Reader) -> Property
-        ensures { said_property result ≡ of_both (properties_of groups.now) reader.0 (said_property self) (said_property right) }
+        ensures { said_property result
+            ≡ of_both (properties_of groups.now) reader.0 (said_property self) (said_property right) }
     {
         let r = Reader(0);
         let ir = Indirect(0);
@@ -351,7 +374,8 @@ impl Property {
             .raised(groups, second)
     }
 
-    // Question 23: may a result of this property be read through a function of property `through`, called as this group?
+    /// May a result of this property be read through a function of property `through`, called as the group `caller`?
+    /// Question 23 of a recursion.
     pub fn absorbed_by(self, groups: &[u8], through: Property, caller: Reader) -> bool
         ensures { result ≡ (properties_of groups.now).absorbs (said_property through) caller.0 (said_property self) }
     {

@@ -3,8 +3,9 @@
 #![tactic(auto)]
 
 ghost use Rattle.std.specs.Prelude.{◌++◌};
-ghost use Rattle.rules.specs.Report.{decimal, refusal_line, accepted_line, run_line, printed_number, sheet_line, sheet_lines};
-ghost use Rattle.answer.specs.Numbers.{number};
+ghost use Rattle.rules.specs.Report.{decimal_digits, refusal_line, accepted_line, run_line, printed_number, sheet_line};
+ghost use Rattle.rules.specs.Report.{sheet_lines};
+ghost use Rattle.answer.specs.Numbers.{question_number};
 ghost use Rattle.memory.specs.Written.{Room, Written};
 
 use answer::Refusal;
@@ -16,18 +17,18 @@ use words::Table;
 // A word and a number.
 #[tactic(auto, using(memory::proofs::Placed::room_first, memory::proofs::Placed::room_next))]
 fn named(text: &mut Writer, word: &[u8], n: u64)
-    requires { Room (word.now ++ decimal n) text.old }
-    ensures { Written (word.now ++ decimal n) text.old text.new }
+    requires { Room (word.now ++ decimal_digits n) text.old }
+    ensures { Written (word.now ++ decimal_digits n) text.old text.new }
 {
     text.put(word);
     text::decimal(text, n);
 }
 
-// "refused 21 at 0"
+/// Writes the line of a refusal: "refused 21 at 0", the question's number and the place.
 #[tactic(auto, unfolding(rules::specs::Report::refusal_line, rules::specs::Report::text), using(memory::proofs::Placed::room_first, memory::proofs::Placed::room_next))]
 pub fn refusal_line(text: &mut Writer, refusal: Refusal)
-    requires { Room (refusal_line (number refusal.question) refusal.place) text.old }
-    ensures { Written (refusal_line (number refusal.question) refusal.place) text.old text.new }
+    requires { Room (refusal_line (question_number refusal.question) refusal.place) text.old }
+    ensures { Written (refusal_line (question_number refusal.question) refusal.place) text.old text.new }
 {
     let question = u64::from(refusal.question.number());
     named(text, b"refused ", question);
@@ -35,7 +36,7 @@ pub fn refusal_line(text: &mut Writer, refusal: Refusal)
     text.put(b"\n");
 }
 
-// "accepted 3"
+/// Writes the line of an accepted script: "accepted 3", the records of its type.
 #[tactic(auto, unfolding(rules::specs::Report::accepted_line, rules::specs::Report::text), using(memory::proofs::Placed::room_first, memory::proofs::Placed::room_next))]
 pub fn accepted_line(text: &mut Writer, records: u64)
     requires { Room (accepted_line records) text.old }
@@ -45,7 +46,7 @@ pub fn accepted_line(text: &mut Writer, records: u64)
     text.put(b"\n");
 }
 
-// "end 0 steps 2 records 2"
+/// Writes the line of a run: "end 0 steps 2 records 2", the end's number, the steps made and the last term's records.
 #[tactic(auto, unfolding(rules::specs::Report::run_line, rules::specs::Report::text), using(memory::proofs::Placed::room_first, memory::proofs::Placed::room_next))]
 pub fn run_line(text: &mut Writer, end: u64, steps: u64, records: u64)
     requires { Room (run_line end steps records) text.old }
@@ -67,7 +68,7 @@ fn printed_number(text: &mut Writer, kind: u8, number: u16)
     }
 }
 
-// "closed 0 0" or "number 0 0 7", in the words of a table
+// as: closed 0 0, or number 0 0 7, in the words of a table
 #[tactic(auto, unfolding(rules::specs::Report::sheet_line, rules::specs::Report::text), using(memory::proofs::Placed::room_first, memory::proofs::Placed::room_next))]
 fn sheet_line(text: &mut Writer, words: &Table, kind: u8, r: Reader, ir: Indirect, number: u16)
     requires { Room (sheet_line words.now kind r.0 ir.0 number) text.old }
@@ -80,7 +81,9 @@ fn sheet_line(text: &mut Writer, words: &Table, kind: u8, r: Reader, ir: Indirec
     text.put(b"\n");
 }
 
-// A line for each whole record of a sheet, in the words of a table.
+/// Writes a line for each whole record of 6 bytes of a sheet, in the words of a table: "closed 0 0" or "number 0 0
+/// 7", the kind, the readers, the indirect readers and a literal's number. Bytes past the last whole record have
+/// none.
 pub fn sheet_lines(text: &mut Writer, words: &Table, sheet: &[u8])
     requires { Room (sheet_lines words.now sheet.now) text.old }
     ensures { Written (sheet_lines words.now sheet.now) text.old text.new }

@@ -5,50 +5,53 @@
 ghost use Rattle.std.specs.Prelude.{◌≡◌, ◌++◌, ◌+◌, ◌-◌, ◌≤◌, length, take, drop, replicate};
 ghost use Rattle.memory.specs.Splice.{splice};
 
-// A piece over `to`, from byte `at` on.
-pub fn put(piece: &[u8], to: &mut [u8], at: usize)
-    requires { at + length piece.now ≤ length to.old }
-    ensures { to.new ≡ splice at piece.now to.old }
+/// Copies `piece` over `buffer`, from byte `at` on. Every other byte stays.
+pub fn put(piece: &[u8], buffer: &mut [u8], at: usize)
+    requires { at + length piece.now ≤ length buffer.old }
+    ensures { buffer.new ≡ splice at piece.now buffer.old }
 {
-    to[at..at + piece.len()].copy_from_slice(piece);
+    buffer[at..at + piece.len()].copy_from_slice(piece);
 }
 
-// A piece over the front of `to`, as far as it fits.
-pub fn put_fitting(piece: &[u8], to: &mut [u8])
-    ensures { to.new ≡ splice 0 (take (length to.old) piece.now) to.old }
+/// Copies `piece` over the front of `buffer`, as far as it fits. Every other byte stays.
+pub fn put_fitting(piece: &[u8], buffer: &mut [u8])
+    ensures { buffer.new ≡ splice 0 (take (length buffer.old) piece.now) buffer.old }
 {
-    let n = piece.len().min(to.len());
-    put(&piece[..n], to, 0);
+    let n = piece.len().min(buffer.len());
+    put(&piece[..n], buffer, 0);
 }
 
-// n bytes of w from `from` on, moved to byte `to` of it, lower or higher.
-pub fn shift(w: &mut [u8], from: usize, to: usize, n: usize)
-    requires { (from + n ≤ length w.old) × (to + n ≤ length w.old) }
-    ensures { w.new ≡ splice to (take n (drop from w.old)) w.old }
+/// Copies `count` bytes of `buffer` from byte `from` on to byte `to`, lower or higher. The two may overlap. Every
+/// other byte stays.
+pub fn shift(buffer: &mut [u8], from: usize, to: usize, count: usize)
+    requires source { from + count ≤ length buffer.old }
+    requires target { to + count ≤ length buffer.old }
+    ensures { buffer.new ≡ splice to (take count (drop from buffer.old)) buffer.old }
 {
-    w.copy_within(from..from + n, to);
+    buffer.copy_within(from..from + count, to);
 }
 
-// Zeros from byte `start` to the end of the buffer.
+/// Sets every byte of `buffer` from byte `start` on to 0. Those before it stay.
 pub fn clear_from(buffer: &mut [u8], start: usize)
     requires { start ≤ length buffer.old }
-    ensures { buffer.new ≡ take start buffer.old
-        ++ replicate (length buffer.old - start) 0 }
+    ensures { buffer.new ≡ take start buffer.old ++ replicate (length buffer.old - start) 0 }
 {
     buffer[start..].fill(0);
 }
 
-// Zeros over the whole length.
-pub fn clear(w: &mut [u8])
-    ensures { w.new ≡ replicate (length w.old) 0 }
+/// Sets every byte of `buffer` to 0.
+pub fn clear(buffer: &mut [u8])
+    ensures { buffer.new ≡ replicate (length buffer.old) 0 }
 {
-    w.fill(0);
+    buffer.fill(0);
 }
 
-// A lent buffer that is written piece after piece: the next one goes to byte `end`.
+/// A lent buffer that is written piece after piece.
 #[derive(Drop)]
 pub struct Writer<'a> {
+    /// The buffer.
     pub out: &'a mut [u8],
+    /// How many of its bytes are written: the next piece goes to this byte.
     pub end: usize,
     ghost within: { end ≤ length out.now },
 }
@@ -56,13 +59,15 @@ pub struct Writer<'a> {
 impl<'a> Writer<'a> {
     ghost use Rattle.memory.specs.Written.{Room, Written};
 
-    // Nothing is written yet.
+    /// A writer of this buffer, of which nothing is written yet.
     pub fn new(out: &'a mut [u8]) -> Self
-        ensures { (result.end ≡ 0) × (result.out ≡ out.entry) }
+        ensures empty { result.end ≡ 0 }
+        ensures lent { result.out ≡ out.entry }
     {
         Writer { out, end: 0 }
     }
 
+    /// Writes `piece` after what is written. Every other byte of the buffer stays.
     pub fn put(&mut self, piece: &[u8])
         requires { Room piece.now self.old }
         ensures { Written piece.now self.old self.new }
@@ -71,7 +76,7 @@ impl<'a> Writer<'a> {
         self.end += piece.len();
     }
 
-    // What is written, from the buffer's front on.
+    /// The bytes that are written, from the buffer's front on.
     pub fn written(&self) -> &[u8]
         ensures { result.now ≡ take self.now.end self.now.out.now }
     {

@@ -1,76 +1,40 @@
--- Two related terms that both come to values come to related ones: induction on the steps of the first run, and within on the relation.
-use mathlib.Core.Path.{◌≡◌, refl, ap, subst}
-use mathlib.Core.Bool.{Bool, true, false, So}
-use mathlib.Core.List.{[], ◌∷◌}
-use mathlib.Core.Option.{Option, some, none-ne-some}
-use Prim.Native.Nat.{ℕ, suc, zero, ◌≤◌, ◌<◌}
-use native.Mathlib.Omega.{arith}
+-- Two related terms that both come to values come to related ones: induction on the steps of the first run, and within
+-- on the relation.
+use Rattle.std.proofs.Common.{◌≡◌, refl, ap, subst, Bool, true, false, [], ◌∷◌, ℕ, suc, zero, ◌≤◌, ◌<◌, arith, IsTrue}
+use Rattle.std.proofs.Math.Option.{some, none-ne-some, Option}
 use Rattle.calculus.specs.Security.{Property, Reader, Indirect, Security, Laws}
 use Rattle.calculus.specs.Types.{number, sum, product, function, Ty, leaf, node, top, raise_t, secure_t, fits}
-use Rattle.calculus.specs.Terms.{Side, choose, Operation, Term, var, pair, inj, app, proj, case, protect, mu, reckon, is_value}
+use Rattle.calculus.specs.Terms.{Side, choose, Operation, Term, var, pair, inj, app, proj, case, protect, mu, reckon}
+use Rattle.calculus.specs.Terms.{is_value}
 use Rattle.calculus.specs.Numbers.{of_both, Reckons, a_number, a_flag}
-use Rattle.calculus.specs.Reduction.{
-  unrolled,
-  c_mu,
-  c_protect,
-  hole,
-  app_left,
-  app_right,
-  in_proj,
-  in_inj,
-  pair_left,
-  pair_right,
-  in_protect,
-  in_case,
-  reckon_left,
-  reckon_right,
-  plug,
-}
+use Rattle.calculus.specs.Reduction.{unrolled_function, c_mu, c_protect, hole, app_left, app_right, in_proj, in_inj, pair_left, pair_right, in_protect, in_case, reckon_left, reckon_right, plug}
 use Rattle.calculus.specs.Runs.{Runs}
-use Rattle.calculus.specs.Typing.{lookup, Result, HasType, t_proj, Table}
+use Rattle.calculus.specs.Typing.{lookup, TypeOfCase, HasType, t_proj, Table}
 use Rattle.calculus.proofs.Booleans.{both}
 use Rattle.calculus.proofs.Directed.{directed_subtype}
 use Rattle.calculus.proofs.Values.{raised_stands}
-use Rattle.calculus.proofs.SecureTyping.{sc_empty, sc_extend, secure_parts, top_secure, typed_secure, side_secure, table_parts}
+use Rattle.calculus.proofs.SecureTyping.{sc_empty, sc_extend, secure_parts, top_secure, typed_secure, side_secure}
+use Rattle.calculus.proofs.SecureTyping.{table_parts}
 use Rattle.calculus.proofs.Unrolling.{absorbed}
 use Rattle.noninterference.proofs.Splitting.{runs_typed, value_runs, same_end, contraction_runs, hole_first}
-use Rattle.noninterference.proofs.Related.{
-  Related,
-  q_hidden,
-  q_sub,
-  q_var,
-  q_unit,
-  q_lam,
-  q_pair,
-  q_inj,
-  q_app,
-  q_proj,
-  q_case,
-  q_protect,
-  q_mu,
-  q_literal,
-  q_reckon,
-  left_typed,
-  right_typed,
-  related_itself,
-  related_weakening,
-  related_substitution,
-}
+use Rattle.noninterference.proofs.Related.{Related, q_hidden, q_sub, q_var, q_unit, q_lam, q_pair, q_inj, q_app, q_proj}
+use Rattle.noninterference.proofs.Related.{q_case, q_protect, q_mu, q_literal, q_reckon, left_typed, right_typed}
+use Rattle.noninterference.proofs.Related.{related_itself, related_weakening, related_substitution}
 use Rattle.noninterference.proofs.Observing.{Sight, related_secure, observed}
-use Rattle.noninterference.proofs.Reading.{Contracted, apply_related, project_related, branch_related, raise_related, same_number}
+use Rattle.noninterference.proofs.Reading.{Contracted, apply_related, project_related, branch_related, raise_related}
+use Rattle.noninterference.proofs.Reading.{same_number}
 
 module _ {S : Security} {tab : ℕ → Ty} (L : Laws S) (T : Table S tab) {seen : Property → Bool} (O : Sight S seen) where
   top_raised : (t : Ty) (m : Indirect) → top (raise_t S t m) ≡ S.raise (top t) m
-  top_raised (leaf b k) m = refl
-  top_raised (node f k s t) m = refl
+  top_raised t m = grind arith
 
   -- a result that is seen was read from something that is seen
-  seen_through : (t : Ty) (k : Property) (w : Reader) → So (secure_t S t) → So (S.secure k) → So (S.permits k w)
-      → So (seen (top (raise_t S t (S.influence k w)))) → So (seen k)
+  seen_through : (t : Ty) (k : Property) (w : Reader) → IsTrue (secure_t S t) → IsTrue (S.secure k) → IsTrue (S.permits k w)
+      → IsTrue (seen (top (raise_t S t (S.influence k w)))) → IsTrue (seen k)
   seen_through t k w h g m x = O.of_read (top t) k w (top_secure S t h) g m (rw (top_raised t (S.influence k w)) at x)
 
   -- of a type that is not seen, the typing says all
-  hidden_or : (t : Ty) {v v' : Term} → HasType S tab [] v t → HasType S tab [] v' t → (So (seen (top t)) → Related S tab seen [] v v' t)
+  hidden_or : (t : Ty) {v v' : Term} → HasType S tab [] v t → HasType S tab [] v' t → (IsTrue (seen (top t)) → Related S tab seen [] v v' t)
       → Related S tab seen [] v v' t
   hidden_or t {v} {v'} p q k = go (seen (top t)) refl
     where
@@ -80,24 +44,24 @@ module _ {S : Security} {tab : ℕ → Ty} (L : Laws S) (T : Table S tab) {seen 
 
   -- the result type of a case's branches
   result_secure : {e e' a a' : Term} {s t u : Ty} {k : Property} → Related S tab seen [] e e' (node sum k s t) → Related S tab seen (s ∷ []) a a' u
-      → So (secure_t S u)
-  result_secure p q = typed_secure L T (sc_extend (secure_parts S _ _ _ _ (related_secure L T O p)).left sc_empty) (left_typed q)
+      → IsTrue (secure_t S u)
+  result_secure p q = grind (arith, typed_secure, sc_extend, secure_parts, related_secure, sc_empty, left_typed)
 
   -- what is to be shown of a pair of terms, for first runs of at most N steps
   abbrev Agree : ℕ → Term → Term → Ty → Type 0
   Agree N e e' t =
-      (n n' : ℕ) (v v' : Term) → Runs S tab n e v → So (is_value v) → Runs S tab n' e' v' → So (is_value v') → n ≤ N → Related S tab seen [] v v' t
+      (n n' : ℕ) (v v' : Term) → Runs S tab n e v → IsTrue (is_value v) → Runs S tab n' e' v' → IsTrue (is_value v') → n ≤ N → Related S tab seen [] v v' t
 
   -- and of all pairs, for first runs of fewer than N
   abbrev Shorter : ℕ → Type 0
   Shorter N =
-      (e e' v v' : Term) (t : Ty) (n n' : ℕ) → Related S tab seen [] e e' t → Runs S tab n e v → So (is_value v) → Runs S tab n' e' v'
-      → So (is_value v')
+      (e e' v v' : Term) (t : Ty) (n n' : ℕ) → Related S tab seen [] e e' t → Runs S tab n e v → IsTrue (is_value v) → Runs S tab n' e' v'
+      → IsTrue (is_value v')
       → n < N → Related S tab seen [] v v' t
 
   -- two redexes that contract to related terms
-  contracted_agree : (N : ℕ) → Shorter N → {e e' u u' : Term} {t : Ty} {n n' : ℕ} → Contracted S tab seen e e' t → Runs S tab n e u → So (is_value u)
-      → Runs S tab n' e' u' → So (is_value u') → n ≤ N → Related S tab seen [] u u' t
+  contracted_agree : (N : ℕ) → Shorter N → {e e' u u' : Term} {t : Ty} {n n' : ℕ} → Contracted S tab seen e e' t → Runs S tab n e u → IsTrue (is_value u)
+      → Runs S tab n' e' u' → IsTrue (is_value u') → n ≤ N → Related S tab seen [] u u' t
   contracted_agree N G c x vu x' vu' le =
       contraction_runs c.left_contracts x vu λ m r e.
       contraction_runs c.right_contracts x' vu' λ m' r' e'.
@@ -106,7 +70,7 @@ module _ {S : Security} {tab : ℕ → Ty} (L : Laws S) (T : Table S tab) {seen 
   -- A lemma a rule.
 
   app_agree : (N : ℕ) → Shorter N → {f a f' a' : Term} {s t : Ty} {k : Property} (w : Reader) → Related S tab seen [] f f' (node function k s t)
-      → Related S tab seen [] a a' s → So (S.permits k w) → Agree N f f' (node function k s t) → Agree N a a' s
+      → Related S tab seen [] a a' s → IsTrue (S.permits k w) → Agree N f f' (node function k s t) → Agree N a a' s
       → Agree N (app w f a) (app w f' a') (raise_t S t (S.influence k w))
   unfolding plug
   app_agree N G {f} {a} {f'} {a'} {s} {t} {k} w p q m P Q n n' u u' x vu x' vu' le =
@@ -123,7 +87,7 @@ module _ {S : Security} {tab : ℕ → Ty} (L : Laws S) (T : Table S tab) {seen 
       x2 vu x2' vu' (omega arith)
 
   proj_agree : (N : ℕ) → Shorter N → {e e' : Term} {s t : Ty} {k : Property} (d : Side) (w : Reader) → Related S tab seen [] e e' (node product k s t)
-      → So (S.permits k w) → Agree N e e' (node product k s t) → Agree N (proj d w e) (proj d w e') (raise_t S (choose d s t) (S.influence k w))
+      → IsTrue (S.permits k w) → Agree N e e' (node product k s t) → Agree N (proj d w e) (proj d w e') (raise_t S (choose d s t) (S.influence k w))
   unfolding plug
   proj_agree N G {e} {e'} {s} {t} {k} d w p m P n n' u u' x vu x' vu' le =
       let y = secure_parts S _ _ _ _ (related_secure L T O p) in
@@ -137,7 +101,7 @@ module _ {S : Security} {tab : ℕ → Ty} (L : Laws S) (T : Table S tab) {seen 
 
   case_agree : (N : ℕ) → Shorter N → {e a b e' a' b' : Term} {s t c : Ty} {k : Property} (w : Reader) (g : ℕ)
       → Related S tab seen [] e e' (node sum k s t)
-      → So (S.permits k w) → Result tab g c → So (secure_t S c) → Related S tab seen (s ∷ []) a a' c → Related S tab seen (t ∷ []) b b' c
+      → IsTrue (S.permits k w) → TypeOfCase tab g c → IsTrue (secure_t S c) → Related S tab seen (s ∷ []) a a' c → Related S tab seen (t ∷ []) b b' c
       → Agree N e e' (node sum k s t) → Agree N (case w g e a b) (case w g e' a' b') (raise_t S c (S.influence k w))
   unfolding plug
   case_agree N G {e} {a} {b} {e'} {a'} {b'} {c = c} {k = k} w g p m o hc q q' P n n' u u' x vu x' vu' le =
@@ -150,7 +114,7 @@ module _ {S : Security} {tab : ℕ → Ty} (L : Laws S) (T : Table S tab) {seen 
       (branch_related L T w g (observed L T O (P i i' v v' rv h rv' h' (omega arith)) h (seen_through c k w hc y.own m z)) y hc m h h' q q')
       x1 vu x1' vu' (omega arith)
 
-  protect_agree : (N : ℕ) {e e' : Term} {t : Ty} (m : Indirect) → So (S.secure_i m) → Related S tab seen [] e e' t → Agree N e e' t
+  protect_agree : (N : ℕ) {e e' : Term} {t : Ty} (m : Indirect) → IsTrue (S.secure_i m) → Related S tab seen [] e e' t → Agree N e e' t
       → Agree N (protect m e) (protect m e') (raise_t S t m)
   unfolding plug
   protect_agree N {e} {e'} {t} m g p P n n' u u' x vu x' vu' le =
@@ -165,7 +129,7 @@ module _ {S : Security} {tab : ℕ → Ty} (L : Laws S) (T : Table S tab) {seen 
       (raise_related L T m g y
       (observed L T O (P i i' v v' rv h rv' h' (omega arith)) h (O.of_raised (top t) m (top_secure S t y) g (rw (top_raised t m) at z))))
 
-  pair_agree : (N : ℕ) {a b a' b' : Term} {s t : Ty} (k : Property) → So (S.secure k) → So (fits (node product k s t)) → Agree N a a' s
+  pair_agree : (N : ℕ) {a b a' b' : Term} {s t : Ty} (k : Property) → IsTrue (S.secure k) → IsTrue (fits (node product k s t)) → Agree N a a' s
       → Agree N b b' t
       → Agree N (pair k a b) (pair k a' b') (node product k s t)
   unfolding plug is_value
@@ -177,7 +141,7 @@ module _ {S : Security} {tab : ℕ → Ty} (L : Laws S) (T : Table S tab) {seen 
       rw (← value_runs x2 (both ha hb), ← value_runs x2' (both ha' hb'))
       (q_pair g (P i i' va va' ra ha ra' ha' (omega arith)) (Q i2 i2' vb vb' rb hb rb' hb' (omega arith)) f)
 
-  inj_agree : (N : ℕ) {e e' : Term} {s t : Ty} {l : Property} (d : Side) (k : Property) (g : ℕ) → So (S.secure k) → tab g ≡ node sum l s t
+  inj_agree : (N : ℕ) {e e' : Term} {s t : Ty} {l : Property} (d : Side) (k : Property) (g : ℕ) → IsTrue (S.secure k) → tab g ≡ node sum l s t
       → Agree N e e' (choose d s t) → Agree N (inj d k g e) (inj d k g e') (node sum k s t)
   unfolding plug is_value
   inj_agree N {e} {e'} d k g h q P n n' u u' x vu x' vu' le =
@@ -186,9 +150,9 @@ module _ {S : Security} {tab : ℕ → Ty} (L : Laws S) (T : Table S tab) {seen 
       rw (← value_runs x1 hv, ← value_runs x1' hv') (q_inj h q (P i i' v v' r hv r' hv' (omega arith)))
 
   -- what stands for f in the two recursions
-  unrolled_related : {w : Reader} {e e' : Term} {k : Property} {s t : Ty} (i : ℕ) → tab i ≡ node function k s t → So (S.permits k (S.caller k w))
-      → So (S.absorbs k (S.caller k w) (top t)) → Related S tab seen [] (mu w i e) (mu w i e') (tab i)
-      → Related S tab seen [] (unrolled S w i k e) (unrolled S w i k e') (tab i)
+  unrolled_related : {w : Reader} {e e' : Term} {k : Property} {s t : Ty} (i : ℕ) → tab i ≡ node function k s t → IsTrue (S.permits k (S.caller k w))
+      → IsTrue (S.absorbs k (S.caller k w) (top t)) → Related S tab seen [] (mu w i e) (mu w i e') (tab i)
+      → Related S tab seen [] (unrolled_function S w i k e) (unrolled_function S w i k e') (tab i)
   unfolding lookup
   unrolled_related {w} {e} {e'} {k} {s} {t} i x m a p =
       let l : tab (suc i) ≡ s = T.left i x in
@@ -199,8 +163,8 @@ module _ {S : Security} {tab : ℕ → Ty} (L : Laws S) (T : Table S tab) {seen 
       rw x (rw l at (q_lam y.own body (rw l (rw x at (T.small i)))))
 
   mu_agree : (N : ℕ) → Shorter N → {e e' : Term} {k : Property} {s t : Ty} (w : Reader) (i : ℕ) → tab i ≡ node function k s t
-      → So (S.permits k (S.caller k w))
-      → So (S.absorbs k (S.caller k w) (top t)) → Related S tab seen (tab i ∷ []) e e' (tab i) → Agree N (mu w i e) (mu w i e') (tab i)
+      → IsTrue (S.permits k (S.caller k w))
+      → IsTrue (S.absorbs k (S.caller k w) (top t)) → Related S tab seen (tab i ∷ []) e e' (tab i) → Agree N (mu w i e) (mu w i e') (tab i)
   mu_agree N G w i o m a p n n' u u' x vu x' vu' le =
       contracted_agree N G
       (record {
@@ -213,19 +177,15 @@ module _ {S : Security} {tab : ℕ → Ty} (L : Laws S) (T : Table S tab) {seen 
       x vu x' vu' le
 
   -- a seen result of reckoning was made of seen numbers
-  both_seen : (w : Reader) (k l : Property) → So (S.secure k) → So (S.permits k w) → So (S.secure l) → So (S.permits l w)
-      → So (seen (of_both S w k l)) → So (seen k) × So (seen l)
-  both_seen w k l h m g n x =
-      let f = L.fresh_secure k w m in
-      let y = L.raise_secure (S.fresh w) (S.influence k w) f (L.influence_secure k w h m) in
-      (O.of_read (S.fresh w) k w f h m (O.of_raised _ _ y (L.influence_secure l w g n) x), O.of_read _ l w y g n x)
+  both_seen : (w : Reader) (k l : Property) → IsTrue (S.secure k) → IsTrue (S.permits k w) → IsTrue (S.secure l) → IsTrue (S.permits l w)
+      → IsTrue (seen (of_both S w k l)) → IsTrue (seen k) × IsTrue (seen l)
+  both_seen w k l h m g n x = grind arith
 
   reckons_top : {o : Operation} {k : Property} {t : Ty} → Reckons tab o k t → top t ≡ k
-  reckons_top a_number = refl
-  reckons_top (a_flag e) = refl
+  reckons_top n = grind arith
 
   reckon_agree : (N : ℕ) {a b a' b' : Term} {k l : Property} {t : Ty} (o : Operation) (w : Reader) → Related S tab seen [] a a' (leaf number k)
-      → So (S.permits k w) → Related S tab seen [] b b' (leaf number l) → So (S.permits l w) → Reckons tab o (of_both S w k l) t
+      → IsTrue (S.permits k w) → Related S tab seen [] b b' (leaf number l) → IsTrue (S.permits l w) → Reckons tab o (of_both S w k l) t
       → Agree N a a' (leaf number k) → Agree N b b' (leaf number l) → Agree N (reckon o w a b) (reckon o w a' b') t
   unfolding plug
   reckon_agree N {a} {b} {a'} {b'} {k} {l} {t} o w p m q m' y P Q n n' u u' x vu x' vu' le =
@@ -242,7 +202,7 @@ module _ {S : Security} {tab : ℕ → Ty} (L : Laws S) (T : Table S tab) {seen 
       (related_itself (runs_typed L T (left_typed r) x))
 
   -- terms that are values already
-  value_agree : (N : ℕ) {e e' : Term} {t : Ty} → So (is_value e) → So (is_value e') → Related S tab seen [] e e' t → Agree N e e' t
+  value_agree : (N : ℕ) {e e' : Term} {t : Ty} → IsTrue (is_value e) → IsTrue (is_value e') → Related S tab seen [] e e' t → Agree N e e' t
   value_agree N h h' p n n' u u' x vu x' vu' le = rw (← value_runs x h, ← value_runs x' h') p
 
   agreement : (N : ℕ) → Shorter N → {e e' : Term} {t : Ty} → Related S tab seen [] e e' t → Agree N e e' t
@@ -266,6 +226,6 @@ module _ {S : Security} {tab : ℕ → Ty} (L : Laws S) (T : Table S tab) {seen 
   all_shorter zero e e' v v' t n n' r x vx x' vx' lt = absurd (omega arith)
   all_shorter (suc N) e e' v v' t n n' r x vx x' vx' lt = agreement N (all_shorter N) r n n' v v' x vx x' vx' (omega arith)
 
-  pub related_ends : (e e' v v' : Term) (t : Ty) (n n' : ℕ) → Related S tab seen [] e e' t → Runs S tab n e v → So (is_value v) → Runs S tab n' e' v'
-      → So (is_value v') → Related S tab seen [] v v' t
+  pub related_ends : (e e' v v' : Term) (t : Ty) (n n' : ℕ) → Related S tab seen [] e e' t → Runs S tab n e v → IsTrue (is_value v) → Runs S tab n' e' v'
+      → IsTrue (is_value v') → Related S tab seen [] v v' t
   related_ends e e' v v' t n n' r x vx x' vx' = all_shorter (suc n) e e' v v' t n n' r x vx x' vx' (omega arith)

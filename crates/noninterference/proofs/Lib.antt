@@ -6,3 +6,7 @@ pub mod PlacedTerms
 pub mod Indistinguishable
 pub mod Noninterference
 pub mod Examples
+pub mod Evaluation
+pub mod Alike
+pub mod ObserverLaws
+pub mod Pairs

@@ -1,64 +1,44 @@
 -- Terms that differ only in what an observer may not see. `seen` says of which properties it sees the objects.
-use mathlib.Core.Path.{◌≡◌, refl, ap}
-use mathlib.Core.Bool.{Bool, So, not}
-use mathlib.Core.List.{List, [], ◌∷◌, ◌++◌}
-use mathlib.Core.Option.{some}
-use Prim.Native.Nat.{ℕ}
-use native.Mathlib.Omega.{arith}
-use lib.ListN.{length}
+use Rattle.std.proofs.Common.{◌≡◌, refl, ap, Bool, not, List, [], ◌∷◌, ◌++◌, ℕ, arith, length, IsTrue}
+use Rattle.std.proofs.Math.Option.{some}
 use Rattle.calculus.specs.Security.{Property, Reader, Indirect, Security}
 use Rattle.calculus.specs.Types.{one, number, sum, product, function, Ty, leaf, node, top, raise_t, secure_t, fits}
 use Rattle.calculus.specs.Subtyping.{Subtype}
-use Rattle.calculus.specs.Terms.{Side, choose, Operation, Term, var, unit, lam, pair, inj, app, proj, case, protect, mu, literal, reckon, subst}
+use Rattle.calculus.specs.Terms.{Side, choose, Operation, Term, var, unit, lam, pair, inj, app, proj, case, protect, mu}
+use Rattle.calculus.specs.Terms.{literal, reckon, substitute}
 use Rattle.calculus.specs.Numbers.{of_both, Reckons}
-use Rattle.calculus.specs.Typing.{
-  lookup,
-  Result,
-  HasType,
-  t_sub,
-  t_var,
-  t_unit,
-  t_lam,
-  t_pair,
-  t_inj,
-  t_app,
-  t_proj,
-  t_case,
-  t_protect,
-  t_mu,
-  t_literal,
-  t_reckon,
-}
+use Rattle.calculus.specs.Typing.{lookup, TypeOfCase, HasType, t_sub, t_var, t_unit, t_lam, t_pair, t_inj, t_app}
+use Rattle.calculus.specs.Typing.{t_proj, t_case, t_protect, t_mu, t_literal, t_reckon}
 use Rattle.calculus.proofs.Weakening.{lookup_longer, weakening}
 use Rattle.calculus.proofs.Substitution.{outermost_or, subst_nothing}
 
--- Table 3 for two terms at once, and one rule more: closed terms of one type that is not seen.
+-- The typing rules for two terms at once, and one rule more: closed terms of one type that is not seen.
 pub data Related (S : Security) (tab : ℕ → Ty) (seen : Property → Bool) : List Ty → Term → Term → Ty → Type 0 where
-  q_hidden : {Γ : List Ty} {e e' : Term} {t : Ty} → HasType S tab [] e t → HasType S tab [] e' t → So (not (seen (top t)))
+  q_hidden : {Γ : List Ty} {e e' : Term} {t : Ty} → HasType S tab [] e t → HasType S tab [] e' t → IsTrue (not (seen (top t)))
       → Related S tab seen Γ e e' t
-  q_sub : {Γ : List Ty} {e e' : Term} {s t : Ty} → Related S tab seen Γ e e' s → Subtype S s t → So (secure_t S t) → Related S tab seen Γ e e' t
+  q_sub : {Γ : List Ty} {e e' : Term} {s t : Ty} → Related S tab seen Γ e e' s → Subtype S s t → IsTrue (secure_t S t) → Related S tab seen Γ e e' t
   q_var : {Γ : List Ty} {n : ℕ} {t : Ty} → lookup Γ n ≡ some t → Related S tab seen Γ (var n) (var n) t
-  q_unit : {Γ : List Ty} {k : Property} → So (S.secure k) → Related S tab seen Γ (unit k) (unit k) (leaf one k)
-  q_lam : {Γ : List Ty} {k : Property} {i : ℕ} {e e' : Term} {t : Ty} → So (S.secure k) → Related S tab seen (tab i ∷ Γ) e e' t
-      → So (fits (node function k (tab i) t)) → Related S tab seen Γ (lam k i e) (lam k i e') (node function k (tab i) t)
-  q_pair : {Γ : List Ty} {k : Property} {a b a' b' : Term} {s t : Ty} → So (S.secure k) → Related S tab seen Γ a a' s → Related S tab seen Γ b b' t
-      → So (fits (node product k s t)) → Related S tab seen Γ (pair k a b) (pair k a' b') (node product k s t)
-  q_inj : {Γ : List Ty} {d : Side} {k l : Property} {i : ℕ} {e e' : Term} {s t : Ty} → So (S.secure k) → tab i ≡ node sum l s t
+  q_unit : {Γ : List Ty} {k : Property} → IsTrue (S.secure k) → Related S tab seen Γ (unit k) (unit k) (leaf one k)
+  q_lam : {Γ : List Ty} {k : Property} {i : ℕ} {e e' : Term} {t : Ty} → IsTrue (S.secure k) → Related S tab seen (tab i ∷ Γ) e e' t
+      → IsTrue (fits (node function k (tab i) t)) → Related S tab seen Γ (lam k i e) (lam k i e') (node function k (tab i) t)
+  q_pair : {Γ : List Ty} {k : Property} {a b a' b' : Term} {s t : Ty} → IsTrue (S.secure k) → Related S tab seen Γ a a' s → Related S tab seen Γ b b' t
+      → IsTrue (fits (node product k s t)) → Related S tab seen Γ (pair k a b) (pair k a' b') (node product k s t)
+  q_inj : {Γ : List Ty} {d : Side} {k l : Property} {i : ℕ} {e e' : Term} {s t : Ty} → IsTrue (S.secure k) → tab i ≡ node sum l s t
       → Related S tab seen Γ e e' (choose d s t) → Related S tab seen Γ (inj d k i e) (inj d k i e') (node sum k s t)
   q_app : {Γ : List Ty} {k : Property} {w : Reader} {f a f' a' : Term} {s t : Ty} → Related S tab seen Γ f f' (node function k s t)
-      → Related S tab seen Γ a a' s → So (S.permits k w) → Related S tab seen Γ (app w f a) (app w f' a') (raise_t S t (S.influence k w))
+      → Related S tab seen Γ a a' s → IsTrue (S.permits k w) → Related S tab seen Γ (app w f a) (app w f' a') (raise_t S t (S.influence k w))
   q_proj : {Γ : List Ty} {d : Side} {k : Property} {w : Reader} {e e' : Term} {s t : Ty} → Related S tab seen Γ e e' (node product k s t)
-      → So (S.permits k w) → Related S tab seen Γ (proj d w e) (proj d w e') (raise_t S (choose d s t) (S.influence k w))
+      → IsTrue (S.permits k w) → Related S tab seen Γ (proj d w e) (proj d w e') (raise_t S (choose d s t) (S.influence k w))
   q_case : {Γ : List Ty} {k : Property} {w : Reader} {i : ℕ} {e a b e' a' b' : Term} {s t u : Ty} → Related S tab seen Γ e e' (node sum k s t)
-      → So (S.permits k w) → Result tab i u → Related S tab seen (s ∷ Γ) a a' u → Related S tab seen (t ∷ Γ) b b' u
+      → IsTrue (S.permits k w) → TypeOfCase tab i u → Related S tab seen (s ∷ Γ) a a' u → Related S tab seen (t ∷ Γ) b b' u
       → Related S tab seen Γ (case w i e a b) (case w i e' a' b') (raise_t S u (S.influence k w))
-  q_protect : {Γ : List Ty} {m : Indirect} {e e' : Term} {t : Ty} → So (S.secure_i m) → Related S tab seen Γ e e' t
+  q_protect : {Γ : List Ty} {m : Indirect} {e e' : Term} {t : Ty} → IsTrue (S.secure_i m) → Related S tab seen Γ e e' t
       → Related S tab seen Γ (protect m e) (protect m e') (raise_t S t m)
-  q_mu : {Γ : List Ty} {w : Reader} {i : ℕ} {e e' : Term} {k : Property} {s t : Ty} → tab i ≡ node function k s t → So (S.permits k (S.caller k w))
-      → So (S.absorbs k (S.caller k w) (top t)) → Related S tab seen (tab i ∷ Γ) e e' (tab i) → Related S tab seen Γ (mu w i e) (mu w i e') (tab i)
-  q_literal : {Γ : List Ty} {k : Property} {n : ℕ} → So (S.secure k) → Related S tab seen Γ (literal k n) (literal k n) (leaf number k)
+  q_mu : {Γ : List Ty} {w : Reader} {i : ℕ} {e e' : Term} {k : Property} {s t : Ty} → tab i ≡ node function k s t → IsTrue (S.permits k (S.caller k w))
+      → IsTrue (S.absorbs k (S.caller k w) (top t)) → Related S tab seen (tab i ∷ Γ) e e' (tab i) → Related S tab seen Γ (mu w i e) (mu w i e') (tab i)
+  q_literal : {Γ : List Ty} {k : Property} {n : ℕ} → IsTrue (S.secure k) → Related S tab seen Γ (literal k n) (literal k n) (leaf number k)
   q_reckon : {Γ : List Ty} {o : Operation} {w : Reader} {a b a' b' : Term} {k l : Property} {t : Ty} → Related S tab seen Γ a a' (leaf number k)
-      → So (S.permits k w) → Related S tab seen Γ b b' (leaf number l) → So (S.permits l w) → Reckons tab o (of_both S w k l) t
+      → IsTrue (S.permits k w) → Related S tab seen Γ b b' (leaf number l) → IsTrue (S.permits l w) → Reckons tab o (of_both S w k l) t
       → Related S tab seen Γ (reckon o w a b) (reckon o w a' b') t
 
 module _ {S : Security} {tab : ℕ → Ty} {seen : Property → Bool} where
@@ -131,14 +111,14 @@ module _ {S : Security} {tab : ℕ → Ty} {seen : Property → Bool} where
   related_weakening Δ (q_reckon p m q n x) = q_reckon (related_weakening Δ p) m (related_weakening Δ q) n x
 
   related_var : {v v' : Term} {s : Ty} → Related S tab seen [] v v' s → (Δ : List Ty) (n : ℕ) {t : Ty} → lookup (Δ ++ (s ∷ [])) n ≡ some t
-      → Related S tab seen Δ (subst (length Δ) v (var n)) (subst (length Δ) v' (var n)) t
-  unfolding subst
+      → Related S tab seen Δ (substitute (length Δ) v (var n)) (substitute (length Δ) v' (var n)) t
+  unfolding substitute
   related_var r Δ n h = outermost_or Δ n h (λ e q. rw e (rw q at (related_weakening Δ r))) (λ e q. rw e (q_var q))
 
   -- in a context that equals Δ and s
   related_substitution_in : {v v' : Term} {s : Ty} → Related S tab seen [] v v' s → (Δ : List Ty) {Θ : List Ty} {e e' : Term} {t : Ty}
-      → Related S tab seen Θ e e' t → Θ ≡ Δ ++ (s ∷ []) → Related S tab seen Δ (subst (length Δ) v e) (subst (length Δ) v' e') t
-  unfolding subst
+      → Related S tab seen Θ e e' t → Θ ≡ Δ ++ (s ∷ []) → Related S tab seen Δ (substitute (length Δ) v e) (substitute (length Δ) v' e') t
+  unfolding substitute
   related_substitution_in {v} {v'} r Δ (q_hidden p q h) E =
       rw (subst_nothing (length Δ) v p (omega arith), subst_nothing (length Δ) v' q (omega arith)) (q_hidden p q h)
   related_substitution_in r Δ (q_sub p b h) E = q_sub (related_substitution_in r Δ p E) b h
@@ -159,5 +139,5 @@ module _ {S : Security} {tab : ℕ → Ty} {seen : Property → Bool} where
       q_reckon (related_substitution_in r Δ p E) m (related_substitution_in r Δ q E) n x
 
   pub related_substitution : {v v' : Term} {s : Ty} → Related S tab seen [] v v' s → (Δ : List Ty) {e e' : Term} {t : Ty}
-      → Related S tab seen (Δ ++ (s ∷ [])) e e' t → Related S tab seen Δ (subst (length Δ) v e) (subst (length Δ) v' e') t
+      → Related S tab seen (Δ ++ (s ∷ [])) e e' t → Related S tab seen Δ (substitute (length Δ) v e) (substitute (length Δ) v' e') t
   related_substitution r Δ p = related_substitution_in r Δ p refl

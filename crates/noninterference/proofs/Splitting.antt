@@ -1,9 +1,6 @@
 -- A run to a value, taken apart: first what stands in a context's hole comes to a value, then the rest.
-use mathlib.Core.Path.{◌≡◌, refl, sym, ap, ◌∙◌}
-use mathlib.Core.Bool.{false, So, false≢true}
-use mathlib.Core.List.{[]}
-use Prim.Native.Nat.{ℕ, suc, zero, ◌+◌}
-use native.Mathlib.Omega.{arith}
+use Rattle.std.proofs.Common.{◌≡◌, refl, sym, ap, ◌∙◌, false, [], ℕ, suc, zero, ◌+◌, arith, IsTrue}
+use Rattle.std.proofs.Math.Bool.{false≢true}
 use Rattle.calculus.specs.Security.{Security, Laws}
 use Rattle.calculus.specs.Types.{Ty}
 use Rattle.calculus.specs.Terms.{Term, is_value}
@@ -14,13 +11,14 @@ use Rattle.calculus.proofs.Outcomes.{moved_injective, is_moved, moved_only, unfi
 use Rattle.calculus.proofs.Values.{value_step}
 use Rattle.calculus.proofs.Contexts.{plug_step}
 use Rattle.calculus.proofs.Agreement.{contracts_reduces}
-use Rattle.calculus.proofs.Reduction.{step_value, step_reduces, reduces_step, reduction_deterministic, value_irreducible}
+use Rattle.calculus.proofs.Reduction.{step_value, step_reduces, reduces_step, reduction_deterministic}
+use Rattle.calculus.proofs.Reduction.{value_irreducible}
 use Rattle.calculus.proofs.Preservation.{preservation}
 
 -- What stands in a hole is a value, or moves and the whole with it; else the whole moves nowhere and is no value.
-hole_steps : {P : Type 0} (S : Security) (tab : ℕ → Ty) (E : Context) (e : Term) → (So (is_value e) → P)
+hole_steps : {P : Type 0} (S : Security) (tab : ℕ → Ty) (E : Context) (e : Term) → (IsTrue (is_value e) → P)
     → ((e₁ : Term) → step S tab e ≡ moved e₁ → step S tab (plug E e) ≡ moved (plug E e₁) → P)
-    → ((x : Outcome) → So (unfinished x) → is_moved x ≡ false → step S tab (plug E e) ≡ x → P) → P
+    → ((x : Outcome) → IsTrue (unfinished x) → is_moved x ≡ false → step S tab (plug E e) ≡ x → P) → P
 hole_steps {P} S tab E e f g d = go (step S tab e) refl
   where
     go : (x : Outcome) → step S tab e ≡ x → P
@@ -35,24 +33,24 @@ module _ {S : Security} {tab : ℕ → Ty} where
   runs_typed L T h (runs_on r p) = runs_typed L T (preservation L T h r) p
 
   -- a value runs nowhere
-  pub value_runs : {n : ℕ} {v u : Term} → Runs S tab n v u → So (is_value v) → v ≡ u
+  pub value_runs : {n : ℕ} {v u : Term} → Runs S tab n v u → IsTrue (is_value v) → v ≡ u
   value_runs runs_end h = refl
   value_runs (runs_on r p) h = absurd (value_irreducible S tab h r)
 
   -- two runs of one term to values end alike
-  pub same_end : {n n' : ℕ} {e u u' : Term} → Runs S tab n e u → So (is_value u) → Runs S tab n' e u' → So (is_value u') → u ≡ u'
+  pub same_end : {n n' : ℕ} {e u u' : Term} → Runs S tab n e u → IsTrue (is_value u) → Runs S tab n' e u' → IsTrue (is_value u') → u ≡ u'
   same_end runs_end h q h' = value_runs q h
   same_end (runs_on r p) h runs_end h' = absurd (value_irreducible S tab h' r)
   same_end (runs_on r p) h (runs_on r' p') h' = same_end p h (rw (reduction_deterministic S tab r' r) at p') h'
 
   -- a redex that runs to a value contracts
-  pub contraction_runs : {P : Type 0} {n : ℕ} {e e' u : Term} → Contracts S tab e e' → Runs S tab n e u → So (is_value u)
+  pub contraction_runs : {P : Type 0} {n : ℕ} {e e' u : Term} → Contracts S tab e e' → Runs S tab n e u → IsTrue (is_value u)
       → ((m : ℕ) → Runs S tab m e' u → n ≡ suc m → P) → P
   contraction_runs c runs_end h k = absurd (value_irreducible S tab h (contracts_reduces c))
   contraction_runs c (runs_on {n = n} r p) h k = k n (rw (reduction_deterministic S tab r (contracts_reduces c)) at p) refl
 
-  pub hole_first : {P : Type 0} {n : ℕ} {x u : Term} (E : Context) (e : Term) → Runs S tab n x u → x ≡ plug E e → So (is_value u)
-      → ((i j : ℕ) (v : Term) → Runs S tab i e v → So (is_value v) → Runs S tab j (plug E v) u → i + j ≡ n → P) → P
+  pub hole_first : {P : Type 0} {n : ℕ} {x u : Term} (E : Context) (e : Term) → Runs S tab n x u → x ≡ plug E e → IsTrue (is_value u)
+      → ((i j : ℕ) (v : Term) → Runs S tab i e v → IsTrue (is_value v) → Runs S tab j (plug E v) u → i + j ≡ n → P) → P
   hole_first E e (runs_end {e = x}) q h k =
       let y : step S tab (plug E e) ≡ value = value_step S tab (plug E e) (rw q at h) in
       hole_steps S tab E e

@@ -5,7 +5,7 @@ use Rattle.rules.specs.Answer.{Bytes, Answer, accepted}
 use Rattle.rules.specs.Limits.{type_width}
 use Rattle.rules.specs.Types.{encode_type}
 use Rattle.answer.specs.declared.Refusal.{Refusal}
-use Rattle.answer.specs.Said.{said}
+use Rattle.answer.specs.Said.{answer_of}
 use Rattle.answer.proofs.Passed.{returned}
 use Rattle.memory.specs.Splice.{splice}
 use Rattle.memory.proofs.Laws.{splice_front}
@@ -15,7 +15,7 @@ use Rattle.inference.proofs.Rules.{TypedAs, typed_as, refused_as}
 use Rattle.packet.specs.Checks.{SetApart, found_apart, refused_apart}
 
 module _ {o : Answer Ty} {w w' : Bytes} {x : Result ℕ Refusal} (m : Meets o 0 w x w') where
-  pub apart_refused : {e : Refusal} (r : Result (Unit {0}) Refusal) {v : Bytes} → x ≡ Err e → IsErrAnd r (λ y. y ≡ e) → SetApart o (said r) v
+  pub apart_refused : {e : Refusal} (r : Result (Unit {0}) Refusal) {v : Bytes} → x ≡ Err e → IsErrAnd r (λ y. y ≡ e) → SetApart o (answer_of r) v
   apart_refused {e} r {v} h p =
       rw (returned r p, refused_as (subst (λ (y : Result ℕ Refusal). Meets o 0 w y w') h m)) refused_apart
 

@@ -9,25 +9,26 @@ use Rattle.rules.specs.Typing.{typing}
 use Rattle.rules.specs.Calls.{types_check, own_check, script_check}
 use Rattle.rules.specs.Packet.{q39_if}
 use Rattle.rules.proofs.Asked.{and_then}
-use Rattle.demands.proofs.Answers.{accepted≢refused, go_on}
-use Rattle.demands.proofs.Checked.{script_passed}
-use Rattle.answer.specs.Numbers.{number}
-use Rattle.answer.specs.Said.{said}
+use Rattle.promises.proofs.Answers.{accepted≢refused, go_on}
+use Rattle.promises.proofs.Checked.{script_passed}
+use Rattle.answer.specs.Numbers.{question_number}
+use Rattle.answer.specs.Said.{answer_of}
 use Rattle.answer.specs.declared.Refusal.{Refusal}
 use Rattle.answer.proofs.Passed.{returned, left_by, then_asked}
 use Rattle.types.specs.Held.{Held}
 use Rattle.inference.specs.Memory.{Meets}
 use Rattle.inference.proofs.Rules.{refused_as}
-use Rattle.packet.specs.Checks.{entry_asked, from_26, from_typing, Accepted19, SetApart, found_apart, refused_apart, Typed}
+use Rattle.packet.specs.Checks.{entry_asked, from_26, from_typing, Accepted19, SetApart, found_apart, refused_apart}
+use Rattle.packet.specs.Checks.{TypesAtHand}
 use Rattle.packet.proofs.Apart.{type_found}
 
 -- a type that is set apart
-pub record Found (T : Answer Ty) (w : Bytes) : Type 0 where
+pub record TypeInFront (T : Answer Ty) (w : Bytes) : Type 0 where
   pub type : Ty
   pub is : T ≡ accepted type
   pub held : Held w type
 
-pub apart_yes : {T : Answer Ty} {a : Answer (Unit {0})} {w : Bytes} → SetApart T a w → a ≡ accepted tt → Found T w
+pub apart_yes : {T : Answer Ty} {a : Answer (Unit {0})} {w : Bytes} → SetApart T a w → a ≡ accepted tt → TypeInFront T w
 apart_yes (found_apart {s} h) e = record { type = s; is = refl; held = h }
 apart_yes refused_apart e = accepted≢refused (sym e)
 
@@ -36,8 +37,8 @@ apart_no (found_apart h) e = accepted≢refused e
 apart_no refused_apart e = cc
 
 module _ {T : Answer Ty} (f : Ty → Answer (Unit {0})) where
-  pub typing_stops : (r : Result (Unit {0}) Refusal) (e : Refusal) → IsErrAnd r (λ y. y ≡ e) → T ≡ refused (number e.question) e.place → said r ≡ ◌>>=◌ T f
-  typing_stops r e p h = ap said (returned r p) ∙ sym (ap (λ (o : Answer Ty). ◌>>=◌ o f) h)
+  pub typing_stops : (r : Result (Unit {0}) Refusal) (e : Refusal) → IsErrAnd r (λ y. y ≡ e) → T ≡ refused (question_number e.question) e.place → answer_of r ≡ ◌>>=◌ T f
+  typing_stops r e p h = ap answer_of (returned r p) ∙ sym (ap (λ (o : Answer Ty). ◌>>=◌ o f) h)
 
   pub typing_goes : {s : Ty} {a : Answer (Unit {0})} → T ≡ accepted s → a ≡ f s → a ≡ ◌>>=◌ T f
   typing_goes h k = k ∙ sym (ap (λ (o : Answer Ty). ◌>>=◌ o f) h)
@@ -58,13 +59,13 @@ module _ (g t script entry : Bytes) (group profile first scratch : ℕ) where
   abbrev whole : Answer (Unit {0})
   whole = from_typing g t script entry group profile first scratch
 
-  pub script_untyped : {x : Result (Unit {0}) Refusal} {w : Bytes} {e : Refusal} (r : Result (Unit {0}) Refusal) → SetApart script_typing (said x) w → x ≡ Err e
-      → IsErrAnd r (λ y. y ≡ e) → said r ≡ whole
+  pub script_untyped : {x : Result (Unit {0}) Refusal} {w : Bytes} {e : Refusal} (r : Result (Unit {0}) Refusal) → SetApart script_typing (answer_of x) w → x ≡ Err e
+      → IsErrAnd r (λ y. y ≡ e) → answer_of r ≡ whole
   unfolding from_typing
-  script_untyped {e = e} r h i p = typing_stops after_script r e p (apart_no h (ap said i))
+  script_untyped {e = e} r h i p = typing_stops after_script r e p (apart_no h (ap answer_of i))
 
-  pub entry_refused : {w : Bytes} (e : Refusal) (r : Result (Unit {0}) Refusal) → Found script_typing w → said {A = Unit {0}} (Err e) ≡ entry_asked g t entry profile
-      → IsErrAnd r (λ y. y ≡ e) → said r ≡ whole
+  pub entry_refused : {w : Bytes} (e : Refusal) (r : Result (Unit {0}) Refusal) → TypeInFront script_typing w → answer_of {A = Unit {0}} (Err e) ≡ entry_asked g t entry profile
+      → IsErrAnd r (λ y. y ≡ e) → answer_of r ≡ whole
   unfolding from_typing
   entry_refused e r F h p = typing_goes after_script F.is (left_by (entry_asked g t entry profile) (after_entry F.type) r e h p)
 
@@ -73,8 +74,8 @@ module _ (g t script entry : Bytes) (group profile first scratch : ℕ) where
   unfolding entry_asked script_check
   entry_passed T h = go_on T (and_then (own_check [] g t entry) (q39_if profile entry) (sym h)).0
 
-  pub entry_untyped : {w v v' : Bytes} {x : Result ℕ Refusal} {e : Refusal} (r : Result (Unit {0}) Refusal) → Found script_typing w
-      → accepted tt ≡ entry_asked g t entry profile → Meets entry_typing 0 v x v' → x ≡ Err e → IsErrAnd r (λ y. y ≡ e) → said r ≡ whole
+  pub entry_untyped : {w v v' : Bytes} {x : Result ℕ Refusal} {e : Refusal} (r : Result (Unit {0}) Refusal) → TypeInFront script_typing w
+      → accepted tt ≡ entry_asked g t entry profile → Meets entry_typing 0 v x v' → x ≡ Err e → IsErrAnd r (λ y. y ≡ e) → answer_of r ≡ whole
   unfolding from_typing
   entry_untyped {v = v} {v' = v'} {e = e} r F h m i p =
       typing_goes after_script F.is
@@ -82,7 +83,7 @@ module _ (g t script entry : Bytes) (group profile first scratch : ℕ) where
       (typing_stops (λ u. from_26 g script entry group first scratch F.type u) r e p
       (refused_as (subst (λ (y : Result ℕ Refusal). Meets entry_typing 0 v y v') i m))))
 
-  pub goes_on : {w : Bytes} {u : Ty} {a : Answer (Unit {0})} (F : Found script_typing w) → accepted tt ≡ entry_asked g t entry profile → entry_typing ≡ accepted u
+  pub goes_on : {w : Bytes} {u : Ty} {a : Answer (Unit {0})} (F : TypeInFront script_typing w) → accepted tt ≡ entry_asked g t entry profile → entry_typing ≡ accepted u
       → a ≡ from_26 g script entry group first scratch F.type u → a ≡ whole
   unfolding from_typing
   goes_on F h k l =
@@ -93,8 +94,8 @@ module _ (g t script entry : Bytes) (group profile first scratch : ℕ) where
   pub tables_passed : Accepted19 g t script → types_check g t ≡ accepted tt
   tables_passed A = (script_passed [] g t script A.script A.passed).types
 
-  abbrev pub typed_of : {w v v' : Bytes} {x : Result ℕ Refusal} {n : ℕ} → Accepted19 g t script → Octets entry → Found script_typing w → accepted tt ≡ entry_asked g t entry profile
-      → Meets entry_typing 0 v x v' → x ≡ Ok n → Typed g t script entry w v'
+  abbrev pub typed_of : {w v v' : Bytes} {x : Result ℕ Refusal} {n : ℕ} → Accepted19 g t script → Octets entry → TypeInFront script_typing w → accepted tt ≡ entry_asked g t entry profile
+      → Meets entry_typing 0 v x v' → x ≡ Ok n → TypesAtHand g t script entry w v'
   typed_of A E F h m i =
       record {
         script_passed = A;

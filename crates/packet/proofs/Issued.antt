@@ -1,5 +1,6 @@
 -- The whole call, by what ends it.
-use Rattle.std.proofs.Common.{◌≡◌, refl, sym, ap, ◌∙◌, [], ◌∷◌, ℕ, ◌-◌, ◌*◌, ◌≤◌, ◌<◌, min, leb, leb-true, arith, length, take, take_at, length-append, Result, Err}
+use Rattle.std.proofs.Common.{◌≡◌, refl, sym, ap, ◌∙◌, [], ◌∷◌, ℕ, ◌-◌, ◌*◌, ◌≤◌, ◌<◌, min, nat_le, leb-true, arith}
+use Rattle.std.proofs.Common.{length, take, take_at, length-append, Result, Err}
 use Rattle.calculus.specs.Types.{Ty}
 use Rattle.rules.specs.Answer.{Bytes, Octets, Answer, accepted, refused, ◌>>=◌, ◌>>◌}
 use Rattle.rules.specs.Limits.{script_width, work_length}
@@ -9,21 +10,23 @@ use Rattle.rules.specs.Script.{records, encode, term, q13}
 use Rattle.rules.specs.Typing.{q21, typing}
 use Rattle.rules.specs.Run.{Ran, run}
 use Rattle.rules.specs.Calls.{zeros, q25, q26, own_check, script_check, first_after, scratch_after}
-use Rattle.rules.specs.Packet.{application, q1_work, q39_if, q37, q38, q18_whole, before_typing, application_check, desk_check, desk_run, Packet as Paged, issued, issuing, packet_report, desk_work_after, packet_page_after}
+use Rattle.rules.specs.Packet.{application, q1_work, q39_if, q37, q38, q18_whole, before_typing, application_check}
+use Rattle.rules.specs.Packet.{desk_check, desk_run, Packet as Paged, packet_of_run, packet_call, packet_report}
+use Rattle.rules.specs.Packet.{desk_work_after, packet_page_after}
 use Rattle.rules.proofs.Asked.{ask_true, and_then, regroup}
-use Rattle.demands.specs.Packet.{PacketByHand}
-use Rattle.demands.proofs.Checked.{script_passed}
-use Rattle.demands.proofs.SecondDemand.{goes}
-use Rattle.demands.proofs.PacketQuestions.{issuing_is}
-use Rattle.demands.proofs.Packet.{packet_by_hand, Ready, ready}
-use Rattle.answer.specs.Numbers.{number}
+use Rattle.promises.specs.Packet.{PacketByHand}
+use Rattle.promises.proofs.Checked.{script_passed}
+use Rattle.promises.proofs.AcceptedByTheRules.{goes}
+use Rattle.promises.proofs.PacketQuestions.{issuing_is}
+use Rattle.promises.proofs.Packet.{packet_by_hand, RunnableApplication, ready}
+use Rattle.answer.specs.Numbers.{question_number}
 use Rattle.answer.specs.declared.Refusal.{Refusal}
 use Rattle.substitution.proofs.Reading.{term_length}
-use Rattle.evaluation.specs.Runs.{Ends}
+use Rattle.evaluation.specs.Runs.{ReportsRun}
 use Rattle.evaluation.specs.declared.Halt.{Halt}
 use Rattle.packet.specs.Checks.{entry_asked, call_check, size_check, from_26, from_typing, Accepted19}
 use Rattle.packet.specs.Reports.{said_packet}
-use Rattle.packet.specs.Runs.{Runnable, Ended}
+use Rattle.packet.specs.Runs.{Runnable, LeftByRun}
 use Rattle.packet.specs.declared.Packet.{Packet}
 use Rattle.packet.proofs.Passing.{whole_of}
 use Rattle.packet.proofs.Sizes.{whole_length}
@@ -71,7 +74,7 @@ module _ (g t script entry : Bytes) (G : Octets g) (O : Octets script) (E : Octe
   ran = desk_run g t script entry group budget profile (length work) (length first) (length scratch)
 
   abbrev packet : Answer Paged
-  packet = issuing g t script entry group budget profile (length work) (length first) (length scratch) (length sheet)
+  packet = packet_call g t script entry group budget profile (length work) (length first) (length scratch) (length sheet)
 
   abbrev pub Says : Result Packet Refusal → Bytes → Bytes → Bytes → Bytes → Type 0
   Says r work' first' scratch' sheet' =
@@ -86,17 +89,17 @@ module _ (g t script entry : Bytes) (G : Octets g) (O : Octets script) (E : Octe
   by_hand = packet_by_hand g t script entry group budget profile (length work) first scratch (length sheet) G O E
 
   -- a refusal before the run
-  stops : (e : Refusal) {r : Result Packet Refusal} {work' : Bytes} → desk_check g t script entry group profile (length work) (length first) (length scratch) ≡ refused (number e.question) e.place
+  stops : (e : Refusal) {r : Result Packet Refusal} {work' : Bytes} → desk_check g t script entry group profile (length work) (length first) (length scratch) ≡ refused (question_number e.question) e.place
       → r ≡ Err e → work' ≡ desk_work_after begun work → Says r work' first scratch sheet
-  unfolding desk_run issuing packet_report
+  unfolding desk_run packet_call packet_report
   stops e h i k = rw (i, h) (refl, k, refl, refl, refl, by_hand)
 
-  pub refused_early : (e : Refusal) {r : Result Packet Refusal} → refused (number e.question) e.place ≡ begun → r ≡ Err e → Says r work first scratch sheet
+  pub refused_early : (e : Refusal) {r : Result Packet Refusal} → refused (question_number e.question) e.place ≡ begun → r ≡ Err e → Says r work first scratch sheet
   refused_early e h i =
       stops e (pieces g t script entry group profile (length work) (length first) (length scratch) ∙ ap (λ (m : Answer (Unit {0})). ◌>>◌ m later) (sym h)) i
       (ap (λ (m : Answer (Unit {0})). desk_work_after m work) h)
 
-  pub refused_later : (e : Refusal) {r : Result Packet Refusal} {work' : Bytes} → accepted tt ≡ begun → refused (number e.question) e.place ≡ later → r ≡ Err e
+  pub refused_later : (e : Refusal) {r : Result Packet Refusal} {work' : Bytes} → accepted tt ≡ begun → refused (question_number e.question) e.place ≡ later → r ≡ Err e
       → work' ≡ zeros (length work) → Says r work' first scratch sheet
   refused_later e b h i k =
       stops e (pieces g t script entry group profile (length work) (length first) (length scratch) ∙ goes begun later (sym b) ∙ sym h) i
@@ -108,7 +111,7 @@ module _ (g t script entry : Bytes) (G : Octets g) (O : Octets script) (E : Octe
   begun_well b =
       let p = and_then (q1_work (length work)) _ (sym b) in
       let q = and_then (script_check [] g t script) (q39_if profile script) p.1 in
-      (record { groups = G; script = O; passed = q.0 }, leb-true work_length (length work) (ask_true 1 0 (leb work_length (length work)) p.0))
+      (record { groups = G; script = O; passed = q.0 }, leb-true work_length (length work) (ask_true 1 0 (nat_le work_length (length work)) p.0))
 
   module _ (b : accepted tt ≡ begun) (l : accepted tt ≡ later) where
     asked : desk_check g t script entry group profile (length work) (length first) (length scratch) ≡ accepted tt
@@ -117,7 +120,7 @@ module _ (g t script entry : Bytes) (G : Octets g) (O : Octets script) (E : Octe
     abbrev started : Ran
     started = run (properties_of g) (type_at t) (min (length first) (length scratch)) budget (term (application group script entry))
 
-    pub whole_ready : Ready g t script entry group budget profile (length work) (length first) (length scratch) started
+    pub whole_ready : RunnableApplication g t script entry group budget profile (length work) (length first) (length scratch) started
     whole_ready = ready g t script entry G O E group budget profile (length work) (length first) (length scratch) asked
 
     pub narrow : group < 256
@@ -144,9 +147,9 @@ module _ (g t script entry : Bytes) (G : Octets g) (O : Octets script) (E : Octe
             omega
             (arith, length-append script entry, whole_length (whole_of g t script (begun_well b).0), ap length W.encoded, term_length (term (application group script entry)))
 
-    module _ {halt : Halt} {first' scratch' : Bytes} (q : Ends started first scratch halt first' scratch') (l' : length first' ≡ length first) where
+    module _ {halt : Halt} {first' scratch' : Bytes} (q : ReportsRun started first scratch halt first' scratch') (l' : length first' ≡ length first) where
       -- and what it leaves
-      abbrev pub ended : Ended g t group halt first'
+      abbrev pub ended : LeftByRun g t group halt first'
       ended =
           record {
             ran = started;
@@ -158,7 +161,7 @@ module _ (g t script entry : Bytes) (G : Octets g) (O : Octets script) (E : Octe
           }
 
       pub says : (r : Result Packet Refusal) {work' sheet' : Bytes} → work' ≡ zeros (length work)
-          → (said_packet r ≡ packet_report (issued g group (length sheet) started)) × (sheet' ≡ packet_page_after (issued g group (length sheet) started) sheet)
+          → (said_packet r ≡ packet_report (packet_of_run g group (length sheet) started)) × (sheet' ≡ packet_page_after (packet_of_run g group (length sheet) started) sheet)
           → Says r work' first' scratch' sheet'
       says r k p =
           let i = issuing_is g t script entry group budget profile (length work) (length first) (length scratch) (length sheet) ∙ goes (desk_check g t script entry group profile (length work) (length first) (length scratch)) _ asked in (

@@ -11,7 +11,7 @@ use Rattle.rules.specs.Calls.{zeros, first_after}
 use Rattle.rules.specs.Packet.{application}
 use Rattle.memory.specs.Splice.{splice}
 use Rattle.reduction.specs.Steps.{Startable}
-use Rattle.evaluation.specs.Runs.{front, Loaded, Told, Ends}
+use Rattle.evaluation.specs.Runs.{front_term, Loaded, Told, ReportsRun}
 use Rattle.evaluation.specs.declared.Halt.{Halt}
 use Rattle.evaluation.proofs.Buffers.{copied_script, loaded}
 use Rattle.packet.specs.Runs.{Runnable}
@@ -33,14 +33,14 @@ module _ {g t s e : Bytes} {group first scratch : ℕ} (q : Runnable g t s e gro
     pub run_loaded : (room : ℕ) → length whole ≤ room → Loaded g t a' n room
     run_loaded room l = transport (λ (k : ℕ). Loaded g t a' k room) counted (loaded whole a a' start h room l)
 
-    pub run_front : front a' n ≡ term whole
-    run_front = ap (front a') (sym counted) ∙ ap term (copied_script whole a a' start h)
+    pub run_front : front_term a' n ≡ term whole
+    run_front = ap (front_term a') (sym counted) ∙ ap term (copied_script whole a a' start h)
 
 -- a run that is the same in buffers of the same lengths
 module _ (g t : Bytes) (budget : ℕ) (first first₁ scratch first' scratch' : Bytes) (a : Halt) (e e' : Term) where
   pub same_ends : length first₁ ≡ length first → e ≡ e'
-      → Ends (run (properties_of g) (type_at t) (min (length first₁) (length scratch)) budget e) first₁ scratch a first' scratch'
-      → Ends (run (properties_of g) (type_at t) (min (length first) (length scratch)) budget e') first scratch a first' scratch'
+      → ReportsRun (run (properties_of g) (type_at t) (min (length first₁) (length scratch)) budget e) first₁ scratch a first' scratch'
+      → ReportsRun (run (properties_of g) (type_at t) (min (length first) (length scratch)) budget e') first scratch a first' scratch'
   same_ends l m q =
       let z : run (properties_of g) (type_at t) (min (length first₁) (length scratch)) budget e ≡ run (properties_of g) (type_at t) (min (length first) (length scratch)) budget e' =
       ap (λ (n : ℕ). run (properties_of g) (type_at t) (min n (length scratch)) budget e) l

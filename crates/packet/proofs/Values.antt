@@ -13,9 +13,7 @@ use Rattle.redex.proofs.Searches.{finds_step, found_value}
 
 abbrev is_end : Outcome → Bool
 is_end value = true
-is_end (moved e) = false
-is_end denied = false
-is_end stuck = false
+is_end _ = false
 
 -- what steps otherwise than a value is none
 other_step : (S : Security) (tab : ℕ → Ty) (e : Term) (o : Outcome) → step S tab e ≡ o → is_end o ≡ false → is_value e ≡ false

@@ -12,15 +12,13 @@ use Rattle.rules.specs.Typing.{q21, typing}
 use Rattle.rules.specs.Calls.{q25, q26, own_check, script_check}
 use Rattle.rules.specs.Packet.{application, q39_if, q37, q38, q18_whole}
 use Rattle.redex.specs.declared.Found.{Found}
-use Rattle.redex.specs.declared.Found.TheVariants.{Value, Redex, Denied, Stuck}
+use Rattle.redex.specs.declared.Found.TheVariants.{Value}
 use Rattle.types.specs.Held.{Held}
 
 -- is it a value that the search for the redex comes to?
 abbrev pub says_value : Found → Bool
 says_value (Value end) = true
-says_value (Redex place around) = false
-says_value Denied = false
-says_value Stuck = false
+says_value _ = false
 
 -- the entry's 13 to 19 and 39
 unfoldable pub entry_asked : Bytes → Bytes → Bytes → ℕ → Answer (Unit {0})
@@ -69,7 +67,7 @@ pub record Accepted19 (g t s : Bytes) : Type 0 where
   pub passed : script_check [] g t s ≡ accepted tt
 
 -- A script that is a whole term within the limits.
-pub record Whole (s : Bytes) : Type 0 where
+pub record WholeTerm (s : Bytes) : Type 0 where
   pub encoded : encode (term s) ≡ s
   pub small : size (term s) ≤ script_limit
   pub shallow : depth (term s) ≤ depth_limit
@@ -80,7 +78,7 @@ pub data SetApart : Answer Ty → Answer (Unit {0}) → Bytes → Type 0 where
   refused_apart : {q p : ℕ} {w : Bytes} → SetApart (refused q p) (refused q p) w
 
 -- Script and entry have passed 2 to 19, and their types are at hand.
-pub record Typed (g t script entry s u : Bytes) : Type 0 where
+pub record TypesAtHand (g t script entry s u : Bytes) : Type 0 where
   pub script_passed : Accepted19 g t script
   pub entry_passed : Accepted19 g t entry
   pub script_type : Ty

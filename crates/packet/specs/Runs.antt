@@ -3,7 +3,7 @@ use Rattle.std.specs.Prelude.{◌≡◌, [], ℕ, ◌*◌, ◌≤◌, length, ta
 use Rattle.rules.specs.Answer.{Bytes, Octets, accepted, ◌>>◌}
 use Rattle.rules.specs.Limits.{script_width}
 use Rattle.rules.specs.Script.{encode, records}
-use Rattle.rules.specs.Calls.{q27, script_check, sheeting}
+use Rattle.rules.specs.Calls.{q27, script_check, sheet_call}
 use Rattle.rules.specs.Run.{Ran}
 use Rattle.rules.specs.Sheet.{sheet}
 use Rattle.rules.specs.Packet.{application}
@@ -21,10 +21,11 @@ pub record Runnable (g t script entry : Bytes) (group first scratch : ℕ) : Typ
   pub in_scratch : length (application group script entry) ≤ scratch
 
 -- What a run has left: it is told, its last term stands at the front, and of that the sheet's call asks nothing but 27.
-pub record Ended (g t : Bytes) (group : ℕ) (halt : Halt) (first : Bytes) : Type 0 where
+pub record LeftByRun (g t : Bytes) (group : ℕ) (halt : Halt) (first : Bytes) : Type 0 where
   pub ran : Ran
   pub told : Told ran halt
   pub fits : script_width * halt.records ≤ length first
   pub holds : take (script_width * halt.records) first ≡ encode ran.last
   pub shows : ran.end ≡ 0 → (room : ℕ)
-      → sheeting g t (encode ran.last) group room ≡ ◌>>◌ (q27 (sheet g group ran.last) room) (accepted (sheet g group ran.last))
+      → sheet_call g t (encode ran.last) group room
+      ≡ ◌>>◌ (q27 (sheet g group ran.last) room) (accepted (sheet g group ran.last))

@@ -2,7 +2,7 @@
 
 #![tactic(auto)]
 
-ghost use Rattle.std.specs.Prelude.{◌≡◌, [], ◌∷◌, ℕ, ◌+◌, ◌≤◌, min, eqb, length};
+ghost use Rattle.std.specs.Prelude.{◌≡◌, [], ◌∷◌, ℕ, ◌+◌, ◌≤◌, min, nat_eq, length};
 ghost use Rattle.calculus.specs.Types.{Ty};
 ghost use Rattle.rules.specs.Answer.{accepted};
 ghost use Rattle.rules.specs.Limits.{work_length, answer_length};
@@ -11,17 +11,19 @@ ghost use Rattle.rules.specs.Types.{type_at};
 ghost use Rattle.rules.specs.Script.{records, term, depth, q13};
 ghost use Rattle.rules.specs.Typing.{q21, typing};
 ghost use Rattle.rules.specs.Run.{run};
-ghost use Rattle.rules.specs.Calls.{q25, q26, first_after, scratch_after};
-ghost use Rattle.rules.specs.Packet.{application, q1_work, q39_if, q37, q38, q18_whole, before_typing, desk_run, issued, issuing, packet_report, desk_work_after, packet_page_after};
-ghost use Rattle.demands.specs.Packet.{PacketByHand};
-ghost use Rattle.answer.specs.Said.{said};
+ghost use Rattle.rules.specs.Calls.{q25, q26};
+ghost use Rattle.rules.specs.Packet.{application, q1_work, q39_if, q37, q38, q18_whole, before_typing, packet_of_run, packet_call};
+ghost use Rattle.rules.specs.Packet.{packet_report, packet_page_after};
+ghost use Rattle.promises.specs.Packet.{PacketByHand};
+ghost use Rattle.answer.specs.Said.{answer_of};
 ghost use Rattle.types.specs.Held.{Held, Starts};
 ghost use Rattle.memory.specs.Splice.{splice};
-ghost use Rattle.reduction.specs.Steps.{end_number};
-ghost use Rattle.evaluation.specs.Runs.{Ends};
-ghost use Rattle.packet.specs.Reports.{said_packet};
-ghost use Rattle.packet.specs.Checks.{says_value, entry_asked, call_check, size_check, from_26, from_typing, Accepted19, Whole, SetApart, Typed};
-ghost use Rattle.packet.specs.Runs.{Runnable, Ended};
+ghost use Rattle.reduction.specs.Steps.{reported_end};
+ghost use Rattle.evaluation.specs.Runs.{ReportsRun};
+ghost use Rattle.packet.specs.Reports.{said_packet, LeavesPacket};
+ghost use Rattle.packet.specs.Checks.{says_value, entry_asked, call_check, size_check, from_26, from_typing};
+ghost use Rattle.packet.specs.Checks.{Accepted19, WholeTerm, SetApart, TypesAtHand};
+ghost use Rattle.packet.specs.Runs.{Runnable, LeftByRun};
 
 use answer::{Checked, Question, Refusal};
 use evaluation::Halt;
@@ -36,26 +38,28 @@ use script::SCRIPT_LIMIT;
 use types::TYPE_WIDTH;
 use typing::WORK_LENGTH;
 
-// How the run of an application ended and after how many steps, and a number of records: the sheet's where it ended with a value, and
-// else the last term's.
+/// A packet: how the run of the application of a script to an entry ended, with its sheet where it ended with a value.
 #[derive(Clone, Copy, Debug, PartialEq, Eq)]
 pub struct Packet {
+    /// Why no step moves the last term, or nothing where the budget is spent on a term that is no value.
     pub stop: Option<Stop>,
+    /// The steps made, at most the budget.
     pub steps: u64,
+    /// The records of the sheet where the run ended with a value, and else those of the last term.
     pub records: usize,
 }
 
 // 1. Is the work buffer long enough? There is no answer buffer.
-fn question_1(work: &[u8]) -> Checked
-    ensures { said result ≡ q1_work (length work.now) }
+fn ask_buffer_length(work: &[u8]) -> Checked
+    ensures { answer_of result ≡ q1_work (length work.now) }
 {
     answer::ask(Question::BufferLengths, 0, WORK_LENGTH <= work.len())
 }
 
 // 39, under any profile but 0.
 #[tactic(auto, unfolding(rules::specs::Packet::q39_if))]
-fn question_39(script: &[u8], profile: u64) -> Checked
-    ensures { said result ≡ q39_if profile script.now }
+fn ask_profile(script: &[u8], profile: u64) -> Checked
+    ensures { answer_of result ≡ q39_if profile script.now }
 {
     if profile == 0 {
         return Ok(());
@@ -66,9 +70,9 @@ fn question_39(script: &[u8], profile: u64) -> Checked
 // The questions before the script's typing.
 #[tactic(auto, using(answer::proofs::Passed::then_asked, answer::proofs::Passed::stopped), unfolding(rules::specs::Packet::before_typing))]
 fn before_typing(groups: &[u8], types: &[u8], script: &[u8], profile: u64, work: &[u8]) -> Checked
-    ensures { said result ≡ before_typing groups.now types.now script.now profile (length work.now) }
+    ensures { answer_of result ≡ before_typing groups.now types.now script.now profile (length work.now) }
 {
-    let long = question_1(work);
+    let long = ask_buffer_length(work);
     let Ok(()) = long else {
         return long;
     };
@@ -76,7 +80,7 @@ fn before_typing(groups: &[u8], types: &[u8], script: &[u8], profile: u64, work:
     let Ok(()) = passed else {
         return passed;
     };
-    question_39(script, profile)
+    ask_profile(script, profile)
 }
 
 // Questions 20 to 24 and 31 of a script, whose type is set apart: it outlives the typing of another.
@@ -87,8 +91,11 @@ fn type_apart(
     work: &mut [u8],
     apart: &mut [u8],
 ) -> Checked
-    requires { Accepted19 groups.now types.now script.now × (work_length ≤ length work.old) × (answer_length ≤ length apart.old) }
-    ensures { SetApart (typing (properties_of groups.now) (type_at types.now) [] 0 (term script.now)) (said result) apart.new }
+    requires accepted { Accepted19 groups.now types.now script.now }
+    requires work { work_length ≤ length work.old }
+    requires apart { answer_length ≤ length apart.old }
+    ensures { SetApart (typing (properties_of groups.now) (type_at types.now) [] 0 (term script.now)) (answer_of result)
+        apart.new }
 {
     let n = typing::type_script(groups, types, script, work)?;
     memory::put(&work[..TYPE_WIDTH * n], apart, 0);
@@ -98,13 +105,13 @@ fn type_apart(
 // The entry's 13 to 19 and 39. The tables have passed 2 to 12 with the script.
 #[tactic(auto, using(answer::proofs::Passed::then_asked, answer::proofs::Passed::stopped), unfolding(crate::specs::Checks::entry_asked))]
 fn entry_check(groups: &[u8], types: &[u8], entry: &[u8], profile: u64) -> Checked
-    ensures { said result ≡ entry_asked groups.now types.now entry.now profile }
+    ensures { answer_of result ≡ entry_asked groups.now types.now entry.now profile }
 {
     let passed = syntax::own_check(groups, types, entry, &[]);
     let Ok(()) = passed else {
         return passed;
     };
-    question_39(entry, profile)
+    ask_profile(entry, profile)
 }
 
 // Is a value found, and no redex or what is in its way?
@@ -118,17 +125,17 @@ fn is_value(found: Found) -> bool
 }
 
 // 26. Is the entry a value?
-fn question_26(groups: &[u8], types: &[u8], entry: &[u8]) -> Checked
+fn ask_value(groups: &[u8], types: &[u8], entry: &[u8]) -> Checked
     requires { Accepted19 groups.now types.now entry.now }
-    ensures { said result ≡ q26 (term entry.now) }
+    ensures { answer_of result ≡ q26 (term entry.now) }
 {
     let found = redex::find(groups, types, entry, 0, 0);
     answer::ask(Question::Value, 0, is_value(found))
 }
 
 // 25. Is the group in the table? It is compared as it comes, before it is narrowed.
-fn question_25(groups: &[u8], group: u64) -> Checked
-    ensures { said result ≡ q25 0 group (rows groups.now) }
+fn ask_given(groups: &[u8], group: u64) -> Checked
+    ensures { answer_of result ≡ q25 0 group (rows groups.now) }
 {
     answer::ask(
         Question::Given,
@@ -138,28 +145,29 @@ fn question_25(groups: &[u8], group: u64) -> Checked
 }
 
 // 37. Is the script's type a function?
-fn question_37(script_type: &[u8]) -> Checked
+fn ask_applied(script_type: &[u8]) -> Checked
     requires { Starts script_type.now }
-    ensures { (s : Ty) → Held script_type.now s → said result ≡ q37 s }
+    ensures { (s : Ty) → Held script_type.now s → answer_of result ≡ q37 s }
 {
     let is_function = types::kind_of(script_type) == types::Kind::Function;
     answer::ask(Question::Applied, 0, is_function)
 }
 
 // 21. May this group apply it?
-fn question_21(groups: &[u8], script_type: &[u8], group: Reader) -> Checked
+fn ask_reader(groups: &[u8], script_type: &[u8], group: Reader) -> Checked
     requires { Starts script_type.now }
-    ensures { (s : Ty) → Held script_type.now s → said result ≡ q21 (properties_of groups.now) 0 s group.0 }
+    ensures { (s : Ty) → Held script_type.now s → answer_of result ≡ q21 (properties_of groups.now) 0 s group.0 }
 {
     let may = types::reader(script_type).at_or_below(groups, group);
     answer::ask(Question::Reader, 0, may)
 }
 
 // 38. Is the entry's type at or below the left side of the script's?
-fn question_38(groups: &[u8], entry_type: &[u8], script_type: &[u8]) -> Checked
-    requires { Starts entry_type.now × ((s : Ty) × Held script_type.now s × (q37 s ≡ accepted tt)) }
+fn ask_entry(groups: &[u8], entry_type: &[u8], script_type: &[u8]) -> Checked
+    requires entry_type { Starts entry_type.now }
+    requires function { (s : Ty) × Held script_type.now s × (q37 s ≡ accepted tt) }
     ensures { (u s : Ty) → Held entry_type.now u → Held script_type.now s → q37 s ≡ accepted tt
-        → said result ≡ q38 (properties_of groups.now) u s }
+        → answer_of result ≡ q38 (properties_of groups.now) u s }
 {
     let wanted = types::left_side(script_type);
     let fits = subtyping::is_subtype(groups, entry_type, wanted);
@@ -168,19 +176,20 @@ fn question_38(groups: &[u8], entry_type: &[u8], script_type: &[u8]) -> Checked
 
 // 37, 21 and 38, in this order.
 fn call_check(groups: &[u8], script_type: &[u8], entry_type: &[u8], group: Reader) -> Checked
-    requires { Starts script_type.now × Starts entry_type.now }
+    requires script_type { Starts script_type.now }
+    requires entry_type { Starts entry_type.now }
     ensures { (s u : Ty) → Held script_type.now s → Held entry_type.now u
-        → said result ≡ call_check groups.now group.0 s u }
+        → answer_of result ≡ call_check groups.now group.0 s u }
 {
-    let function = question_37(script_type);
+    let function = ask_applied(script_type);
     let Ok(()) = function else {
         return function;
     };
-    let may = question_21(groups, script_type, group);
+    let may = ask_reader(groups, script_type, group);
     let Ok(()) = may else {
         return may;
     };
-    question_38(groups, entry_type, script_type)
+    ask_entry(groups, entry_type, script_type)
 }
 
 // The records of the application: its own, and those of script and entry.
@@ -191,9 +200,10 @@ fn application_records(script: &[u8], entry: &[u8]) -> usize
 }
 
 // 13 of the application.
-fn question_13(script: &[u8], entry: &[u8], first: usize, scratch: usize) -> Checked
-    requires { Whole script.now × Whole entry.now }
-    ensures { (group : ℕ) → said result ≡ q13 (first ∷ scratch ∷ []) (application group script.now entry.now) }
+fn ask_script_length(script: &[u8], entry: &[u8], first: usize, scratch: usize) -> Checked
+    requires script { WholeTerm script.now }
+    requires entry { WholeTerm entry.now }
+    ensures { (group : ℕ) → answer_of result ≡ q13 (first ∷ scratch ∷ []) (application group script.now entry.now) }
 {
     let records = application_records(script, entry);
     let length = SCRIPT_WIDTH * records;
@@ -203,16 +213,17 @@ fn question_13(script: &[u8], entry: &[u8], first: usize, scratch: usize) -> Che
 
 // How deep the deepest record of a script is.
 fn depth_of(script: &[u8]) -> usize
-    requires { Whole script.now }
+    requires { WholeTerm script.now }
     ensures { result ≡ depth (term script.now) }
 {
     substitution::extent_at(script, 0).size.depth
 }
 
 // 18 of the application, which is one record deeper than the deeper of its operands.
-fn question_18(script: &[u8], entry: &[u8]) -> Checked
-    requires { Whole script.now × Whole entry.now }
-    ensures { (group : ℕ) → said result ≡ q18_whole (application group script.now entry.now) }
+fn ask_depth(script: &[u8], entry: &[u8]) -> Checked
+    requires script { WholeTerm script.now }
+    requires entry { WholeTerm entry.now }
+    ensures { (group : ℕ) → answer_of result ≡ q18_whole (application group script.now entry.now) }
 {
     let deeper = depth_of(script).max(depth_of(entry));
     answer::ask(Question::Depth, 0, deeper < DEPTH_LIMIT)
@@ -221,14 +232,15 @@ fn question_18(script: &[u8], entry: &[u8]) -> Checked
 // 13 and 18 of the application.
 #[tactic(auto, using(answer::proofs::Passed::then_asked, answer::proofs::Passed::stopped), unfolding(crate::specs::Checks::size_check))]
 fn size_check(script: &[u8], entry: &[u8], first: usize, scratch: usize) -> Checked
-    requires { Whole script.now × Whole entry.now }
-    ensures { (group : ℕ) → said result ≡ size_check script.now entry.now group first scratch }
+    requires script { WholeTerm script.now }
+    requires entry { WholeTerm entry.now }
+    ensures { (group : ℕ) → answer_of result ≡ size_check script.now entry.now group first scratch }
 {
-    let fits = question_13(script, entry, first, scratch);
+    let fits = ask_script_length(script, entry, first, scratch);
     let Ok(()) = fits else {
         return fits;
     };
-    question_18(script, entry)
+    ask_depth(script, entry)
 }
 
 // What is asked once script and entry have their types.
@@ -243,15 +255,15 @@ fn from_26(
     first: usize,
     scratch: usize,
 ) -> Checked
-    requires { Typed groups.now types.now script.now entry.now script_type.now entry_type.now }
-    ensures { (q : Typed groups.now types.now script.now entry.now script_type.now entry_type.now)
-        → said result ≡ from_26 groups.now script.now entry.now group first scratch q.script_type q.entry_type }
+    requires { TypesAtHand groups.now types.now script.now entry.now script_type.now entry_type.now }
+    ensures { (q : TypesAtHand groups.now types.now script.now entry.now script_type.now entry_type.now)
+        → answer_of result ≡ from_26 groups.now script.now entry.now group first scratch q.script_type q.entry_type }
 {
-    let value = question_26(groups, types, entry);
+    let value = ask_value(groups, types, entry);
     let Ok(()) = value else {
         return value;
     };
-    let given = question_25(groups, group);
+    let given = ask_given(groups, group);
     let Ok(()) = given else {
         return given;
     };
@@ -275,8 +287,9 @@ fn from_typing(
     first: usize,
     scratch: usize,
 ) -> Checked
-    requires { Accepted19 groups.now types.now script.now × (work_length ≤ length work.old) }
-    ensures { said result ≡ from_typing groups.now types.now script.now entry.now group profile first scratch }
+    requires accepted { Accepted19 groups.now types.now script.now }
+    requires work { work_length ≤ length work.old }
+    ensures { answer_of result ≡ from_typing groups.now types.now script.now entry.now group profile first scratch }
 {
     let mut script_type = [0; SLOT];
     type_apart(groups, types, script, work, &mut script_type)?;
@@ -324,11 +337,8 @@ fn run(
     scratch: &mut [u8],
 ) -> Halt
     requires { Runnable groups.now types.now script.now entry.now group.0 (length first.old) (length scratch.old) }
-    ensures { Ends
-        (run (properties_of groups.now) (type_at types.now)
-        (min (length first.old) (length scratch.old)) budget
-        (term (application group.0 script.now entry.now)))
-        first.old scratch.old result first.new scratch.new }
+    ensures { ReportsRun (run (properties_of groups.now) (type_at types.now) (min (length first.old) (length scratch.old))
+        budget (term (application group.0 script.now entry.now))) first.old scratch.old result first.new scratch.new }
 {
     build(group, script, entry, first);
     let records = application_records(script, entry);
@@ -337,7 +347,7 @@ fn run(
 
 // Has a run ended with a value?
 fn is_at_value(stop: Option<Stop>) -> bool
-    ensures { result ≡ eqb (end_number stop) 0 }
+    ensures { result ≡ nat_eq (reported_end stop) 0 }
 {
     match stop {
         Some(Stop::Value) => true,
@@ -354,10 +364,11 @@ fn packet_of(
     group: u64,
     sheet: &mut [u8],
 ) -> Result<Packet, Refusal>
-    requires { Ended groups.now types.now group halt first.now }
-    ensures { (q : Ended groups.now types.now group halt first.now)
-        → (said_packet result ≡ packet_report (issued groups.now group (length sheet.old) q.ran))
-        × (sheet.new ≡ packet_page_after (issued groups.now group (length sheet.old) q.ran) sheet.old) }
+    requires { LeftByRun groups.now types.now group halt first.now }
+    ensures answer { (q : LeftByRun groups.now types.now group halt first.now)
+        → said_packet result ≡ packet_report (packet_of_run groups.now group (length sheet.old) q.ran) }
+    ensures sheet { (q : LeftByRun groups.now types.now group halt first.now)
+        → sheet.new ≡ packet_page_after (packet_of_run groups.now group (length sheet.old) q.ran) sheet.old }
 {
     if !is_at_value(halt.stop) {
         return Ok(Packet {
@@ -375,8 +386,22 @@ fn packet_of(
     })
 }
 
-// The packet: the questions in order, the application's run, and its sheet. The work buffer is zeros once the script's typing has
-// begun, and the run's buffers are as after a run once there was one, whatever is answered. The last clause says what the desk may rely on.
+/// Issues a packet: the sheet, for the reader group `group`, of `script` applied to `entry` as that group, from a run
+/// of at most `budget` steps. Where the run ends with a value, its sheet fills the front of `sheet`, whose later
+/// bytes are kept; at any other end `sheet` is kept.
+///
+/// Refuses, in this order: a `work` that is too short (question 1, place 0); a groups table, types table or script
+/// that isn't well made (2 to 19 and 36) and, under a profile that isn't 0, a recursion in it (39); a script without
+/// a type (20 to 24 and 31); the same of `entry`; then at place 0 an entry that is no value (26), a group that isn't
+/// in the table (25), a script that is no function (37), that the group may not apply (21), or whose left side the
+/// entry's type isn't at or below (38), an application that `first` or `scratch` has no room for (13), or that is too
+/// deep (18); and after the run a `sheet` that is too short (27).
+///
+/// `work` is left all zeros once the script's typing has begun, and kept before. Once there was a run, `first` holds
+/// the last term and then zeros, and `scratch` is all zeros, whatever is answered; before, both are kept.
+///
+/// `promise` is what a desk may rely on: the packet is that of building the application by hand, running it and
+/// showing its last term.
 pub fn issue(
     groups: &[u8],
     types: &[u8],
@@ -390,16 +415,11 @@ pub fn issue(
     scratch: &mut [u8],
     sheet: &mut [u8],
 ) -> Result<Packet, Refusal>
-    ensures { (said_packet result ≡ packet_report (issuing groups.now types.now script.now entry.now group budget profile
-        (length work.old) (length first.old) (length scratch.old) (length sheet.old)))
-        × (work.new ≡ desk_work_after (before_typing groups.now types.now script.now profile (length work.old)) work.old)
-        × (first.new ≡ first_after (desk_run groups.now types.now script.now entry.now group budget profile
-        (length work.old) (length first.old) (length scratch.old)) first.old)
-        × (scratch.new ≡ scratch_after (desk_run groups.now types.now script.now entry.now group budget profile
-        (length work.old) (length first.old) (length scratch.old)) scratch.old)
-        × (sheet.new ≡ packet_page_after (issuing groups.now types.now script.now entry.now group budget profile
-        (length work.old) (length first.old) (length scratch.old) (length sheet.old)) sheet.old)
-        × PacketByHand groups.now types.now script.now entry.now group budget profile
+    ensures answer { said_packet result ≡ packet_report (packet_call groups.now types.now script.now entry.now group budget
+        profile (length work.old) (length first.old) (length scratch.old) (length sheet.old)) }
+    ensures lent { LeavesPacket groups.now types.now script.now entry.now group budget profile
+        work.old first.old scratch.old sheet.old work.new first.new scratch.new sheet.new }
+    ensures promise { PacketByHand groups.now types.now script.now entry.now group budget profile
         (length work.old) first.old scratch.old (length sheet.old) }
 {
     before_typing(groups, types, script, profile, work)?;

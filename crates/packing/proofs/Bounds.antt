@@ -1,23 +1,32 @@
--- Every call's refusal has a question of the document and a place of at most 8,192, and what it gives has its bound too: all of it
--- fits the exported number. Assumes nothing.
-use Rattle.std.proofs.Common.{Result, Ok, Err, IfErr, ◌<◌, sym, subst, ◌≡◌, refl, Bool, true, false, not, ◌&&◌, ◌||◌, List, [], ◌∷◌, ℕ, zero, suc, ◌+◌, ◌-◌, ◌/◌, ◌%◌, ◌≤◌, arith, eqb-true, leb-true, eqb, leb, ltb, length, get_or}
+-- Every call's refusal has one of the 42 questions and a place of at most 8,192, and what it gives has its bound too:
+-- all of it fits the exported number. Assumes nothing.
+use Rattle.std.proofs.Common.{Result, Ok, Err, IfErr, ◌<◌, sym, subst, ◌≡◌, refl, Bool, true, false, not, ◌&&◌, ◌||◌}
+use Rattle.std.proofs.Common.{List, [], ◌∷◌, ℕ, zero, suc, ◌+◌, ◌-◌, ◌/◌, ◌%◌, ◌≤◌, arith, eqb-true, leb-true, nat_eq}
+use Rattle.std.proofs.Common.{nat_le, nat_lt, length, get_or}
 use Rattle.std.proofs.Math.Option.{Option, none, some}
 use Rattle.calculus.specs.Terms.{is_value}
-use Rattle.rules.specs.Answer.{Bytes, Octets, Answer, accepted, refused, ◌>>=◌, ◌>>◌, ask, first_from, refused_at, each, all_below}
-use Rattle.rules.specs.Limits.{row_width, type_width, script_width, old_type_width, old_script_width, group_limit, table_limit, script_limit, word_limit, words_length, last_question, work_length, answer_length, office_width, office_limit}
+use Rattle.rules.specs.Answer.{Bytes, Octets, Answer, accepted, refused, ◌>>=◌, ◌>>◌, ask, first_from, refused_at, each}
+use Rattle.rules.specs.Answer.{all_below}
+use Rattle.rules.specs.Limits.{row_width, type_width, script_width, old_type_width, old_script_width, group_limit}
+use Rattle.rules.specs.Limits.{table_limit, script_limit, word_limit, words_length, last_question, work_length}
+use Rattle.rules.specs.Limits.{answer_length, office_width, office_limit}
 use Rattle.rules.specs.Groups.{rows, properties_of, ok3, ok4, ok5, ok6, ok7, q2, q3, q4, q5, q6}
 use Rattle.rules.specs.Types.{type_count, type_at, ok9, ok10, ok36_type, ok11, ok12, q8_of, q8, q9, q10, q36_types, q11}
-use Rattle.rules.specs.Script.{records, arity, kind, term, size, depths, binders, term_end, exactly, ok14, ok15, ok36_object, ok16, ok18, ok19, q13_of, q13, q14, q15, q36_objects, q16, q17, q19}
+use Rattle.rules.specs.Script.{records, arity, kind, term, size, depths, binders, term_end, exactly, ok14, ok15}
+use Rattle.rules.specs.Script.{ok36_object, ok16, ok18, ok19, q13_of, q13, q14, q15, q36_objects, q16, q17, q19}
 use Rattle.rules.specs.Typing.{of_typing, typing}
 use Rattle.rules.specs.Sheet.{sheet}
 use Rattle.rules.specs.Step.{End, end_number, end_count}
-use Rattle.rules.specs.Preview.{Preview, q35, previewing, moving}
+use Rattle.rules.specs.Preview.{Preview, q35, preview_call, move_call}
 use Rattle.rules.specs.Words.{q32, q33, ok33, ok34, words_check}
-use Rattle.rules.specs.Calls.{q1, q25, q26, q27, groups_check, types_check, comparing, form_check, own_check, script_check, checking, stepping, running, sheeting}
+use Rattle.rules.specs.Calls.{q1, q25, q26, q27, groups_check, types_check, compare_call, form_check, own_check}
+use Rattle.rules.specs.Calls.{script_check, check_call, step_call, run_call, sheet_call}
 use Rattle.rules.specs.Profile.{ok39, q39, profile_checking}
-use Rattle.rules.specs.Rewriting.{widen_types, widen_script, old_types_check, old_script_check, rewriting_types, rewriting_script}
+use Rattle.rules.specs.Rewriting.{widen_types, widen_script, old_types_check, old_script_check, rewriting_types}
+use Rattle.rules.specs.Rewriting.{rewriting_script}
 use Rattle.rules.specs.Names.{scopes}
-use Rattle.rules.specs.Office.{office_records, nameless, named_term, ok29, ok30, q28, q29, q30, imported, importing, exported, q28_of_export, exporting}
+use Rattle.rules.specs.Office.{office_records, nameless, named_term, ok29, ok30, q28, q29, q30, import_of, import_call}
+use Rattle.rules.specs.Office.{export_of, q28_of_export, export_call}
 use Rattle.rules.proofs.Form.{form_yes}
 use Rattle.rules.proofs.Office.{q28_measured, nameless_records}
 use Rattle.rules.proofs.ScriptLength.{q13_fitting}
@@ -25,17 +34,17 @@ use Rattle.rules.proofs.Scripts.{whole}
 use Rattle.rules.proofs.WayBack.{end_bound}
 use Rattle.packing.specs.Packed.{half, Bounded, bounded_yes, bounded_no}
 use Rattle.answer.specs.declared.Refusal.{Refusal}
-use Rattle.answer.specs.Numbers.{number}
-use Rattle.answer.specs.Said.{said}
-use Rattle.demands.proofs.Places.{Placed, placed_yes, placed_no, typing_placed}
+use Rattle.answer.specs.Numbers.{question_number}
+use Rattle.answer.specs.Said.{answer_of}
+use Rattle.promises.proofs.Places.{Placed, placed_yes, placed_no, typing_placed}
 use Rattle.rules.proofs.Asked.{and_then, few_rows, few_types}
 
 -- no place is too large to be packed
-pub place_small : {A : Type 0} (r : Result A Refusal) {a : Answer A} → said r ≡ a → Bounded a → IfErr r (λ e. e.place < half)
+pub place_small : {A : Type 0} (r : Result A Refusal) {a : Answer A} → answer_of r ≡ a → Bounded a → IfErr r (λ e. e.place < half)
 place_small {A = A} (Ok x) e b = tt
 place_small {A = A} (Err y) e b = go (subst Bounded (sym e) b)
   where
-    go : Bounded {A = A} (refused (number y.question) y.place) → y.place < half
+    go : Bounded {A = A} (refused (question_number y.question) y.place) → y.place < half
     go (bounded_no l m n) = omega arith
 
 pub then : {B : Type 0} (a : Answer (Unit {0})) (b : Answer B) → Bounded a → (a ≡ accepted tt → Bounded b) → Bounded (◌>>◌ a b)
@@ -60,7 +69,7 @@ each_bounded q n ok l m b = from_bounded q (λ i. not (ok i)) n 0 l m (omega ari
 
 exactly_bounded : (n : ℕ) (o : Option ℕ) → n ≤ script_limit → ((e : ℕ) → o ≡ some e → e ≤ n) → Bounded (exactly n o)
 exactly_bounded n none b f = bounded_no {q = 17} (omega arith) (omega arith) b
-exactly_bounded n (some e) b f = ask_bounded 17 e (eqb e n) (omega arith) (omega arith) (omega (arith, f e refl))
+exactly_bounded n (some e) b f = ask_bounded 17 e (nat_eq e n) (omega arith) (omega arith) (omega (arith, f e refl))
 
 -- a question whose place is 0
 pub front : (q : ℕ) (b : Bool) → 1 ≤ q → q ≤ last_question → Bounded (ask q 0 b)
@@ -68,22 +77,22 @@ front q b l m = ask_bounded q 0 b l m (omega arith)
 
 at_8 : (width : ℕ) (t : Bytes) → Bounded (q8_of width t)
 at_8 width t =
-    front 8 (eqb (length t % width) 0 && (leb 1 (length t / width) && leb (length t / width) table_limit)) (omega arith) (omega arith)
+    front 8 (nat_eq (length t % width) 0 && (nat_le 1 (length t / width) && nat_le (length t / width) table_limit)) (omega arith) (omega arith)
 
 pub at_13 : (width : ℕ) (rooms : List ℕ) (s : Bytes) → Bounded (q13_of width rooms s)
 at_13 width rooms s =
     front 13
-    (eqb (length s % width) 0
-    && (leb 1 (length s / width) && (leb (length s / width) script_limit && all_below (λ i. leb (length s) (get_or rooms i 0)) (length rooms))))
+    (nat_eq (length s % width) 0
+    && (nat_le 1 (length s / width) && (nat_le (length s / width) script_limit && all_below (λ i. nat_le (length s) (get_or rooms i 0)) (length rooms))))
     (omega arith) (omega arith)
 
 pub at_27 : (bytes : Bytes) (room : ℕ) → Bounded (q27 bytes room)
-at_27 bytes room = front 27 (leb (length bytes) room) (omega arith) (omega arith)
+at_27 bytes room = front 27 (nat_le (length bytes) room) (omega arith) (omega arith)
 
 pub groups_bounded : (g : Bytes) → Bounded (groups_check g)
 unfolding groups_check
 groups_bounded g =
-    then (q2 g) _ (front 2 (eqb (length g % row_width) 0 && (leb 1 (rows g) && leb (rows g) group_limit)) (omega arith) (omega arith)) λ e2.
+    then (q2 g) _ (front 2 (nat_eq (length g % row_width) 0 && (nat_le 1 (rows g) && nat_le (rows g) group_limit)) (omega arith) (omega arith)) λ e2.
     let n : rows g ≤ script_limit = omega (arith, few_rows g e2) in
     then (q3 g) _ (each_bounded 3 (rows g) (ok3 g) (omega arith) (omega arith) n) λ e3.
     then (q4 g) _ (each_bounded 4 (rows g) (ok4 g) (omega arith) (omega arith) n) λ e4.
@@ -94,7 +103,7 @@ groups_bounded g =
 pub words_bounded : (w : Bytes) → Bounded (words_check w)
 unfolding words_check
 words_bounded w =
-    then (q32 w) _ (front 32 (eqb (length w) words_length) (omega arith) (omega arith)) λ e32.
+    then (q32 w) _ (front 32 (nat_eq (length w) words_length) (omega arith) (omega arith)) λ e32.
     then (q33 w) _ (each_bounded 33 word_limit (ok33 w) (omega arith) (omega arith) (omega arith)) λ e33.
     each_bounded 34 word_limit (ok34 w) (omega arith) (omega arith) (omega arith)
 
@@ -110,12 +119,12 @@ types_bounded g t =
     then (q11 t) _ (each_bounded 11 (type_count t) (ok11 t) (omega arith) (omega arith) n) λ e11.
     each_bounded 12 (type_count t) (ok12 t) (omega arith) (omega arith) n
 
-pub compare_bounded : (g t : Bytes) (i j : ℕ) → Bounded (comparing g t i j)
-unfolding comparing
+pub compare_bounded : (g t : Bytes) (i j : ℕ) → Bounded (compare_call g t i j)
+unfolding compare_call
 compare_bounded g t i j =
     then (types_check g t) _ (types_bounded g t) λ e12.
-    then (q25 0 i (type_count t)) _ (front 25 (ltb i (type_count t)) (omega arith) (omega arith)) λ e25.
-    then (q25 1 j (type_count t)) _ (ask_bounded 25 1 (ltb j (type_count t)) (omega arith) (omega arith) (omega arith)) λ f25. bounded_yes
+    then (q25 0 i (type_count t)) _ (front 25 (nat_lt i (type_count t)) (omega arith) (omega arith)) λ e25.
+    then (q25 1 j (type_count t)) _ (ask_bounded 25 1 (nat_lt j (type_count t)) (omega arith) (omega arith) (omega arith)) λ f25. bounded_yes
 
 -- 14 to 18 of so many records
 form_bounded : (g t s : Bytes) → records s ≤ script_limit → Bounded (form_check g t s)
@@ -148,8 +157,8 @@ pub script_records : (rooms : List ℕ) (g t s : Bytes) → script_check rooms g
 unfolding script_check
 script_records rooms g t s e = own_records rooms g t s (and_then (types_check g t) (own_check rooms g t s) e).1
 
-pub step_bounded : (g t s : Bytes) (room : ℕ) → Bounded (stepping g t s room)
-unfolding stepping
+pub step_bounded : (g t s : Bytes) (room : ℕ) → Bounded (step_call g t s room)
+unfolding step_call
 step_bounded g t s room = then (script_check [] g t s) _ (script_bounded [] g t s) λ e. bounded_yes
 
 -- what follows a step that isn't refused
@@ -157,24 +166,24 @@ after_step : {B : Type 0} (a : Answer End) (f : End → Answer B) → Bounded a 
 after_step (accepted x) f b h = h x
 after_step (refused q p) f (bounded_no l m n) h = bounded_no l m n
 
-pub preview_bounded : (g t s : Bytes) (room steps : ℕ) → Bounded (previewing g t s room steps)
-unfolding previewing
-preview_bounded g t s room steps = after_step (stepping g t s room) _ (step_bounded g t s room) λ x. bounded_yes
+pub preview_bounded : (g t s : Bytes) (room steps : ℕ) → Bounded (preview_call g t s room steps)
+unfolding preview_call
+preview_bounded g t s room steps = after_step (step_call g t s room) _ (step_bounded g t s room) λ x. bounded_yes
 
-pub move_bounded : (g t s : Bytes) (room : ℕ) (v : Preview) → Bounded (moving g t s room v)
-unfolding moving
-move_bounded g t s room v = after_step (stepping g t s room) _ (step_bounded g t s room) λ x.
-    then (q35 v (records s) x) _ (front 35 (eqb v.end (end_number x) && eqb v.count (end_count (records s) x)) (omega arith) (omega arith)) λ e. bounded_yes
+pub move_bounded : (g t s : Bytes) (room : ℕ) (v : Preview) → Bounded (move_call g t s room v)
+unfolding move_call
+move_bounded g t s room v = after_step (step_call g t s room) _ (step_bounded g t s room) λ x.
+    then (q35 v (records s) x) _ (front 35 (nat_eq v.end (end_number x) && nat_eq v.count (end_count (records s) x)) (omega arith) (omega arith)) λ e. bounded_yes
 
-pub run_bounded : (g t s : Bytes) (budget first scratch : ℕ) → Bounded (running g t s budget first scratch)
-unfolding running
+pub run_bounded : (g t s : Bytes) (budget first scratch : ℕ) → Bounded (run_call g t s budget first scratch)
+unfolding run_call
 run_bounded g t s budget first scratch = then (script_check (first ∷ scratch ∷ []) g t s) _ (script_bounded (first ∷ scratch ∷ []) g t s) λ e. bounded_yes
 
-pub page_bounded : (g t s : Bytes) (group room : ℕ) → Bounded (sheeting g t s group room)
-unfolding sheeting
+pub page_bounded : (g t s : Bytes) (group room : ℕ) → Bounded (sheet_call g t s group room)
+unfolding sheet_call
 page_bounded g t s group room =
     then (script_check [] g t s) _ (script_bounded [] g t s) λ e19.
-    then (q25 0 group (rows g)) _ (front 25 (ltb group (rows g)) (omega arith) (omega arith)) λ e25.
+    then (q25 0 group (rows g)) _ (front 25 (nat_lt group (rows g)) (omega arith) (omega arith)) λ e25.
     then (q26 (term s)) _ (front 26 (is_value (term s)) (omega arith) (omega arith)) λ e26.
     then (q27 (sheet g group (term s)) room) _ (at_27 (sheet g group (term s)) room) λ e27. bounded_yes
 
@@ -202,37 +211,37 @@ rewriting_script_bounded g t s room =
     then (old_script_check g t s) _ (old_script_bounded g t s) λ e19. then (q27 (widen_script s) room) _ (at_27 (widen_script s) room) λ e27. bounded_yes
 
 -- import and export
-pub importing_bounded : (g t s : Bytes) (room : ℕ) → Bounded (importing g t s room)
-unfolding importing
+pub importing_bounded : (g t s : Bytes) (room : ℕ) → Bounded (import_call g t s room)
+unfolding import_call
 importing_bounded g t s room =
     then (types_check g t) _ (types_bounded g t) λ e12.
-    then (q28 s) _ (front 28 (eqb (length s % office_width) 0 && (leb 1 (office_records s) && leb (office_records s) office_limit)) (omega arith) (omega arith)) λ e28.
+    then (q28 s) _ (front 28 (nat_eq (length s % office_width) 0 && (nat_le 1 (office_records s) && nat_le (office_records s) office_limit)) (omega arith) (omega arith)) λ e28.
     let n : office_records s ≤ script_limit = omega (arith, (q28_measured s e28).limited) in
     then (form_check g t (nameless s)) _ (form_bounded g t (nameless s) (omega (arith, nameless_records s))) λ e18.
     then (q29 s) _ (each_bounded 29 (office_records s) (ok29 s) (omega arith) (omega arith) n) λ e29.
     then (q30 s) _ (each_bounded 30 (office_records s) (ok30 (scopes [] (named_term s)) s) (omega arith) (omega arith) n) λ e30.
-    then (q27 (imported s) room) _ (at_27 (imported s) room) λ e27. bounded_yes
+    then (q27 (import_of s) room) _ (at_27 (import_of s) room) λ e27. bounded_yes
 
-pub exporting_bounded : (g t s : Bytes) (room : ℕ) → Bounded (exporting g t s room)
-unfolding exporting
+pub exporting_bounded : (g t s : Bytes) (room : ℕ) → Bounded (export_call g t s room)
+unfolding export_call
 exporting_bounded g t s room =
     then (script_check [] g t s) _ (script_bounded [] g t s) λ e19.
-    then (q28_of_export s) _ (front 28 (leb (records s) office_limit) (omega arith) (omega arith)) λ e28.
-    then (q27 (exported s) room) _ (at_27 (exported s) room) λ e27. bounded_yes
+    then (q28_of_export s) _ (front 28 (nat_le (records s) office_limit) (omega arith) (omega arith)) λ e28.
+    then (q27 (export_of s) room) _ (at_27 (export_of s) room) λ e27. bounded_yes
 
 -- typing refuses at a record of the script, which has at most 8,192
 typing_range : (q : ℕ) → of_typing q ≡ true → (20 ≤ q) × (q ≤ 31)
-typing_range q h = go (leb 20 q) refl
+typing_range q h = go (nat_le 20 q) refl
   where
-    is_31 : eqb q 31 ≡ true → (20 ≤ q) × (q ≤ 31)
+    is_31 : nat_eq q 31 ≡ true → (20 ≤ q) × (q ≤ 31)
     is_31 e = let n = eqb-true q 31 e in (omega arith, omega arith)
 
-    within : (b : Bool) → leb q 24 ≡ b → 20 ≤ q → b || eqb q 31 ≡ true → (20 ≤ q) × (q ≤ 31)
+    within : (b : Bool) → nat_le q 24 ≡ b → 20 ≤ q → b || nat_eq q 31 ≡ true → (20 ≤ q) × (q ≤ 31)
     within true e l k = (l, omega (arith, leb-true q 24 e))
     within false e l k = is_31 k
 
-    go : (b : Bool) → leb 20 q ≡ b → (20 ≤ q) × (q ≤ 31)
-    go true e = within (leb q 24) refl (leb-true 20 q e) (rw e at h)
+    go : (b : Bool) → nat_le 20 q ≡ b → (20 ≤ q) × (q ≤ 31)
+    go true e = within (nat_le q 24) refl (leb-true 20 q e) (rw e at h)
     go false e = is_31 (rw e at h)
 
 placed_bounded : {A : Type 0} {end : ℕ} (m : Answer A) → Placed end m → end ≤ script_limit → Bounded m
@@ -254,15 +263,15 @@ typing_bounded g t s o e =
     placed_bounded (typing (properties_of g) (type_at t) [] 0 (term s)) (typing_placed (properties_of g) (type_at t) (size (term s)) [] 0 (term s) (omega arith))
     (script_small [] g t s o e)
 
-pub check_bounded : (g t s : Bytes) (work answer : ℕ) → Octets s → Bounded (checking work answer g t s)
-unfolding checking
+pub check_bounded : (g t s : Bytes) (work answer : ℕ) → Octets s → Bounded (check_call work answer g t s)
+unfolding check_call
 check_bounded g t s work answer o =
-    then (q1 work answer) _ (front 1 (leb work_length work && leb answer_length answer) (omega arith) (omega arith)) λ e1.
+    then (q1 work answer) _ (front 1 (nat_le work_length work && nat_le answer_length answer) (omega arith) (omega arith)) λ e1.
     then (script_check [] g t s) _ (script_bounded [] g t s) λ e19. typing_bounded g t s o e19
 
 pub profile_bounded : (g t s : Bytes) (work answer : ℕ) → Octets s → Bounded (profile_checking work answer g t s)
 unfolding profile_checking
 profile_bounded g t s work answer o =
-    then (q1 work answer) _ (front 1 (leb work_length work && leb answer_length answer) (omega arith) (omega arith)) λ e1.
+    then (q1 work answer) _ (front 1 (nat_le work_length work && nat_le answer_length answer) (omega arith) (omega arith)) λ e1.
     then (script_check [] g t s) _ (script_bounded [] g t s) λ e19.
     then (q39 s) _ (each_bounded 39 (records s) (ok39 s) (omega arith) (omega arith) (script_records [] g t s e19)) λ e39. typing_bounded g t s o e19

@@ -1,28 +1,23 @@
--- Lists of scripts and of amendments: a refusal's place and the answer fit the exported number. An entry that is looked at comes after
--- entries with different scripts, so its index is at most their number.
-use Rattle.std.proofs.Common.{Result, Ok, Err, IfErr, ◌<◌, sym, subst, ◌≡◌, refl, ap, Bool, true, false, cond, not, ◌&&◌, ℕ, zero, suc, ◌%◌, ◌≤◌, arith, eqb, leb, leb-true, length}
+-- Lists of scripts and of amendments: a refusal's place and the answer fit the exported number. An entry that is looked
+-- at comes after entries with different scripts, so its index is at most their number.
+use Rattle.std.proofs.Common.{Result, Ok, Err, IfErr, ◌<◌, sym, subst, ◌≡◌, refl, ap, Bool, true, false, cond, not}
+use Rattle.std.proofs.Common.{◌&&◌, ℕ, zero, suc, ◌%◌, ◌≤◌, arith, nat_eq, nat_le, leb-true, length}
 use Rattle.std.proofs.Math.Option.{Option, none, some}
 use Rattle.rules.specs.Answer.{Bytes, Answer, accepted, refused, ◌>>◌, ask, each, first_from}
 use Rattle.rules.specs.Limits.{listed_width, entry_width, listed_limit, last_question}
 use Rattle.rules.specs.Calls.{types_check}
-use Rattle.rules.specs.InForce.{script_count, entry_count, ok25, ok40, ok41, ok42, q40_lengths, q25_scripts, entry_check, entries_check, lists_check, script_in_force, in_force}
+use Rattle.rules.specs.InForce.{script_count, entry_count, ok25, ok40, ok41, ok42, q40_lengths, q25_scripts}
+use Rattle.rules.specs.InForce.{entry_check, entries_check, lists_check, script_in_force, in_force}
 use Rattle.rules.proofs.Asked.{ask_true}
 use Rattle.rules.proofs.Search.{found}
 use Rattle.rules.proofs.InForce.{few_entries}
-use Rattle.demands.proofs.InForce.{lists_pass, answer_small}
-use Rattle.packing.specs.Packed.{half, Bounded, bounded_no, BoundedByLists, lists_yes, lists_no, Holds, holds_yes, holds_no}
+use Rattle.promises.proofs.InForce.{lists_pass}
+use Rattle.packing.specs.Packed.{half, Bounded, bounded_no, BoundedByLists, lists_yes, lists_no}
 use Rattle.packing.proofs.Bounds.{types_bounded}
+use Rattle.packing.proofs.Holds.{holds_no, Holds, holds_yes}
 use Rattle.answer.specs.declared.Refusal.{Refusal}
-use Rattle.answer.specs.Numbers.{number}
-use Rattle.answer.specs.Said.{said}
-
--- no place is too large to be packed
-pub place_small : {A : Type 0} (r : Result A Refusal) {a : Answer A} → said r ≡ a → BoundedByLists a → IfErr r (λ e. e.place < half)
-place_small {A = A} (Ok x) e b = tt
-place_small {A = A} (Err y) e b = go (subst BoundedByLists (sym e) b)
-  where
-    go : BoundedByLists {A = A} (refused (number y.question) y.place) → y.place < half
-    go (lists_no l m n) = omega arith
+use Rattle.answer.specs.Numbers.{question_number}
+use Rattle.answer.specs.Said.{answer_of}
 
 then : {B : Type 0} (a : Answer (Unit {0})) (b : Answer B) → BoundedByLists a → (a ≡ accepted tt → BoundedByLists b) → BoundedByLists (◌>>◌ a b)
 then (accepted tt) b x f = f refl
@@ -59,7 +54,7 @@ module _ (g t l a : Bytes) (few : script_count l ≤ listed_limit) where
 
 at_40 : (l a : Bytes) → BoundedByLists (q40_lengths l a)
 at_40 l a =
-    asked 40 0 (eqb (length l % listed_width) 0 && (leb (script_count l) listed_limit && eqb (length a % entry_width) 0)) (omega arith) (omega arith) (omega arith)
+    asked 40 0 (nat_eq (length l % listed_width) 0 && (nat_le (script_count l) listed_limit && nat_eq (length a % entry_width) 0)) (omega arith) (omega arith) (omega arith)
 
 both : (a b : Bool) → a && b ≡ true → (a ≡ true) × (b ≡ true)
 both true b e = (refl, e)
@@ -67,8 +62,8 @@ both false b e = let x : ◌≡◌ {A = ℕ} 0 1 = ap (λ (c : Bool). cond c 1 0
 
 few_scripts : (l a : Bytes) → q40_lengths l a ≡ accepted tt → script_count l ≤ listed_limit
 few_scripts l a h =
-    let lengths = both (eqb (length l % listed_width) 0) (leb (script_count l) listed_limit && eqb (length a % entry_width) 0) (ask_true 40 0 _ h) in
-    leb-true (script_count l) listed_limit (both (leb (script_count l) listed_limit) (eqb (length a % entry_width) 0) lengths.1).0
+    let lengths = both (nat_eq (length l % listed_width) 0) (nat_le (script_count l) listed_limit && nat_eq (length a % entry_width) 0) (ask_true 40 0 _ h) in
+    leb-true (script_count l) listed_limit (both (nat_le (script_count l) listed_limit) (nat_eq (length a % entry_width) 0) lengths.1).0
 
 pub lists_bounded : (g t l a : Bytes) → BoundedByLists (lists_check g t l a)
 unfolding lists_check
@@ -82,12 +77,3 @@ lists_bounded g t l a =
 pub in_force_bounded : (g t l a : Bytes) (i : ℕ) → BoundedByLists (in_force g t l a i)
 unfolding in_force
 in_force_bounded g t l a i = then (lists_check g t l a) _ (lists_bounded g t l a) λ h. lists_yes
-
--- one number holds the answer: a script of the list, or 65,535
-pub in_force_holds : (g t l a : Bytes) (i : ℕ) → Holds (in_force g t l a i)
-unfolding in_force
-in_force_holds g t l a i = go (lists_check g t l a) refl (lists_bounded g t l a)
-  where
-    go : (x : Answer (Unit {0})) → lists_check g t l a ≡ x → BoundedByLists x → Holds (◌>>◌ x (accepted (script_in_force a i)))
-    go (accepted u) h b = holds_yes {n = script_in_force a i} (omega (arith, answer_small g t l a (lists_pass g t l a h) i))
-    go (refused q p) h (lists_no m k r) = holds_no {q = q} {p = p} m k (omega arith)

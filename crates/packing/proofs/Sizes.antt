@@ -1,13 +1,16 @@
--- What a call gives is small: a found type has at most 63 records, a term that a step or a run comes to at most 8,192, and so has a
--- sheet. Assumes nothing.
-use Rattle.std.proofs.Common.{◌≡◌, refl, Bool, true, false, cond, ◌||◌, List, [], ◌∷◌, ◌++◌, ℕ, zero, suc, ◌+◌, ◌*◌, ◌≤◌, arith, leb-true, ltb-false, length, get_or, length-append}
+-- What a call gives is small: a found type has at most 63 records, a term that a step or a run comes to at most 8,192,
+-- and so has a sheet. Assumes nothing.
+use Rattle.std.proofs.Common.{◌≡◌, refl, Bool, true, false, cond, ◌||◌, List, [], ◌∷◌, ◌++◌, ℕ, zero, suc, ◌+◌, ◌*◌}
+use Rattle.std.proofs.Common.{◌≤◌, arith, leb-true, ltb-false, length, get_or, length-append}
 use Rattle.std.proofs.Math.Option.{Option, none, some}
 use Rattle.calculus.specs.Security.{Property, Reader, Indirect, Security}
-use Rattle.calculus.specs.Types.{one, number, Former, sum, product, function, Ty, leaf, node, top, raise_t, size_t, fits, type_limit}
-use Rattle.calculus.specs.Terms.{Side, first, second, choose, Operation, plus, less, Term, var, unit, lam, pair, inj, app, proj, case, protect, mu, literal, reckon, is_value}
+use Rattle.calculus.specs.Types.{one, number, Former, sum, product, function, Ty, leaf, node, top, raise_t, size_t}
+use Rattle.calculus.specs.Types.{fits, type_limit}
+use Rattle.calculus.specs.Terms.{Side, first, second, choose, Operation, plus, less, Term, var, unit, lam, pair, inj}
+use Rattle.calculus.specs.Terms.{app, proj, case, protect, mu, literal, reckon, is_value}
 use Rattle.calculus.specs.Reduction.{Outcome, value, moved, denied, stuck, step}
 use Rattle.calculus.specs.Subtyping.{below}
-use Rattle.calculus.specs.Common.{common}
+use Rattle.calculus.specs.Common.{nearest_type}
 use Rattle.calculus.specs.Typing.{finds_own}
 use Rattle.calculus.specs.Numbers.{of_both}
 use Rattle.calculus.proofs.Raising.{raise_size}
@@ -18,7 +21,7 @@ use Rattle.rules.specs.Groups.{leq}
 use Rattle.rules.specs.Types.{no_type}
 use Rattle.rules.specs.Script.{size}
 use Rattle.rules.specs.Typing.{left, right, q20, q20_number, q21, q22, q23, q24, found_or, number_result, typing}
-use Rattle.rules.specs.Step.{End, at_value, moves, may_not, wrong_kind, too_big, exceeds, limited, step_in}
+use Rattle.rules.specs.Step.{End, at_value, moves, may_not, wrong_kind, too_big, exceeds, end_of_outcome, step_in}
 use Rattle.rules.specs.Run.{Ran, run}
 use Rattle.rules.specs.Sheet.{shown_record, sheet}
 
@@ -104,10 +107,10 @@ module _ (S : Security) (p : ℕ) where
 
   -- a found result type has as many records as the first branch's
   result_small : (own : Bool) (a u v : Ty) → size_t a ≤ type_limit → size_t u ≤ type_limit
-      → Small (cond own (found_or p (common S below u v)) (accepted a))
-  result_small true a u v l h = go (common S below u v) refl
+      → Small (cond own (found_or p (nearest_type S below u v)) (accepted a))
+  result_small true a u v l h = go (nearest_type S below u v) refl
     where
-      go : (c : Option Ty) → common S below u v ≡ c → Small (found_or p c)
+      go : (c : Option Ty) → nearest_type S below u v ≡ c → Small (found_or p c)
       go none e = small_no
       go (some r) e = small_yes {s = r} (omega (arith, common_size S below u v e))
   result_small false a u v l h = small_yes l
@@ -116,12 +119,12 @@ module _ (S : Security) (p : ℕ) where
       → ((s : Ty) → size_t s ≤ type_limit → Small (m' s)) → ((s : Ty) → size_t s ≤ type_limit → Small (m'' s))
       → Small (◌>>=◌ m (λ s. ◌>>◌ (q20 p sum s) (◌>>◌ (q21 S p s w)
       (◌>>=◌ (m' (left s)) (λ u. ◌>>◌ (cond own (accepted tt) (q22 S p u a)) (◌>>=◌ (m'' (right s)) (λ v. ◌>>◌ (cond own (accepted tt) (q22 S p v a))
-      (◌>>=◌ (cond own (found_or p (common S below u v)) (accepted a)) (λ r. accepted (raise_t S r (S.influence (top s) w)))))))))))
+      (◌>>=◌ (cond own (found_or p (nearest_type S below u v)) (accepted a)) (λ r. accepted (raise_t S r (S.influence (top s) w)))))))))))
   case_small w own a m m' m'' l x y z =
       bind m _ x (λ s h. then (q20 p sum s) _ (then (q21 S p s w) _
       (bind (m' (left s)) _ (y (left s) (left_size s h)) (λ u h'. then (cond own (accepted tt) (q22 S p u a)) _
       (bind (m'' (right s)) _ (z (right s) (right_size s h)) (λ v h''. then (cond own (accepted tt) (q22 S p v a)) _
-      (bind (cond own (found_or p (common S below u v)) (accepted a)) _ (result_small own a u v l h')
+      (bind (cond own (found_or p (nearest_type S below u v)) (accepted a)) _ (result_small own a u v l h')
       (λ r k. small_yes {s = raise_t S r (S.influence (top s) w)} (raised S r (S.influence (top s) w) k)))))))))
 
   mu_small : (w : Reader) (a : Ty) (m : Answer Ty) → size_t a ≤ type_limit → Small m
@@ -166,34 +169,34 @@ no_binders = no_types
 
 -- ---- terms of steps and runs
 
-pub data Within : End → Type 0 where
-  within_move : {e : Term} → size e ≤ script_limit → Within (moves e)
-  within_value : Within at_value
-  within_may_not : Within may_not
-  within_wrong : Within wrong_kind
-  within_big : Within too_big
+pub data EndBounded : End → Type 0 where
+  within_move : {e : Term} → size e ≤ script_limit → EndBounded (moves e)
+  within_value : EndBounded at_value
+  within_may_not : EndBounded may_not
+  within_wrong : EndBounded wrong_kind
+  within_big : EndBounded too_big
 
 first_false : (a b : Bool) → a || b ≡ false → a ≡ false
 first_false false b e = refl
 first_false true b e = e
 
-limited_within : (room : ℕ) (o : Outcome) → Within (limited room o)
+limited_within : (room : ℕ) (o : Outcome) → EndBounded (end_of_outcome room o)
 unfolding exceeds
 limited_within room value = within_value
 limited_within room (moved e) = go (exceeds room e) refl
   where
-    go : (b : Bool) → exceeds room e ≡ b → Within (cond b too_big (moves e))
+    go : (b : Bool) → exceeds room e ≡ b → EndBounded (cond b too_big (moves e))
     go true h = within_big
     go false h = within_move (ltb-false script_limit (size e) (first_false _ _ h))
 limited_within room denied = within_may_not
 limited_within room stuck = within_wrong
 
-pub step_within : (S : Security) (tab : ℕ → Ty) (room : ℕ) (e : Term) → Within (step_in S tab room e)
+pub step_within : (S : Security) (tab : ℕ → Ty) (room : ℕ) (e : Term) → EndBounded (step_in S tab room e)
 unfolding step_in
 step_within S tab room e = limited_within room (step S tab e)
 
 -- a run's end is at most 4, and its last term is as small
-pub record Ends (x : Ran) : Type 0 where
+pub record RunBounds (x : Ran) : Type 0 where
   pub end : x.end ≤ 4
   pub last : size x.last ≤ script_limit
 
@@ -202,13 +205,13 @@ value_or_spent true = omega arith
 value_or_spent false = omega arith
 
 module _ (S : Security) (tab : ℕ → Ty) (room : ℕ) where
-  pub run_within : (budget : ℕ) (e : Term) → size e ≤ script_limit → Ends (run S tab room budget e)
+  pub run_within : (budget : ℕ) (e : Term) → size e ≤ script_limit → RunBounds (run S tab room budget e)
   unfolding run
   run_within zero e l = record { end = value_or_spent (is_value e); last = l }
   run_within (suc budget) e l = go (step_in S tab room e) refl (step_within S tab room e) (λ e' m. run_within budget e' m)
     where
-      go : (x : End) → step_in S tab room e ≡ x → Within x → ((e' : Term) → size e' ≤ script_limit → Ends (run S tab room budget e'))
-          → Ends (run S tab room (suc budget) e)
+      go : (x : End) → step_in S tab room e ≡ x → EndBounded x → ((e' : Term) → size e' ≤ script_limit → RunBounds (run S tab room budget e'))
+          → RunBounds (run S tab room (suc budget) e)
       go at_value h w ih = rw (h, run) (record { end = omega arith; last = l })
       go (moves e') h (within_move m) ih = let x = ih e' m in rw (h, run) (record { end = x.end; last = x.last })
       go may_not h w ih = rw (h, run) (record { end = omega arith; last = l })
@@ -216,30 +219,3 @@ module _ (S : Security) (tab : ℕ → Ty) (room : ℕ) where
       go too_big h w ih = rw (h, run) (record { end = omega arith; last = l })
 
 -- ---- sheets
-
--- an object's record, alone or with the sheets of its parts behind it
-own_record : (told : Bool) (kind r ir n : ℕ) → length (cond told (shown_record kind r ir n) (shown_record 5 0 0 0)) ≤ sheet_width
-own_record true kind r ir n = omega arith
-own_record false kind r ir n = omega arith
-
-with_parts : (told : Bool) (kind r ir : ℕ) (parts : Bytes) (n : ℕ) → length parts ≤ sheet_width * n
-    → length (cond told (shown_record kind r ir 0) (shown_record 5 0 0 0) ++ cond told parts []) ≤ sheet_width * (1 + n)
-with_parts true kind r ir parts n l = omega (arith, l)
-with_parts false kind r ir parts n l = omega arith
-
-pub sheet_length : (t : Bytes) (g : ℕ) (e : Term) → length (sheet t g e) ≤ sheet_width * size e
-unfolding sheet size
-sheet_length t g (var n) = omega arith
-sheet_length t g (unit k) = own_record (leq t k.r g) 0 k.r k.ir 0
-sheet_length t g (lam k i e) = omega (arith, own_record (leq t k.r g) 4 k.r k.ir 0)
-sheet_length t g (pair k a b) =
-    with_parts (leq t k.r g) 3 k.r k.ir (sheet t g a ++ sheet t g b) (size a + size b)
-    (omega (arith, length-append (sheet t g a) (sheet t g b), sheet_length t g a, sheet_length t g b))
-sheet_length t g (inj d k i e) = with_parts (leq t k.r g) (choose d 1 2) k.r k.ir (sheet t g e) (size e) (sheet_length t g e)
-sheet_length t g (app w f a) = omega arith
-sheet_length t g (proj d w e) = omega arith
-sheet_length t g (case w i e a b) = omega arith
-sheet_length t g (protect m e) = omega arith
-sheet_length t g (mu w i e) = omega arith
-sheet_length t g (literal k n) = own_record (leq t k.r g) 6 k.r k.ir n
-sheet_length t g (reckon o w a b) = omega arith

@@ -4,9 +4,9 @@
 
 ghost use Rattle.std.specs.Prelude.{◌≡◌, ℕ, ◌+◌, ◌*◌, ◌^◌, ◌≤◌, ◌<◌, length, IfErr};
 ghost use Rattle.rules.specs.Answer.{Bytes};
-ghost use Rattle.answer.specs.Numbers.{number};
-ghost use Rattle.answer.specs.Said.{said};
-ghost use Rattle.packing.specs.Packed.{half, packed, ended, steps_width, steps_in, steps_of};
+ghost use Rattle.answer.specs.Numbers.{question_number};
+ghost use Rattle.answer.specs.Said.{answer_of};
+ghost use Rattle.packing.specs.Packed.{half, packed_number, end_and_count, steps_width, steps_in, steps_of};
 
 use answer::Refusal;
 
@@ -17,44 +17,49 @@ const QUARTER: usize = 65536;
 // A refusal: the question in the upper half, the place in the lower.
 fn refusal(refusal: Refusal) -> u64
     requires { refusal.place < half }
-    ensures { result ≡ number refusal.question * half + refusal.place }
+    ensures { result ≡ question_number refusal.question * half + refusal.place }
 {
     u64::from(refusal.question.number()) * HALF + (refusal.place as u64)
 }
 
-// A call's number, or its refusal.
-pub fn answer(a: Result<usize, Refusal>) -> u64
-    requires { IfErr a (λ refusal. refusal.place < half) }
-    ensures { result ≡ packed (said a) }
+/// A call's outcome as the number that it hands to C: what it counted, or of a refusal the question's number times
+/// 2^32 plus the place. A count of less than 2^32 leaves the upper half 0, so that a caller reads off which of the
+/// two it is.
+pub fn answer(outcome: Result<usize, Refusal>) -> u64
+    requires { IfErr outcome (λ refusal. refusal.place < half) }
+    ensures { result ≡ packed_number (answer_of outcome) }
 {
-    match a {
+    match outcome {
         Ok(n) => n as u64,
         Err(e) => refusal(e),
     }
 }
 
-// A run's or a step's end and record count.
+/// A run's or a step's end and its record count as one count: the end times 65,536, plus the records.
 pub fn end_and_count(end: u8, count: usize) -> usize
     requires { count < half }
-    ensures { result ≡ ended end count }
+    ensures { result ≡ end_and_count end count }
 {
     usize::from(end) * QUARTER + count
 }
 
-// The step count, lowest byte first, as far as the slice goes.
+/// Writes a step count into `steps` as 8 bytes, lowest byte first: as many of them as the slice has. Bytes past the
+/// eighth are kept.
 #[tactic(auto, using(crate::proofs::Steps::steps_bytes))]
-pub fn put_steps(n: u64, steps: &mut [u8])
-    ensures { steps.new ≡ steps_in n steps.old }
+pub fn put_steps(count: u64, steps: &mut [u8])
+    ensures { steps.new ≡ steps_in count steps.old }
 {
-    memory::put_fitting(&n.to_le_bytes(), steps);
+    memory::put_fitting(&count.to_le_bytes(), steps);
 }
 
-// The step count that a slice holds, lowest byte first; bytes that it hasn't are 0. What `put_steps` wrote is read again, and it would
-// write what is read as it stands.
+/// The step count that the first 8 bytes of a slice hold, lowest byte first; bytes that it hasn't are 0. What
+/// `put_steps` wrote into 8 bytes or more is read again, and `put_steps` of what is read leaves any slice as it
+/// stands.
 pub fn steps_of(steps: &[u8]) -> u64
-    ensures { (result ≡ steps_of steps.now)
-        × ((n : ℕ) (old : Bytes) → n < 2 ^ 64 → steps_width ≤ length old → steps.now ≡ steps_in n old → result ≡ n)
-        × (steps_in result steps.now ≡ steps.now) }
+    ensures value { result ≡ steps_of steps.now }
+    ensures read_again { (n : ℕ) (old : Bytes) → n < 2 ^ 64 → steps_width ≤ length old → steps.now ≡ steps_in n old
+        → result ≡ n }
+    ensures kept { steps_in result steps.now ≡ steps.now }
 {
     let mut bytes = [0; 8];
     memory::put_fitting(steps, &mut bytes);

@@ -5,3 +5,5 @@ pub mod Made
 pub mod Weights
 pub mod Passing
 pub mod Numbered
+pub mod ThirdOperand
+pub mod WeightOf

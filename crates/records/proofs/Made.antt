@@ -1,7 +1,8 @@
 -- A term is made of its own record and its operands, so its kind alone tells its form.
 use Rattle.std.proofs.Common.{◌≡◌, refl, ap, sym, subst, ◌∙◌, ℕ}
 use Rattle.calculus.specs.Security.{Property, Indirect}
-use Rattle.calculus.specs.Terms.{first, second, plus, less, Term, var, unit, lam, pair, inj, app, proj, case, protect, mu, literal, reckon}
+use Rattle.calculus.specs.Terms.{first, second, plus, less, Term, var, unit, lam, pair, inj, app, proj, case, protect}
+use Rattle.calculus.specs.Terms.{mu, literal, reckon}
 use Rattle.rules.specs.Answer.{Bytes}
 use Rattle.rules.specs.Limits.{script_width}
 use Rattle.rules.specs.Script.{r, ir, c, ic, number, make}
@@ -11,8 +12,9 @@ use Rattle.rules.proofs.RecordFields.{r_is, ir_is, number_is, c_is, ic_is}
 use Rattle.rules.proofs.TermCode.{term_head, term_code, two_bytes}
 use Rattle.records.specs.Place.{At}
 use Rattle.records.specs.Labels.{property_at, influence_at}
-use Rattle.records.specs.Operands.{first_operand, second_operand, third_operand}
+use Rattle.records.specs.Operands.{first_operand, second_operand}
 use Rattle.records.proofs.Stands.{kind_of}
+use Rattle.records.proofs.ThirdOperand.{third_operand}
 
 -- the number of a term's own record
 abbrev pub number_of : Term → ℕ
@@ -32,20 +34,15 @@ form k e =
 
 made : (e : Term) → e ≡ form (kind_of e) e
 made (var n) = ap var (sym (two_bytes n))
-made (unit k) = refl
 made (lam k i e) = ap (λ n. lam k n e) (sym (two_bytes i))
-made (pair k a b) = refl
 made (inj first k i e) = ap (λ n. inj first k n e) (sym (two_bytes i))
 made (inj second k i e) = ap (λ n. inj second k n e) (sym (two_bytes i))
-made (app w f a) = refl
 made (proj first w e) = refl
-made (proj second w e) = refl
 made (case w i e a b) = ap (λ n. case w n e a b) (sym (two_bytes i))
-made (protect m e) = refl
 made (mu w i e) = ap (λ n. mu w n e) (sym (two_bytes i))
 made (literal k n) = ap (literal k) (sym (two_bytes n))
-made (reckon plus w a b) = refl
 made (reckon (less i) w a b) = ap (λ n. reckon (less n) w a b) (sym (two_bytes i))
+made _ = refl
 
 of_kind : (k : ℕ) (e : Term) → kind_of e ≡ k → e ≡ form k e
 of_kind k e h = made e ∙ ap (λ n. form n e) h

@@ -1,10 +1,12 @@
 -- Kinds are told apart by their numbers.
-use Rattle.std.proofs.Common.{◌≡◌, refl, arith, eqb, rules}
+use Rattle.std.proofs.Common.{◌≡◌, refl, arith, nat_eq, rules}
 use Rattle.records.specs.Numbers.{kind_number}
 use Rattle.records.specs.declared.Kind.{Kind}
 use Rattle.records.specs.contracts.Kind.{the_type}
 use denote.Enum.Bare.{sameb}
-use Rattle.records.specs.declared.Kind.TheVariants.{Variable, Unit, Function, Pair, FirstInjection, SecondInjection, Application, FirstProjection, SecondProjection, Case, Protect, Recursion, Literal, Sum, Less}
+use Rattle.records.specs.declared.Kind.TheVariants.{Variable, Unit, Function, Pair, FirstInjection, SecondInjection}
+use Rattle.records.specs.declared.Kind.TheVariants.{Application, FirstProjection, SecondProjection, Case, Protect}
+use Rattle.records.specs.declared.Kind.TheVariants.{Recursion, Literal, Sum, Less}
 
 pub same_kind : (k l : Kind) → kind_number k ≡ kind_number l → k ≡ l
 same_kind Variable Variable e = refl
@@ -25,5 +27,5 @@ same_kind Less Less e = refl
 same_kind k l e = absurd (omega arith)
 
 -- the derived test of equality
-pub tests_numbers : (k l : Kind) → sameb the_type k l ≡ eqb (kind_number k) (kind_number l)
+pub tests_numbers : (k l : Kind) → sameb the_type k l ≡ nat_eq (kind_number k) (kind_number l)
 tests_numbers k l = search rules

@@ -1,7 +1,9 @@
 -- A term that stands at a record: its record's kind, and where its operands stand.
-use Rattle.std.proofs.Common.{◌≡◌, refl, ap, sym, ◌∙◌, List, [], ◌∷◌, ◌++◌, append_assoc, append-nil, ℕ, suc, ◌+◌, ◌*◌, ◌-◌, ◌≤◌, ◌<◌, arith, length, take, drop, length-append, length-drop}
+use Rattle.std.proofs.Common.{◌≡◌, refl, ap, sym, ◌∙◌, List, [], ◌∷◌, ◌++◌, append_assoc, append-nil, ℕ, suc, ◌+◌, ◌*◌}
+use Rattle.std.proofs.Common.{◌-◌, ◌≤◌, ◌<◌, arith, length, take, drop, length-append, length-drop}
 use Rattle.std.proofs.Math.Option.{some}
-use Rattle.calculus.specs.Terms.{first, second, plus, less, Term, var, unit, lam, pair, inj, app, proj, case, protect, mu, literal, reckon}
+use Rattle.calculus.specs.Terms.{first, second, plus, less, Term, var, unit, lam, pair, inj, app, proj, case, protect}
+use Rattle.calculus.specs.Terms.{mu, literal, reckon}
 use Rattle.rules.specs.Answer.{Bytes, byte}
 use Rattle.rules.specs.Limits.{script_width}
 use Rattle.rules.specs.Script.{kind, records, encode, size, term, term_end, arity}
@@ -13,7 +15,8 @@ use Rattle.rules.proofs.TermCode.{term_code, term_prefix, term_head, term_operan
 use Rattle.rules.proofs.Scripts.{records_encode}
 use Rattle.records.specs.Kinds as kinds
 use Rattle.records.specs.Place.{At, Here}
-use Rattle.records.specs.Operands.{first_operand, second_operand, third_operand}
+use Rattle.records.specs.Operands.{first_operand, second_operand}
+use Rattle.records.proofs.ThirdOperand.{third_operand}
 
 abbrev pub operands : Term → ℕ
 operands e = length (term_operands e)
@@ -67,25 +70,13 @@ module _ (a b c : Term) where
   two_up (x ∷ y ∷ ts) h l = cc
 
   three_up : (ts : List Term) → Starts ts → 3 ≤ length ts → ts ≡ a ∷ b ∷ c ∷ drop 3 ts
-  three_up [] h l = absurd (omega arith)
-  three_up (x ∷ []) h l = absurd (omega arith)
-  three_up (x ∷ y ∷ []) h l = absurd (omega arith)
   three_up (x ∷ y ∷ z ∷ ts) h l = cc
+  three_up _ h l = absurd (omega arith)
 
 -- A term's operands are the first of the three that stand for them.
 listed : (e : Term) → term_operands e ≡ take (operands e) (first_operand e ∷ second_operand e ∷ third_operand e ∷ [])
 listed (var n) = refl
-listed (unit k) = refl
-listed (lam k i e) = refl
-listed (pair k a b) = refl
-listed (inj d k i e) = refl
-listed (app w f a) = refl
-listed (proj d w e) = refl
-listed (case w i e a b) = refl
-listed (protect m e) = refl
-listed (mu w i e) = refl
-listed (literal k n) = refl
-listed (reckon o w a b) = refl
+listed _ = refl
 
 moved : {s : Bytes} {e : Term} (i j : ℕ) (rest : Bytes) → i ≡ j → drop (script_width * i) s ≡ encode e ++ rest → At s j e
 moved {s} i j rest p h = record { rest = rest; stands = ap (λ n. drop (script_width * n) s) (sym p) ∙ h }
@@ -121,21 +112,10 @@ stands_end s i e w = tree_end term_prefix e s i (records s - i) w.rest (omega (a
 
 -- every term's record has a kind
 known : (e : Term) → kind_of e ≤ kinds.less
-known (var n) = omega arith
-known (unit k) = omega arith
-known (lam k i e) = omega arith
-known (pair k a b) = omega arith
 known (inj first k i e) = omega arith
-known (inj second k i e) = omega arith
-known (app w f a) = omega arith
 known (proj first w e) = omega arith
-known (proj second w e) = omega arith
-known (case w i e a b) = omega arith
-known (protect m e) = omega arith
-known (mu w i e) = omega arith
-known (literal k n) = omega arith
 known (reckon plus w a b) = omega arith
-known (reckon (less i) w a b) = omega arith
+known _ = omega arith
 
 pub stands_known : (s : Bytes) (i : ℕ) (e : Term) → At s i e → kind s i ≤ kinds.less
 stands_known s i e w = omega (arith, stands_kind s i e w, known e)

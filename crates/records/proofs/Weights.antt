@@ -1,31 +1,23 @@
 -- The weight of a record is that of the node that it starts.
-use Rattle.std.proofs.Common.{◌≡◌, refl, Bool, true, false, cond, ◌&&◌, ℕ, ◌≤◌, arith, eqb}
-use Rattle.calculus.specs.Terms.{first, second, plus, less, Term, var, unit, lam, pair, inj, app, proj, case, protect, mu, literal, reckon}
+use Rattle.std.proofs.Common.{◌≡◌, refl, Bool, true, false, cond, ◌&&◌, ℕ, ◌≤◌, arith, nat_eq}
+use Rattle.calculus.specs.Terms.{first, second, plus, less, Term, var, unit, lam, pair, inj, app, proj, case, protect}
+use Rattle.calculus.specs.Terms.{mu, literal, reckon}
 use Rattle.calculus.specs.Typing.{finds_own}
 use Rattle.rules.specs.Answer.{Bytes}
 use Rattle.rules.specs.Script.{weight}
 use Rattle.rules.proofs.TermCode.{two_bytes}
 use Rattle.records.specs.Place.{At}
-use Rattle.records.specs.Weight.{weight_at, weight_of}
+use Rattle.records.specs.Weight.{weight_at}
 use Rattle.records.proofs.Stands.{kind_of, stands_kind}
 use Rattle.records.proofs.Made.{number_of, number_at}
+use Rattle.records.proofs.WeightOf.{weight_of}
 
-node_weight : (e : Term) → cond (eqb (kind_of e) 9 && finds_own (number_of e)) 2 1 ≡ weight_of e
-node_weight (var n) = refl
-node_weight (unit k) = refl
-node_weight (lam k i e) = refl
-node_weight (pair k a b) = refl
+node_weight : (e : Term) → cond (nat_eq (kind_of e) 9 && finds_own (number_of e)) 2 1 ≡ weight_of e
 node_weight (inj first k i e) = refl
-node_weight (inj second k i e) = refl
-node_weight (app w f a) = refl
 node_weight (proj first w e) = refl
-node_weight (proj second w e) = refl
 node_weight (case w i e a b) = rw (two_bytes i)
-node_weight (protect m e) = refl
-node_weight (mu w i e) = refl
-node_weight (literal k n) = refl
 node_weight (reckon plus w a b) = refl
-node_weight (reckon (less i) w a b) = refl
+node_weight _ = refl
 
 pub stands_weight : {s : Bytes} {i : ℕ} {e : Term} → At s i e → weight_at s i ≡ weight_of e
 stands_weight {s} {i} {e} a = rw (stands_kind s i e a, number_at a) (node_weight e)
@@ -39,15 +31,5 @@ weight_bounds i = go (finds_own i)
     go false = (omega arith, omega arith)
 
 pub weights : (e : Term) → (1 ≤ weight_of e) × (weight_of e ≤ 2)
-weights (var n) = (omega arith, omega arith)
-weights (unit k) = (omega arith, omega arith)
-weights (lam k i e) = (omega arith, omega arith)
-weights (pair k a b) = (omega arith, omega arith)
-weights (inj d k i e) = (omega arith, omega arith)
-weights (app w f a) = (omega arith, omega arith)
-weights (proj d w e) = (omega arith, omega arith)
 weights (case w i e a b) = weight_bounds i
-weights (protect m e) = (omega arith, omega arith)
-weights (mu w i e) = (omega arith, omega arith)
-weights (literal k n) = (omega arith, omega arith)
-weights (reckon o w a b) = (omega arith, omega arith)
+weights _ = (omega arith, omega arith)

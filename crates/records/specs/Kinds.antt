@@ -1,5 +1,5 @@
 -- The kinds of records, by the names that the code has for them.
-use Rattle.std.specs.Prelude.{Bool, ◌||◌, ℕ, eqb}
+use Rattle.std.specs.Prelude.{Bool, ◌||◌, ℕ, nat_eq}
 
 abbrev pub variable : ℕ
 variable = 0
@@ -48,4 +48,4 @@ less = 14
 
 -- Is it the kind of an injection, the first or the second?
 abbrev pub is_injection : ℕ → Bool
-is_injection kind = eqb kind first_injection || eqb kind second_injection
+is_injection kind = nat_eq kind first_injection || nat_eq kind second_injection

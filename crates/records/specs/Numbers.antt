@@ -2,25 +2,12 @@
 use Rattle.std.specs.Prelude.{◌≡◌, ◌<◌, ℕ, Option, MatchOption, Result, MatchResult}
 use Rattle.records.specs.Kinds as kinds
 use Rattle.records.specs.declared.Kind.{Kind}
-use Rattle.records.specs.declared.Kind.TheVariants.{
-  Variable,
-  Unit,
-  Function,
-  Pair,
-  FirstInjection,
-  SecondInjection,
-  Application,
-  FirstProjection,
-  SecondProjection,
-  Case,
-  Protect,
-  Recursion,
-  Literal,
-  Sum,
-  Less,
-}
+use Rattle.records.specs.declared.Kind.TheVariants.{Variable, Unit, Function, Pair, FirstInjection, SecondInjection}
+use Rattle.records.specs.declared.Kind.TheVariants.{Application, FirstProjection, SecondProjection, Case, Protect}
+use Rattle.records.specs.declared.Kind.TheVariants.{Recursion, Literal, Sum, Less}
 use Rattle.records.specs.declared.UnknownKind.{UnknownKind}
 
+-- a kind's number
 abbrev pub kind_number : Kind → ℕ
 kind_number Variable = kinds.variable
 kind_number Unit = kinds.unit
@@ -43,5 +30,5 @@ abbrev pub KindIs : ℕ → Option Kind → Type 0
 KindIs n o = MatchOption o (kinds.less < n) (λ k. kind_number k ≡ n)
 
 -- the same, of a number that is turned into a kind
-abbrev pub Names : ℕ → Result Kind UnknownKind → Type 0
-Names n r = MatchResult r (λ k. kind_number k ≡ n) (λ e. (e.0 ≡ n) × (kinds.less < n))
+abbrev pub NamesKind : ℕ → Result Kind UnknownKind → Type 0
+NamesKind n r = MatchResult r (λ k. kind_number k ≡ n) (λ e. (e.0 ≡ n) × (kinds.less < n))

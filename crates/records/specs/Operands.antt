@@ -1,6 +1,7 @@
 -- The operands of a term, in script order. Each is total: a term stands for those that it lacks, and no rule uses them.
 use Rattle.calculus.specs.Terms.{Term, var, unit, lam, pair, inj, app, proj, case, protect, mu, literal, reckon}
 
+-- the first operand; for a case the tested one
 abbrev pub first_operand : Term → Term
 first_operand (var n) = var n
 first_operand (unit k) = unit k
@@ -15,6 +16,7 @@ first_operand (mu w i e) = e
 first_operand (literal k n) = literal k n
 first_operand (reckon o w a b) = a
 
+-- the second operand, for a case its first branch; of a single operand that one again
 abbrev pub second_operand : Term → Term
 second_operand (var n) = var n
 second_operand (unit k) = unit k
@@ -28,17 +30,3 @@ second_operand (protect m e) = e
 second_operand (mu w i e) = e
 second_operand (literal k n) = literal k n
 second_operand (reckon o w a b) = b
-
-abbrev pub third_operand : Term → Term
-third_operand (var n) = var n
-third_operand (unit k) = unit k
-third_operand (lam k i e) = e
-third_operand (pair k a b) = b
-third_operand (inj d k i e) = e
-third_operand (app w f a) = a
-third_operand (proj d w e) = e
-third_operand (case w i e a b) = b
-third_operand (protect m e) = e
-third_operand (mu w i e) = e
-third_operand (literal k n) = literal k n
-third_operand (reckon o w a b) = b

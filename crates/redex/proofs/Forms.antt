@@ -1,23 +1,25 @@
--- What a node does by its kind: which operand it evaluates next, when it is a value, when its own turn comes, and its fate.
-use Rattle.std.proofs.Common.{◌≡◌, refl, cond, ◌&&◌, ℕ, ◌+◌, ◌≤◌, ◌⊎◌, inl, inr, arith, eqb}
-use Rattle.std.proofs.Math.Bool.{So}
+-- What a node does by its kind: which operand it evaluates next, when it is a value, when its own turn comes, and its
+-- fate.
+use Rattle.std.proofs.Common.{◌≡◌, refl, cond, ◌&&◌, ℕ, ◌+◌, ◌≤◌, ◌⊎◌, inl, inr, arith, nat_eq, IsTrue}
 use Rattle.std.proofs.lemmas.Bool.{false≢true}
 use Rattle.calculus.specs.Security.{Reader, Security}
 use Rattle.calculus.specs.Types.{sum, product, function, Ty, exists}
-use Rattle.calculus.specs.Terms.{first, second, Operation, plus, less, Term, var, unit, lam, pair, inj, app, proj, case, protect, mu, literal, reckon, is_value}
+use Rattle.calculus.specs.Terms.{first, second, Operation, plus, less, Term, var, unit, lam, pair, inj, app, proj, case}
+use Rattle.calculus.specs.Terms.{protect, mu, literal, reckon, is_value}
 use Rattle.calculus.specs.Numbers.{literal_of}
-use Rattle.calculus.specs.Reduction.{Context, hole, app_left, app_right, in_proj, in_inj, pair_left, pair_right, in_protect, in_case, reckon_left, reckon_right, plug}
+use Rattle.calculus.specs.Reduction.{Context, hole, app_left, app_right, in_proj, in_inj, pair_left, pair_right}
+use Rattle.calculus.specs.Reduction.{in_protect, in_case, reckon_left, reckon_right, plug}
 use Rattle.calculus.specs.Stuck.{built_by}
 use Rattle.calculus.proofs.Booleans.{both}
 use Rattle.rules.specs.Script.{size}
 use Rattle.rules.proofs.TermCode.{two_bytes}
 use Rattle.records.specs.Kinds as kinds
 use Rattle.records.specs.Operands.{first_operand, second_operand}
-use Rattle.records.specs.Weight.{weight_of}
 use Rattle.records.proofs.Stands.{kind_of, operands}
 use Rattle.records.proofs.Made.{number_of, by_kind}
+use Rattle.records.proofs.WeightOf.{weight_of}
 use Rattle.redex.specs.Contexts.{offset, level}
-use Rattle.redex.specs.Fates.{goes, wrong_kind, property_of, is_function, ready, reading_fate, fate}
+use Rattle.redex.specs.Fates.{reduces, no_rule, property_of, is_function, is_potential_redex, reading_fate, fate}
 use Rattle.redex.specs.Found.{is_destructor, is_reckoning, takes_apart}
 
 -- x is the operand that e evaluates next, n records on and m levels down
@@ -52,7 +54,7 @@ first_position (reckon o w a b) v m h = record { context = reckon_left o w hole 
 pub record Second (e : Term) : Type 0 where
   pub position : Position e (second_operand e) (1 + size (first_operand e)) 1
   pub sizes : size e ≡ 1 + (size (first_operand e) + size (second_operand e))
-  pub turns : (kind_of e ≡ kinds.pair → ⊥) → So (is_value (second_operand e)) → So (ready e)
+  pub turns : (kind_of e ≡ kinds.pair → ⊥) → IsTrue (is_value (second_operand e)) → IsTrue (is_potential_redex e)
 
 -- no injection, no destructor of one operand and no protect
 abbrev pub Twofold : Term → Type 0
@@ -60,8 +62,8 @@ Twofold e =
     (kind_of e ≡ kinds.first_injection → ⊥) × (kind_of e ≡ kinds.second_injection → ⊥) × (kind_of e ≡ kinds.first_projection → ⊥)
     × (kind_of e ≡ kinds.second_projection → ⊥) × (kind_of e ≡ kinds.case → ⊥) × (kind_of e ≡ kinds.protect → ⊥)
 
-pub second_position : (e : Term) → Evaluates e → Twofold e → So (is_value (first_operand e)) → Second e
-unfolding plug offset level size ready
+pub second_position : (e : Term) → Evaluates e → Twofold e → IsTrue (is_value (first_operand e)) → Second e
+unfolding plug offset level size is_potential_redex
 second_position (var n) v h w = absurd (v.0 refl)
 second_position (unit k) v h w = absurd (v.1 refl)
 second_position (lam k i e) v h w = absurd (v.3 refl)
@@ -86,92 +88,68 @@ second_position (reckon (less i) u a b) v h w =
 abbrev pub IsAlone : ℕ → Type 0
 IsAlone n = (n ≡ kinds.unit) ⊎ (n ≡ kinds.literal)
 
-pub alone_value : (e : Term) → IsAlone (kind_of e) → So (is_value e) × (size e ≡ 1)
+pub alone_value : (e : Term) → IsAlone (kind_of e) → IsTrue (is_value e) × (size e ≡ 1)
 unfolding is_value size
-alone_value e (inl h) = by_kind (λ x. So (is_value x) × (size x ≡ 1)) kinds.unit e h (refl, refl)
-alone_value e (inr h) = by_kind (λ x. So (is_value x) × (size x ≡ 1)) kinds.literal e h (refl, refl)
+alone_value e (inl h) = by_kind (λ x. IsTrue (is_value x) × (size x ≡ 1)) kinds.unit e h (refl, refl)
+alone_value e (inr h) = by_kind (λ x. IsTrue (is_value x) × (size x ≡ 1)) kinds.literal e h (refl, refl)
 
-pub function_value : (e : Term) → kind_of e ≡ kinds.function → So (is_value e)
+pub function_value : (e : Term) → kind_of e ≡ kinds.function → IsTrue (is_value e)
 unfolding is_value
-function_value e h = by_kind (λ x. So (is_value x)) kinds.function e h refl
+function_value e h = by_kind (λ x. IsTrue (is_value x)) kinds.function e h refl
 
-pub pair_value : (e : Term) → kind_of e ≡ kinds.pair → So (is_value (first_operand e)) → So (is_value (second_operand e)) → So (is_value e)
+pub pair_value : (e : Term) → kind_of e ≡ kinds.pair → IsTrue (is_value (first_operand e)) → IsTrue (is_value (second_operand e)) → IsTrue (is_value e)
 unfolding is_value
-pair_value e h = by_kind (λ x. So (is_value (first_operand x)) → So (is_value (second_operand x)) → So (is_value x)) kinds.pair e h both
+pair_value e h = by_kind (λ x. IsTrue (is_value (first_operand x)) → IsTrue (is_value (second_operand x)) → IsTrue (is_value x)) kinds.pair e h both
 
-pub injection_value : (e : Term) → So (kinds.is_injection (kind_of e)) → So (is_value (first_operand e)) → So (is_value e) × (size e ≡ 1 + size (first_operand e))
+pub injection_value : (e : Term) → IsTrue (kinds.is_injection (kind_of e)) → IsTrue (is_value (first_operand e)) → IsTrue (is_value e) × (size e ≡ 1 + size (first_operand e))
 unfolding is_value size
-injection_value (var n) h v = absurd (false≢true h)
-injection_value (unit k) h v = absurd (false≢true h)
-injection_value (lam k i e) h v = absurd (false≢true h)
-injection_value (pair k a b) h v = absurd (false≢true h)
 injection_value (inj d k i e) h v = (v, refl)
-injection_value (app w f a) h v = absurd (false≢true h)
 injection_value (proj first w e) h v = absurd (false≢true h)
-injection_value (proj second w e) h v = absurd (false≢true h)
-injection_value (case w i e a b) h v = absurd (false≢true h)
-injection_value (protect m e) h v = absurd (false≢true h)
-injection_value (mu w i e) h v = absurd (false≢true h)
-injection_value (literal k n) h v = absurd (false≢true h)
 injection_value (reckon plus w a b) h v = absurd (false≢true h)
-injection_value (reckon (less i) w a b) h v = absurd (false≢true h)
+injection_value _ h v = absurd (false≢true h)
 
 -- what is shown of every sum and of every comparison is shown of a term whose kind is one of theirs
-pub reckoned_form : (P : Term → Type 0) (e : Term) → So (is_reckoning (kind_of e)) → ((o : Operation) (w : Reader) (a b : Term) → P (reckon o w a b)) → P e
-reckoned_form P (var n) h p = absurd (false≢true h)
-reckoned_form P (unit k) h p = absurd (false≢true h)
-reckoned_form P (lam k i e) h p = absurd (false≢true h)
-reckoned_form P (pair k a b) h p = absurd (false≢true h)
+pub reckoned_form : (P : Term → Type 0) (e : Term) → IsTrue (is_reckoning (kind_of e)) → ((o : Operation) (w : Reader) (a b : Term) → P (reckon o w a b)) → P e
 reckoned_form P (inj first k i e) h p = absurd (false≢true h)
-reckoned_form P (inj second k i e) h p = absurd (false≢true h)
-reckoned_form P (app w f a) h p = absurd (false≢true h)
 reckoned_form P (proj first w e) h p = absurd (false≢true h)
-reckoned_form P (proj second w e) h p = absurd (false≢true h)
-reckoned_form P (case w i e a b) h p = absurd (false≢true h)
-reckoned_form P (protect m e) h p = absurd (false≢true h)
-reckoned_form P (mu w i e) h p = absurd (false≢true h)
-reckoned_form P (literal k n) h p = absurd (false≢true h)
 reckoned_form P (reckon o w a b) h p = p o w a b
+reckoned_form P _ h p = absurd (false≢true h)
 
 -- which has two operands
-pub reckoned_operands : (e : Term) → So (is_reckoning (kind_of e)) → 2 ≤ operands e
+pub reckoned_operands : (e : Term) → IsTrue (is_reckoning (kind_of e)) → 2 ≤ operands e
 reckoned_operands e h = reckoned_form (λ x. 2 ≤ operands x) e h (λ o w a b. omega arith)
 
 -- nodes whose own turn it is, and their fate
-pub variable_fate : (S : Security) (tab : ℕ → Ty) (e : Term) → kind_of e ≡ kinds.variable → fate S tab e ≡ wrong_kind
+pub variable_fate : (S : Security) (tab : ℕ → Ty) (e : Term) → kind_of e ≡ kinds.variable → fate S tab e ≡ no_rule
 unfolding fate
-variable_fate S tab e h = by_kind (λ x. fate S tab x ≡ wrong_kind) kinds.variable e h refl
+variable_fate S tab e h = by_kind (λ x. fate S tab x ≡ no_rule) kinds.variable e h refl
 
-pub protect_fate : (S : Security) (tab : ℕ → Ty) (e : Term) → kind_of e ≡ kinds.protect → fate S tab e ≡ goes
+pub protect_fate : (S : Security) (tab : ℕ → Ty) (e : Term) → kind_of e ≡ kinds.protect → fate S tab e ≡ reduces
 unfolding fate
-protect_fate S tab e h = by_kind (λ x. fate S tab x ≡ goes) kinds.protect e h refl
+protect_fate S tab e h = by_kind (λ x. fate S tab x ≡ reduces) kinds.protect e h refl
 
-pub recursion_fate : (S : Security) (tab : ℕ → Ty) (e : Term) → kind_of e ≡ kinds.recursion → fate S tab e ≡ cond (is_function (tab (number_of e))) goes wrong_kind
+pub recursion_fate : (S : Security) (tab : ℕ → Ty) (e : Term) → kind_of e ≡ kinds.recursion → fate S tab e ≡ cond (is_function (tab (number_of e))) reduces no_rule
 unfolding fate
 recursion_fate S tab e h =
-    by_kind (λ x. fate S tab x ≡ cond (is_function (tab (number_of x))) goes wrong_kind) kinds.recursion e h (rw (two_bytes (number_of e)))
+    by_kind (λ x. fate S tab x ≡ cond (is_function (tab (number_of x))) reduces no_rule) kinds.recursion e h (rw (two_bytes (number_of e)))
 
 -- the only node whose turn it is by no other kind
-pub variable_left : (e : Term) → So (ready e) → (kind_of e ≡ kinds.protect → ⊥) → (kind_of e ≡ kinds.recursion → ⊥) → (kind_of e ≡ kinds.sum → ⊥)
+pub variable_left : (e : Term) → IsTrue (is_potential_redex e) → (kind_of e ≡ kinds.protect → ⊥) → (kind_of e ≡ kinds.recursion → ⊥) → (kind_of e ≡ kinds.sum → ⊥)
     → (kind_of e ≡ kinds.less → ⊥) → (kind_of e ≡ kinds.application → ⊥) → (kind_of e ≡ kinds.first_projection → ⊥)
     → (kind_of e ≡ kinds.second_projection → ⊥) → (kind_of e ≡ kinds.case → ⊥) → kind_of e ≡ kinds.variable
-unfolding ready
+unfolding is_potential_redex
 variable_left (var n) h m r s l a p q c = refl
-variable_left (unit k) h m r s l a p q c = absurd (false≢true h)
-variable_left (lam k i e) h m r s l a p q c = absurd (false≢true h)
-variable_left (pair k e f) h m r s l a p q c = absurd (false≢true h)
-variable_left (inj d k i e) h m r s l a p q c = absurd (false≢true h)
 variable_left (app w f e) h m r s l a p q c = absurd (a refl)
 variable_left (proj first w e) h m r s l a p q c = absurd (p refl)
 variable_left (proj second w e) h m r s l a p q c = absurd (q refl)
 variable_left (case w i e f g) h m r s l a p q c = absurd (c refl)
 variable_left (protect i e) h m r s l a p q c = absurd (m refl)
 variable_left (mu w i e) h m r s l a p q c = absurd (r refl)
-variable_left (literal k n) h m r s l a p q c = absurd (false≢true h)
 variable_left (reckon plus w e f) h m r s l a p q c = absurd (s refl)
 variable_left (reckon (less i) w e f) h m r s l a p q c = absurd (l refl)
+variable_left _ h m r s l a p q c = absurd (false≢true h)
 
-pub application_reads : So (is_destructor kinds.application)
+pub application_reads : IsTrue (is_destructor kinds.application)
 unfolding is_destructor
 application_reads = refl
 
@@ -179,7 +157,7 @@ application_reads = refl
 abbrev pub ReadsOne : ℕ → Type 0
 ReadsOne n = (n ≡ kinds.first_projection) ⊎ ((n ≡ kinds.second_projection) ⊎ (n ≡ kinds.case))
 
-pub one_reads : (n : ℕ) → ReadsOne n → So (is_destructor n)
+pub one_reads : (n : ℕ) → ReadsOne n → IsTrue (is_destructor n)
 unfolding is_destructor
 one_reads n (inl h) = rw h
 one_reads n (inr (inl h)) = rw h
@@ -189,103 +167,65 @@ one_reads n (inr (inr h)) = rw h
 abbrev pub OfOne : ℕ → Type 0
 OfOne n = (n ≡ kinds.protect) ⊎ ReadsOne n
 
-pub one_turn : (e : Term) → OfOne (kind_of e) → So (is_value (first_operand e)) → So (ready e)
-unfolding ready
-one_turn e (inl h) = by_kind (λ x. So (is_value (first_operand x)) → So (ready x)) kinds.protect e h (λ v. v)
-one_turn e (inr (inl h)) = by_kind (λ x. So (is_value (first_operand x)) → So (ready x)) kinds.first_projection e h (λ v. v)
-one_turn e (inr (inr (inl h))) = by_kind (λ x. So (is_value (first_operand x)) → So (ready x)) kinds.second_projection e h (λ v. v)
-one_turn e (inr (inr (inr h))) = by_kind (λ x. So (is_value (first_operand x)) → So (ready x)) kinds.case e h (λ v. v)
+pub one_turn : (e : Term) → OfOne (kind_of e) → IsTrue (is_value (first_operand e)) → IsTrue (is_potential_redex e)
+unfolding is_potential_redex
+one_turn e (inl h) = by_kind (λ x. IsTrue (is_value (first_operand x)) → IsTrue (is_potential_redex x)) kinds.protect e h (λ v. v)
+one_turn e (inr (inl h)) = by_kind (λ x. IsTrue (is_value (first_operand x)) → IsTrue (is_potential_redex x)) kinds.first_projection e h (λ v. v)
+one_turn e (inr (inr (inl h))) = by_kind (λ x. IsTrue (is_value (first_operand x)) → IsTrue (is_potential_redex x)) kinds.second_projection e h (λ v. v)
+one_turn e (inr (inr (inr h))) = by_kind (λ x. IsTrue (is_value (first_operand x)) → IsTrue (is_potential_redex x)) kinds.case e h (λ v. v)
 
 -- and of one that evaluates none and is no value.
-pub lone_turn : (e : Term) → (kind_of e ≡ kinds.variable) ⊎ (kind_of e ≡ kinds.recursion) → So (ready e)
-unfolding ready
-lone_turn e (inl h) = by_kind (λ x. So (ready x)) kinds.variable e h refl
-lone_turn e (inr h) = by_kind (λ x. So (ready x)) kinds.recursion e h refl
+pub lone_turn : (e : Term) → (kind_of e ≡ kinds.variable) ⊎ (kind_of e ≡ kinds.recursion) → IsTrue (is_potential_redex e)
+unfolding is_potential_redex
+lone_turn e (inl h) = by_kind (λ x. IsTrue (is_potential_redex x)) kinds.variable e h refl
+lone_turn e (inr h) = by_kind (λ x. IsTrue (is_potential_redex x)) kinds.recursion e h refl
 
 -- the kinds of what a function type, a pair type and a sum type have for values
-pub built_is : (e : Term) → (built_by function e ≡ eqb (kind_of e) kinds.function) × (built_by product e ≡ eqb (kind_of e) kinds.pair)
+pub built_is : (e : Term) → (built_by function e ≡ nat_eq (kind_of e) kinds.function) × (built_by product e ≡ nat_eq (kind_of e) kinds.pair)
     × (built_by sum e ≡ kinds.is_injection (kind_of e))
 unfolding built_by
-built_is (var n) = (refl, refl, refl)
-built_is (unit k) = (refl, refl, refl)
-built_is (lam k i e) = (refl, refl, refl)
-built_is (pair k a b) = (refl, refl, refl)
 built_is (inj first k i e) = (refl, refl, refl)
-built_is (inj second k i e) = (refl, refl, refl)
-built_is (app w f a) = (refl, refl, refl)
 built_is (proj first w e) = (refl, refl, refl)
-built_is (proj second w e) = (refl, refl, refl)
-built_is (case w i e a b) = (refl, refl, refl)
-built_is (protect m e) = (refl, refl, refl)
-built_is (mu w i e) = (refl, refl, refl)
-built_is (literal k n) = (refl, refl, refl)
 built_is (reckon plus w a b) = (refl, refl, refl)
-built_is (reckon (less i) w a b) = (refl, refl, refl)
+built_is _ = (refl, refl, refl)
 
 -- a literal by its kind
-pub literal_is : (e : Term) → exists (literal_of e) ≡ eqb (kind_of e) kinds.literal
+pub literal_is : (e : Term) → exists (literal_of e) ≡ nat_eq (kind_of e) kinds.literal
 unfolding literal_of
-literal_is (var n) = refl
-literal_is (unit k) = refl
-literal_is (lam k i e) = refl
-literal_is (pair k a b) = refl
 literal_is (inj first k i e) = refl
-literal_is (inj second k i e) = refl
-literal_is (app w f a) = refl
 literal_is (proj first w e) = refl
-literal_is (proj second w e) = refl
-literal_is (case w i e a b) = refl
-literal_is (protect m e) = refl
-literal_is (mu w i e) = refl
-literal_is (literal k n) = refl
 literal_is (reckon plus w a b) = refl
-literal_is (reckon (less i) w a b) = refl
+literal_is _ = refl
 
 -- a destructor has an operand
-pub destructor_operand : (e : Term) → So (is_destructor (kind_of e)) → 1 ≤ operands e
+pub destructor_operand : (e : Term) → IsTrue (is_destructor (kind_of e)) → 1 ≤ operands e
 unfolding is_destructor
-destructor_operand (var n) h = absurd (false≢true h)
-destructor_operand (unit k) h = absurd (false≢true h)
-destructor_operand (lam k i e) h = absurd (false≢true h)
-destructor_operand (pair k a b) h = absurd (false≢true h)
 destructor_operand (inj first k i e) h = absurd (false≢true h)
-destructor_operand (inj second k i e) h = absurd (false≢true h)
 destructor_operand (app w f a) h = omega arith
 destructor_operand (proj d w e) h = omega arith
 destructor_operand (case w i e a b) h = omega arith
-destructor_operand (protect m e) h = absurd (false≢true h)
-destructor_operand (mu w i e) h = absurd (false≢true h)
-destructor_operand (literal k n) h = absurd (false≢true h)
 destructor_operand (reckon plus w a b) h = absurd (false≢true h)
-destructor_operand (reckon (less i) w a b) h = absurd (false≢true h)
+destructor_operand _ h = absurd (false≢true h)
 
 -- a destructor's fate, by its own record and by that of the operand that it reads
-pub reading_is : (S : Security) (tab : ℕ → Ty) (e : Term) → So (is_destructor (kind_of e))
+pub reading_is : (S : Security) (tab : ℕ → Ty) (e : Term) → IsTrue (is_destructor (kind_of e))
     → fate S tab e ≡ reading_fate (takes_apart (kind_of e) (kind_of (first_operand e))) (S.permits (property_of (first_operand e)) (property_of e).r)
 unfolding fate is_destructor
-reading_is S tab (var n) h = absurd (false≢true h)
-reading_is S tab (unit k) h = absurd (false≢true h)
-reading_is S tab (lam k i e) h = absurd (false≢true h)
-reading_is S tab (pair k a b) h = absurd (false≢true h)
 reading_is S tab (inj first k i e) h = absurd (false≢true h)
-reading_is S tab (inj second k i e) h = absurd (false≢true h)
 reading_is S tab (app w f a) h = rw (built_is f).0
 reading_is S tab (proj first w e) h = rw (built_is e).1
 reading_is S tab (proj second w e) h = rw (built_is e).1
 reading_is S tab (case w i e a b) h = rw (built_is e).2
-reading_is S tab (protect m e) h = absurd (false≢true h)
-reading_is S tab (mu w i e) h = absurd (false≢true h)
-reading_is S tab (literal k n) h = absurd (false≢true h)
 reading_is S tab (reckon plus w a b) h = absurd (false≢true h)
-reading_is S tab (reckon (less i) w a b) h = absurd (false≢true h)
+reading_is S tab _ h = absurd (false≢true h)
 
 -- the fate of a sum or of a comparison, by its own record and those of its two operands
-pub reckoning_is : (S : Security) (tab : ℕ → Ty) (e : Term) → So (is_reckoning (kind_of e))
-    → fate S tab e ≡ reading_fate (eqb (kind_of (first_operand e)) kinds.literal && eqb (kind_of (second_operand e)) kinds.literal)
+pub reckoning_is : (S : Security) (tab : ℕ → Ty) (e : Term) → IsTrue (is_reckoning (kind_of e))
+    → fate S tab e ≡ reading_fate (nat_eq (kind_of (first_operand e)) kinds.literal && nat_eq (kind_of (second_operand e)) kinds.literal)
     (S.permits (property_of (first_operand e)) (property_of e).r && S.permits (property_of (second_operand e)) (property_of e).r)
 unfolding fate
 reckoning_is S tab e h =
     reckoned_form
-    (λ x. fate S tab x ≡ reading_fate (eqb (kind_of (first_operand x)) kinds.literal && eqb (kind_of (second_operand x)) kinds.literal)
+    (λ x. fate S tab x ≡ reading_fate (nat_eq (kind_of (first_operand x)) kinds.literal && nat_eq (kind_of (second_operand x)) kinds.literal)
     (S.permits (property_of (first_operand x)) (property_of x).r && S.permits (property_of (second_operand x)) (property_of x).r))
     e h (λ o w a b. rw (literal_is a, literal_is b))

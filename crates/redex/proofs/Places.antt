@@ -2,7 +2,8 @@
 use Rattle.std.proofs.Common.{◌≡◌, refl, ap, ◌∙◌, ◌++◌, append_assoc, ℕ, ◌+◌, ◌*◌, arith}
 use Rattle.calculus.specs.Security.{Property, Security}
 use Rattle.calculus.specs.Types.{Ty}
-use Rattle.calculus.specs.Terms.{plus, less, Term, var, unit, lam, pair, inj, app, proj, case, protect, mu, literal, reckon}
+use Rattle.calculus.specs.Terms.{plus, less, Term, var, unit, lam, pair, inj, app, proj, case, protect, mu, literal}
+use Rattle.calculus.specs.Terms.{reckon}
 use Rattle.calculus.specs.Reduction.{Context, plug}
 use Rattle.rules.specs.Answer.{Bytes}
 use Rattle.rules.specs.Limits.{script_width}
@@ -10,8 +11,7 @@ use Rattle.rules.specs.Script.{r, encode}
 use Rattle.rules.proofs.Parts.{past}
 use Rattle.records.specs.Place.{At}
 use Rattle.records.specs.Labels.{property_at}
-use Rattle.records.proofs.Made.{property_stands}
-use Rattle.records.proofs.Made.{property_of as head_property}
+use Rattle.records.proofs.Made.{property_stands, property_of as head_property}
 use Rattle.redex.specs.Contexts.{before, after, offset}
 use Rattle.redex.specs.Fates.{property_of}
 use Rattle.redex.specs.Found.{Site}
@@ -19,19 +19,8 @@ use Rattle.redex.proofs.Plugs.{plug_bytes, before_length}
 
 -- the groups of a term's own record
 own_groups : (e : Term) → head_property e ≡ property_of e
-own_groups (var n) = refl
-own_groups (unit k) = refl
-own_groups (lam k i e) = refl
-own_groups (pair k a b) = refl
-own_groups (inj d k i e) = refl
-own_groups (app w f a) = refl
-own_groups (proj d w e) = refl
-own_groups (case w i e a b) = refl
-own_groups (protect m e) = refl
-own_groups (mu w i e) = refl
-own_groups (literal k n) = refl
 own_groups (reckon plus w a b) = refl
-own_groups (reckon (less i) w a b) = refl
+own_groups _ = refl
 
 module _ {s : Bytes} {i : ℕ} {e : Term} (a : At s i e) where
   pub groups_at : property_at s i ≡ property_of e

@@ -1,13 +1,16 @@
 -- Plugging in bytes: a term in an evaluation context is what stands before the hole, the term, what stands after it.
-use Rattle.std.proofs.Common.{◌≡◌, refl, sym, ap, ◌∙◌, ◌++◌, append_assoc, append-nil, ℕ, ◌+◌, ◌*◌, ◌≤◌, ◌<◌, max, arith, length, take, drop, length-append, take_at, drop_at}
+use Rattle.std.proofs.Common.{◌≡◌, refl, sym, ap, ◌∙◌, ◌++◌, append_assoc, append-nil, ℕ, ◌+◌, ◌*◌, ◌≤◌, ◌<◌, max}
+use Rattle.std.proofs.Common.{arith, length, take, drop, length-append, take_at, drop_at}
 use Rattle.calculus.specs.Terms.{first, second, plus, less, Term}
-use Rattle.calculus.specs.Reduction.{Context, hole, app_left, app_right, in_proj, in_inj, pair_left, pair_right, in_protect, in_case, reckon_left, reckon_right, plug}
+use Rattle.calculus.specs.Reduction.{Context, hole, app_left, app_right, in_proj, in_inj, pair_left, pair_right}
+use Rattle.calculus.specs.Reduction.{in_protect, in_case, reckon_left, reckon_right, plug}
 use Rattle.calculus.proofs.Contexts.{compose}
 use Rattle.rules.specs.Limits.{script_width}
 use Rattle.rules.specs.Script.{encode, size, depth}
 use Rattle.rules.proofs.PrefixLaws.{encode_length}
 use Rattle.rules.proofs.TermCode.{term_code}
-use Rattle.redex.specs.Contexts.{before, after, offset, beside, level, depth_beside}
+use Rattle.redex.specs.Contexts.{before, after, offset, level}
+use Rattle.redex.proofs.Beside.{beside, depth_beside}
 
 pub plug_bytes : (E : Context) (e : Term) → encode (plug E e) ≡ before E ++ (encode e ++ after E)
 unfolding encode plug before after

@@ -1,6 +1,5 @@
 -- What the search reports of a term, from what it reports of the operand that is evaluated next.
-use Rattle.std.proofs.Common.{◌≡◌, refl, sym, ap, ◌∙◌, ℕ, ◌+◌, ◌≤◌, arith}
-use Rattle.std.proofs.Math.Bool.{So}
+use Rattle.std.proofs.Common.{◌≡◌, refl, sym, ap, ◌∙◌, ℕ, ◌+◌, ◌≤◌, arith, IsTrue}
 use Rattle.calculus.specs.Security.{Security}
 use Rattle.calculus.specs.Types.{Ty}
 use Rattle.calculus.specs.Terms.{Term, is_value}
@@ -12,7 +11,7 @@ use Rattle.rules.specs.Limits.{depth_limit}
 use Rattle.rules.specs.Script.{size, depth}
 use Rattle.records.specs.Place.{At}
 use Rattle.redex.specs.Contexts.{offset, level}
-use Rattle.redex.specs.Fates.{Fate, goes, not_permitted, wrong_kind, ready, fate, contractum}
+use Rattle.redex.specs.Fates.{Fate, reduces, not_permitted, no_rule, is_potential_redex, fate, contractum}
 use Rattle.redex.specs.Found.{Site, Finds, finds_value, finds_redex, finds_denied, finds_stuck, answer}
 use Rattle.redex.specs.declared.Found.{Found}
 use Rattle.redex.specs.declared.Found.TheVariants.{Value, Redex, Denied, Stuck}
@@ -35,7 +34,7 @@ finds_step (finds_denied h) = h
 finds_step (finds_stuck h) = h
 
 -- the end of what is reported as a value
-pub found_value : {S : Security} {tab : ℕ → Ty} {i d : ℕ} {e : Term} {n : ℕ} → Finds S tab i d e (Value n) → So (is_value e) × (n ≡ i + size e)
+pub found_value : {S : Security} {tab : ℕ → Ty} {i d : ℕ} {e : Term} {n : ℕ} → Finds S tab i d e (Value n) → IsTrue (is_value e) × (n ≡ i + size e)
 found_value (finds_value v n) = (v, n)
 
 -- an operand's place
@@ -71,16 +70,16 @@ module _ (S : Security) (tab : ℕ → Ty) (i d : ℕ) (e : Term) where
   lift {x} j h p (finds_denied q) k = finds_denied (ap (step S tab) p.whole ∙ plug_step S tab p.context x denied refl q)
   lift {x} j h p (finds_stuck q) k = finds_stuck (ap (step S tab) p.whole ∙ plug_step S tab p.context x stuck refl q)
 
-  own_site : So (ready e) → fate S tab e ≡ goes → Site S tab i d e i d
+  own_site : IsTrue (is_potential_redex e) → fate S tab e ≡ reduces → Site S tab i d e i d
   unfolding plug offset level
   own_site t g =
       record { context = hole; redex = e; whole = refl; place_is = omega arith; around_is = omega arith; turn = t; goes = g }
 
   -- the answer of a node whose own turn it is
-  pub fired : {a : Found} → So (ready e) → a ≡ answer (fate S tab e) i d → Finds S tab i d e a
+  pub fired : {a : Found} → IsTrue (is_potential_redex e) → a ≡ answer (fate S tab e) i d → Finds S tab i d e a
   fired t h = rw h (by (fate S tab e) refl)
     where
       by : (x : Fate) → fate S tab e ≡ x → Finds S tab i d e (answer x i d)
-      by goes g = finds_redex (own_site t g)
+      by reduces g = finds_redex (own_site t g)
       by not_permitted g = finds_denied (turn_step S tab e t ∙ rw g)
-      by wrong_kind g = finds_stuck (turn_step S tab e t ∙ rw g)
+      by no_rule g = finds_stuck (turn_step S tab e t ∙ rw g)

@@ -1,7 +1,6 @@
--- What the search knows of the term e at record i, d levels down, as it goes on: its kind k is read and its first operand comes next;
--- the first operand is a value that ends at `next`; so is the second, which ends at `end`.
-use Rattle.std.proofs.Common.{◌≡◌, refl, sym, ap, subst, ◌∙◌, ℕ, ◌+◌, ◌⊎◌, inl, inr, arith}
-use Rattle.std.proofs.Math.Bool.{So}
+-- What the search knows of the term e at record i, d levels down, as it goes on: its kind k is read and its first
+-- operand comes next; the first operand is a value that ends at `next`; so is the second, which ends at `end`.
+use Rattle.std.proofs.Common.{◌≡◌, refl, sym, ap, subst, ◌∙◌, ℕ, ◌+◌, ◌⊎◌, inl, inr, arith, IsTrue}
 use Rattle.calculus.specs.Security.{Security}
 use Rattle.calculus.specs.Types.{Ty}
 use Rattle.calculus.specs.Terms.{Term, is_value}
@@ -13,19 +12,21 @@ use Rattle.records.specs.Operands.{first_operand, second_operand}
 use Rattle.records.specs.Weight.{weight_at}
 use Rattle.records.proofs.Weights.{stands_weight}
 use Rattle.records.proofs.Stands.{kind_of, stands_kind}
-use Rattle.redex.specs.Fates.{ready}
+use Rattle.redex.specs.Fates.{is_potential_redex}
 use Rattle.redex.specs.Found.{Finds}
 use Rattle.redex.specs.declared.Found.{Found}
 use Rattle.redex.specs.declared.Found.TheVariants.{Value}
 use Rattle.records.specs.Numbers.{kind_number}
 use Rattle.records.specs.declared.Kind.{Kind}
-use Rattle.records.specs.declared.Kind.TheVariants.{Variable, Unit, Function, Pair, FirstInjection, SecondInjection, FirstProjection, SecondProjection, Case, Protect, Recursion, Literal}
+use Rattle.records.specs.declared.Kind.TheVariants.{Variable, Unit, Function, Pair, FirstInjection, SecondInjection}
+use Rattle.records.specs.declared.Kind.TheVariants.{FirstProjection, SecondProjection, Case, Protect, Recursion}
+use Rattle.records.specs.declared.Kind.TheVariants.{Literal}
 use Rattle.redex.proofs.Forms.{Position, Evaluates, first_position, Second, second_position, OfOne, IsAlone}
 use Rattle.records.proofs.Numbered.{same_kind}
 use Rattle.redex.proofs.Searches.{found_value, position_at}
 
 -- an operand's answer, where it is a value
-pub value_found : {S : Security} {tab : ℕ → Ty} {j d n : ℕ} {x : Term} {a : Found} → Finds S tab j d x a → a ≡ Value n → So (is_value x) × (n ≡ j + size x)
+pub value_found : {S : Security} {tab : ℕ → Ty} {j d n : ℕ} {x : Term} {a : Found} → Finds S tab j d x a → a ≡ Value n → IsTrue (is_value x) × (n ≡ j + size x)
 value_found {S} {tab} {j} {d} {n} {x} f is = found_value (subst (λ (a : Found). Finds S tab j d x a) is f)
 
 pub record Opened (s : Bytes) (i : ℕ) (k : Kind) (e : Term) : Type 0 where
@@ -67,7 +68,7 @@ module _ {s : Bytes} {i : ℕ} {k : Kind} {e : Term} (o : Opened s i k e) where
   is_kind h = sym o.kind_is ∙ ap kind_number h
 
   -- an injection, and what has one evaluated operand and is no value
-  pub injects : (k ≡ FirstInjection) ⊎ (k ≡ SecondInjection) → So (kinds.is_injection (kind_of e))
+  pub injects : (k ≡ FirstInjection) ⊎ (k ≡ SecondInjection) → IsTrue (kinds.is_injection (kind_of e))
   injects (inl h) = rw (is_kind h)
   injects (inr h) = rw (is_kind h)
 
@@ -85,7 +86,7 @@ module _ {s : Bytes} {i : ℕ} {k : Kind} {e : Term} (o : Opened s i k e) where
 
 pub record FirstValue (s : Bytes) (i : ℕ) (k : Kind) (e : Term) (next : ℕ) : Type 0 where
   pub own : Opened s i k e
-  pub value : So (is_value (first_operand e))
+  pub value : IsTrue (is_value (first_operand e))
   pub ends : next ≡ i + 1 + size (first_operand e)
 
 pub first_value : {S : Security} {tab : ℕ → Ty} {s : Bytes} {i : ℕ} {k : Kind} {d next : ℕ} {e : Term} {a : Found} → Opened s i k e
@@ -110,5 +111,5 @@ module _ {s : Bytes} {i : ℕ} {k : Kind} {next : ℕ} {e : Term} (f : FirstValu
   second_at x = position_at _ x.position f.own.stands (omega (arith, f.ends))
 
   -- no pair, with two values as operands
-  pub both_turn : Second e → (k ≡ Pair → ⊥) → So (is_value (second_operand e)) → So (ready e)
+  pub both_turn : Second e → (k ≡ Pair → ⊥) → IsTrue (is_value (second_operand e)) → IsTrue (is_potential_redex e)
   both_turn x p = x.turns (λ h. p (same_kind k Pair (f.own.kind_is ∙ h)))

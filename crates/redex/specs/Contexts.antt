@@ -1,21 +1,10 @@
--- What stands around the hole of an evaluation context: the bytes, the records and the depths are the same for every term in the hole.
+-- What stands around the hole of an evaluation context: the bytes, the records and the depths are the same for every
+-- term in the hole.
 use Rattle.std.specs.Prelude.{[], ◌++◌, ℕ, ◌+◌, max}
 use Rattle.calculus.specs.Security.{Reader}
 use Rattle.calculus.specs.Terms.{choose, Operation, plus, less}
-use Rattle.calculus.specs.Reduction.{
-  Context,
-  hole,
-  app_left,
-  app_right,
-  in_proj,
-  in_inj,
-  pair_left,
-  pair_right,
-  in_protect,
-  in_case,
-  reckon_left,
-  reckon_right,
-}
+use Rattle.calculus.specs.Reduction.{Context, hole, app_left, app_right, in_proj, in_inj, pair_left, pair_right}
+use Rattle.calculus.specs.Reduction.{in_protect, in_case, reckon_left, reckon_right}
 use Rattle.rules.specs.Answer.{Bytes}
 use Rattle.rules.specs.Script.{full_record, script_record, object_record, encode, size, weight, depth}
 use Rattle.records.specs.Kinds as kinds
@@ -70,21 +59,6 @@ offset (in_case w i E a b) = 1 + offset E
 offset (reckon_left o w E b) = 1 + offset E
 offset (reckon_right o w v h E) = 1 + (size v + offset E)
 
--- the records before and after the hole
-unfoldable pub beside : Context → ℕ
-unfolding size
-beside hole = 0
-beside (app_left w E a) = 1 + (beside E + size a)
-beside (app_right w v h E) = 1 + (size v + beside E)
-beside (in_proj d w E) = 1 + beside E
-beside (in_inj d k i E) = 1 + beside E
-beside (pair_left k E b) = 1 + (beside E + size b)
-beside (pair_right k v h E) = 1 + (size v + beside E)
-beside (in_protect m E) = 1 + beside E
-beside (in_case w i E a b) = 1 + (beside E + (size a + size b))
-beside (reckon_left o w E b) = 1 + (beside E + size b)
-beside (reckon_right o w v h E) = 1 + (size v + beside E)
-
 -- the depth of the hole: each record around it is one level, and a case that finds its own type two
 unfoldable pub level : Context → ℕ
 level hole = 0
@@ -98,18 +72,3 @@ level (in_protect m E) = 1 + level E
 level (in_case w i E a b) = weight i + level E
 level (reckon_left o w E b) = 1 + level E
 level (reckon_right o w v h E) = 1 + level E
-
--- the depth of the deepest record before or after the hole, 0 where there is none
-unfoldable pub depth_beside : Context → ℕ
-unfolding depth
-depth_beside hole = 0
-depth_beside (app_left w E a) = 1 + max (depth_beside E) (depth a)
-depth_beside (app_right w v h E) = 1 + max (depth v) (depth_beside E)
-depth_beside (in_proj d w E) = 1 + depth_beside E
-depth_beside (in_inj d k i E) = 1 + depth_beside E
-depth_beside (pair_left k E b) = 1 + max (depth_beside E) (depth b)
-depth_beside (pair_right k v h E) = 1 + max (depth v) (depth_beside E)
-depth_beside (in_protect m E) = 1 + depth_beside E
-depth_beside (in_case w i E a b) = weight i + max (depth_beside E) (max (depth a) (depth b))
-depth_beside (reckon_left o w E b) = 1 + max (depth_beside E) (depth b)
-depth_beside (reckon_right o w v h E) = 1 + max (depth v) (depth_beside E)

@@ -1,15 +1,16 @@
 -- What becomes of a node once its evaluated operands are values, apart from what it contracts to.
-use Rattle.std.specs.Prelude.{Bool, true, false, cond, ◌&&◌, ℕ, zero}
+use Rattle.std.specs.Prelude.{Bool, true, false, if◌then◌else◌, ◌&&◌, ℕ, zero}
 use Rattle.std.proofs.Math.Option.{Option, none, some}
 use Rattle.calculus.specs.Security.{Property, Reader, Security}
-use Rattle.calculus.specs.Types.{sum, product, function, Ty, leaf, node, same, top, exists}
-use Rattle.calculus.specs.Terms.{Side, first, choose, Term, var, unit, lam, pair, inj, app, proj, case, protect, mu, literal, reckon, is_value, subst, raise_value}
-use Rattle.calculus.specs.Numbers.{Literal, literal_of, of_both, reckoned}
-use Rattle.calculus.specs.Reduction.{unrolled, Outcome, moved, denied, stuck}
+use Rattle.calculus.specs.Types.{sum, product, function, Ty, leaf, node, equal_formers, top, exists}
+use Rattle.calculus.specs.Terms.{Side, first, choose, Term, var, unit, lam, pair, inj, app, proj, case, protect, mu}
+use Rattle.calculus.specs.Terms.{literal, reckon, is_value, substitute, raise_value}
+use Rattle.calculus.specs.Numbers.{Literal, literal_of, of_both, reckon_result}
+use Rattle.calculus.specs.Reduction.{unrolled_function, Outcome, moved, denied, stuck}
 use Rattle.calculus.specs.Stuck.{built_by}
 use Rattle.records.specs.Operands.{first_operand, second_operand}
 
--- the groups of a record that names a reader only: "unnamed fields are 0"
+-- the groups of a record that names a reader only; unnamed fields are 0
 abbrev pub only_reader : Reader → Property
 only_reader w = record { r = w; ir = 0; c = 0; ic = 0 }
 
@@ -28,20 +29,12 @@ property_of (mu w i e) = only_reader w
 property_of (literal k n) = k
 property_of (reckon o w a b) = only_reader w
 
--- The parts of a term that a rule of table 1 takes apart. Each is total: a term without the part has a stand-in, which no rule uses.
+-- The parts of a term that a reduction rule takes apart. Each is total: a term without the part has a stand-in, which
+-- no rule uses.
 abbrev pub side_of : Term → Side
-side_of (var n) = first
-side_of (unit k) = first
-side_of (lam k i e) = first
-side_of (pair k a b) = first
 side_of (inj d k i e) = d
-side_of (app w f a) = first
 side_of (proj d w e) = d
-side_of (case w i e a b) = first
-side_of (protect m e) = first
-side_of (mu w i e) = first
-side_of (literal k n) = first
-side_of (reckon o w a b) = first
+side_of _ = first
 
 abbrev value_or : Option Literal → ℕ
 value_or none = 0
@@ -54,73 +47,61 @@ value_of e = value_or (literal_of e)
 -- Is it a function type?
 abbrev pub is_function : Ty → Bool
 is_function (leaf b k) = false
-is_function (node f k s t) = same function f
+is_function (node f k s t) = equal_formers function f
 
 -- Is it a node's own turn to reduce: no value, and its evaluated operands are values?
-unfoldable pub ready : Term → Bool
+unfoldable pub is_potential_redex : Term → Bool
 unfolding is_value
-ready (var n) = true
-ready (unit k) = false
-ready (lam k i e) = false
-ready (pair k a b) = false
-ready (inj d k i e) = false
-ready (app w f a) = is_value f && is_value a
-ready (proj d w e) = is_value e
-ready (case w i e a b) = is_value e
-ready (protect m e) = is_value e
-ready (mu w i e) = true
-ready (literal k n) = false
-ready (reckon o w a b) = is_value a && is_value b
+is_potential_redex (var n) = true
+is_potential_redex (app w f a) = is_value f && is_value a
+is_potential_redex (proj d w e) = is_value e
+is_potential_redex (case w i e a b) = is_value e
+is_potential_redex (protect m e) = is_value e
+is_potential_redex (mu w i e) = true
+is_potential_redex (reckon o w a b) = is_value a && is_value b
+is_potential_redex _ = false
 
 -- what becomes of a node whose own turn it is
 pub data Fate : Type 0 where
   -- the node contracts
-  goes : Fate
+  reduces : Fate
   -- the node's group may not read the operand
   not_permitted : Fate
   -- no rule has the operand's kind, or the node is a free variable
-  wrong_kind : Fate
+  no_rule : Fate
 
--- the fate of a node whose operands have the wanted kinds or not, and which may read them or not: "wrong kind (decided before 2)"
+-- The fate of a node whose operands have the wanted kinds or not, and which may read them or not: a wrong kind comes
+-- before a reader that may not.
 abbrev pub reading_fate : Bool → Bool → Fate
-reading_fate fits may = cond fits (cond may goes not_permitted) wrong_kind
+reading_fate fits may = if fits then (if may then reduces else not_permitted) else no_rule
 
 -- the fate of a node by its own kind
 unfoldable pub fate : Security → (ℕ → Ty) → Term → Fate
 unfolding built_by
-fate S tab (var n) = wrong_kind
-fate S tab (unit k) = wrong_kind
-fate S tab (lam k i e) = wrong_kind
-fate S tab (pair k a b) = wrong_kind
-fate S tab (inj d k i e) = wrong_kind
 fate S tab (app w f a) = reading_fate (built_by function f) (S.permits (property_of f) w)
 fate S tab (proj d w e) = reading_fate (built_by product e) (S.permits (property_of e) w)
 fate S tab (case w i e a b) = reading_fate (built_by sum e) (S.permits (property_of e) w)
-fate S tab (protect m e) = goes
-fate S tab (mu w i e) = cond (is_function (tab i)) goes wrong_kind
-fate S tab (literal k n) = wrong_kind
+fate S tab (protect m e) = reduces
+fate S tab (mu w i e) = if is_function (tab i) then reduces else no_rule
 fate S tab (reckon o w a b) =
-    reading_fate (exists (literal_of a) && exists (literal_of b)) (S.permits (property_of a) w && S.permits (property_of b) w)
+    reading_fate (exists (literal_of a) && exists (literal_of b))
+    (S.permits (property_of a) w && S.permits (property_of b) w)
+fate S tab _ = no_rule
 
--- Table 1's right sides. What no left side of table 1 fits is its own contractum.
+-- What each redex becomes by the reduction rules. A term that no rule fits stays as it is.
 unfoldable pub contractum : Security → (ℕ → Ty) → Term → Term
-unfolding subst raise_value
+unfolding substitute raise_value
 contractum S tab (var n) = var n
 contractum S tab (unit k) = unit k
 contractum S tab (lam k i e) = lam k i e
 contractum S tab (pair k a b) = pair k a b
 contractum S tab (inj d k i e) = inj d k i e
-contractum S tab (app w f a) = protect (S.influence (property_of f) w) (subst zero a (first_operand f))
+contractum S tab (app w f a) = protect (S.influence (property_of f) w) (substitute zero a (first_operand f))
 contractum S tab (proj d w e) = protect (S.influence (property_of e) w) (choose d (first_operand e) (second_operand e))
 contractum S tab (case w i e a b) =
-    protect (S.influence (property_of e) w) (subst zero (first_operand e) (choose (side_of e) a b))
+    protect (S.influence (property_of e) w) (substitute zero (first_operand e) (choose (side_of e) a b))
 contractum S tab (protect m e) = raise_value S e m
-contractum S tab (mu w i e) = subst zero (unrolled S w i (top (tab i)) e) e
+contractum S tab (mu w i e) = substitute zero (unrolled_function S w i (top (tab i)) e) e
 contractum S tab (literal k n) = literal k n
-contractum S tab (reckon o w a b) = reckoned tab o (of_both S w (property_of a) (property_of b)) (value_of a) (value_of b)
-
--- the step of a node whose own turn it is
-abbrev pub fated : Fate → Term → Outcome
-fated goes e = moved e
-fated not_permitted e = denied
-fated wrong_kind e = stuck
+contractum S tab (reckon o w a b) =
+    reckon_result tab o (of_both S w (property_of a) (property_of b)) (value_of a) (value_of b)

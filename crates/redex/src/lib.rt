@@ -2,8 +2,7 @@
 
 #![tactic(auto)]
 
-ghost use Rattle.std.specs.Prelude.{◌≡◌, ◌&&◌, eqb, ℕ, ◌+◌, ◌<◌};
-ghost use Rattle.std.proofs.Math.Bool.{So};
+ghost use Rattle.std.specs.Prelude.{◌≡◌, ◌&&◌, nat_eq, ℕ, ◌+◌, ◌<◌, IsTrue};
 ghost use Rattle.calculus.specs.Security.{Security};
 ghost use Rattle.calculus.specs.Types.{Ty};
 ghost use Rattle.calculus.specs.Terms.{Term};
@@ -13,27 +12,31 @@ ghost use Rattle.rules.specs.Script.{records, kind, r};
 ghost use Rattle.records.specs.Kinds as kinds;
 ghost use Rattle.records.specs.Numbers.{kind_number};
 ghost use Rattle.records.specs.Place.{At, Here};
-ghost use Rattle.redex.specs.Fates.{is_function, ready, reading_fate, fate};
-ghost use Rattle.redex.specs.Found.{Shallow, Finds, answer, is_destructor, takes_apart, Reckons, Reckoning, Turning};
+ghost use Rattle.redex.specs.Fates.{is_function, is_potential_redex, reading_fate, fate};
+ghost use Rattle.redex.specs.Found.{Shallow, Finds, answer, is_destructor, takes_apart, ReckonAt, SomeReckonAt, PotentialRedex};
 
 use lattice::Group;
 use records::Kind;
 
-// What the search for the redex reports: a value and the record after it; the redex and how many levels are around it; or why no
-// step moves the term, a reader that may not (end 2) or a wrong kind (end 3).
+/// What the search for the redex of a term reports. Places are records of the script.
 #[derive(Clone, Copy, Debug, PartialEq, Eq)]
 pub enum Found {
+    /// The term is a value, and this is the record after it.
     Value(usize),
+    /// The redex: its own record, and how many levels of the term are around it.
     Redex { place: usize, around: usize },
+    /// No step moves the term: a reader may not read what it takes apart (end 2).
     Denied,
+    /// No step moves the term: an object is of the wrong kind, or a variable is free (end 3).
     Stuck,
 }
 
-// Is type i a function? Asked again here, and of any index, so that no step has to keep question 16.
-fn unrolls(types: &[u8], i: usize) -> bool
-    ensures { result ≡ is_function (type_at types.now i) }
+// Is this type a function? Asked again here, and of any index, so that no step has to keep the answer to the question
+// whether records name types of the wanted kinds (16).
+fn unrolls(types: &[u8], index: usize) -> bool
+    ensures { result ≡ is_function (type_at types.now index) }
 {
-    types::is_of_kind(types, i, types::Kind::Function)
+    types::is_of_kind(types, index, types::Kind::Function)
 }
 
 // Does a destructor of this kind take apart a value of that kind?
@@ -50,7 +53,8 @@ fn takes_apart(destructor: Kind, value: Kind) -> bool
 
 // May the node at record `at` read the value at record `operand`?
 fn may_read(groups: &[u8], script: &[u8], at: usize, operand: usize) -> bool
-    requires { (at < records script.now) × (operand < records script.now) }
+    requires node { at < records script.now }
+    requires operand { operand < records script.now }
     ensures { result ≡ leq groups.now (r script.now operand) (r script.now at) }
 {
     let read = records::reader(script, operand);
@@ -58,8 +62,8 @@ fn may_read(groups: &[u8], script: &[u8], at: usize, operand: usize) -> bool
     read.at_or_below(groups, reader)
 }
 
-// The answer of the node at record `at`, whose evaluated operands are values, of the wanted kinds or not, and which may read them
-// or not: the kinds come before the reader.
+// The answer of the node at record `at`, whose evaluated operands are values, of the wanted kinds or not, and which may
+// read them or not: the kinds come before the reader.
 fn verdict(fits: bool, may: bool, at: usize, depth: usize) -> Found
     ensures { result ≡ answer (reading_fate fits may) at depth }
 {
@@ -77,7 +81,8 @@ fn verdict(fits: bool, may: bool, at: usize, depth: usize) -> Found
 
 // The answer of the destructor at record `at`, whose evaluated operands are values.
 fn reading(groups: &[u8], script: &[u8], at: usize, depth: usize) -> Found
-    requires { Here script.now at × So (is_destructor (kind script.now at)) }
+    requires here { Here script.now at }
+    requires destructor { IsTrue (is_destructor (kind script.now at)) }
     ensures { (tab : ℕ → Ty) (e : Term) → At script.now at e
         → result ≡ answer (fate (properties_of groups.now) tab e) at depth }
 {
@@ -91,24 +96,26 @@ fn reading(groups: &[u8], script: &[u8], at: usize, depth: usize) -> Found
 
 // Are two values of these kinds literals?
 fn both_literals(left: Kind, right: Kind) -> bool
-    ensures { result ≡ (eqb (kind_number left) kinds.literal && eqb (kind_number right) kinds.literal) }
+    ensures { result ≡ (nat_eq (kind_number left) kinds.literal && nat_eq (kind_number right) kinds.literal) }
 {
     left == Kind::Literal && right == Kind::Literal
 }
 
 // May the node at record `at` read the value at the next record and that at record `second`?
 fn may_read_both(groups: &[u8], script: &[u8], at: usize, second: usize) -> bool
-    requires { (at + 1 < records script.now) × (second < records script.now) }
+    requires first { at + 1 < records script.now }
+    requires second { second < records script.now }
     ensures { result ≡ (leq groups.now (r script.now (at + 1)) (r script.now at)
         && leq groups.now (r script.now second) (r script.now at)) }
 {
     may_read(groups, script, at, at + 1) && may_read(groups, script, at, second)
 }
 
-// The answer of the sum or of the comparison at record `at`, whose two operands are values, the second at record `second`.
+// The answer of the sum or of the comparison at record `at`, whose two operands are values, the second at record
+// `second`.
 fn reckoning(groups: &[u8], script: &[u8], at: usize, second: usize, depth: usize) -> Found
-    requires { Reckoning script.now at second }
-    ensures { (tab : ℕ → Ty) (e : Term) → Reckons script.now at second e
+    requires { SomeReckonAt script.now at second }
+    ensures { (tab : ℕ → Ty) (e : Term) → ReckonAt script.now at second e
         → result ≡ answer (fate (properties_of groups.now) tab e) at depth }
 {
     let left = records::kind_of(script, at + 1);
@@ -134,10 +141,12 @@ fn unrolling(types: &[u8], script: &[u8], at: usize, depth: usize) -> Found
     }
 }
 
-// The answer of the node at record `at`, whose turn it is: its evaluated operands are values.
+/// What becomes of the node at record `at`, `depth` levels down, whose turn it is: its evaluated operands are values.
+/// It is the redex, or its group may not read an operand, or an operand is of the wrong kind; the kinds come before the
+/// reader.
 pub fn turn(groups: &[u8], types: &[u8], script: &[u8], at: usize, depth: usize) -> Found
-    requires { Turning script.now at }
-    ensures { (e : Term) → At script.now at e → So (ready e)
+    requires { PotentialRedex script.now at }
+    ensures { (e : Term) → At script.now at e → IsTrue (is_potential_redex e)
         → result ≡ answer (fate (properties_of groups.now) (type_at types.now) e) at depth }
 {
     match records::kind_of(script, at) {
@@ -157,8 +166,10 @@ pub fn turn(groups: &[u8], types: &[u8], script: &[u8], at: usize, depth: usize)
     }
 }
 
-// One pass from left to right over the term at record `at`, which stands `depth` levels down. A value tells its end, so none is
-// passed over twice, and no call is deeper than the term.
+/// The search for the redex of the term at record `at`, which stands `depth` levels down.
+///
+/// It is one pass from left to right. A value tells its end, so none is passed over twice, and no call is deeper than
+/// the term.
 pub fn find(groups: &[u8], types: &[u8], script: &[u8], at: usize, depth: usize) -> Found
     requires { Shallow script.now at depth }
     ensures { (e : Term) → At script.now at e

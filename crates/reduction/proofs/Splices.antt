@@ -1,7 +1,7 @@
 -- A redex in its script, and the new term around its contractum.
-use Rattle.std.proofs.Common.{◌≡◌, sym, ap, ap₂, ◌∙◌, ◌||◌, ℕ, ◌+◌, ◌*◌, ◌-◌, ◌/◌, ◌≤◌, ◌<◌, arith, ltb, length, take, drop, length-drop, take_all}
+use Rattle.std.proofs.Common.{◌≡◌, sym, ap, ap₂, ◌∙◌, ◌||◌, ℕ, ◌+◌, ◌*◌, ◌-◌, ◌/◌, ◌≤◌, ◌<◌, arith, nat_lt, length}
+use Rattle.std.proofs.Common.{take, drop, length-drop, take_all, lt-ltb, le-ltb}
 use Rattle.std.proofs.Math.Decide.{dec_lt}
-use borrow.Author.Tests.{lt-ltb, le-ltb}
 use Rattle.calculus.specs.Security.{Security}
 use Rattle.calculus.specs.Types.{Ty}
 use Rattle.calculus.specs.Terms.{Term}
@@ -12,10 +12,11 @@ use Rattle.rules.specs.Script.{records, encode, term, size, depth}
 use Rattle.rules.specs.Step.{exceeds}
 use Rattle.records.specs.Place.{At}
 use Rattle.records.proofs.Stands.{at_start, start_records}
-use Rattle.redex.specs.Contexts.{before, after, offset, beside}
+use Rattle.redex.specs.Contexts.{before, after, offset}
 use Rattle.redex.specs.Found.{Site}
 use Rattle.redex.proofs.Plugs.{plug_size, plug_depth, plug_within, plug_past, after_length, before_is, after_is}
 use Rattle.redex.proofs.Places.{site_at}
+use Rattle.redex.proofs.Beside.{beside}
 use Rattle.substitution.proofs.Reading.{term_length}
 use Rattle.reduction.proofs.Starts.{Started}
 
@@ -45,9 +46,7 @@ module _ {S : Security} {tab : ℕ → Ty} {g t s : Bytes} {at around : ℕ} (st
   front_is = ap₂ (λ n b. take (script_width * n) b) at_is script_is ∙ before_is x.context x.redex
 
   pub back_is : (end : ℕ) → end ≡ at + size x.redex → drop (script_width * end) s ≡ after x.context
-  back_is end h =
-      let z : end ≡ offset x.context + size x.redex = omega (arith, at_is) in
-      ap₂ (λ n b. drop (script_width * n) b) z script_is ∙ after_is x.context x.redex
+  back_is end h = grind (arith, at_is, script_is, after_is)
 
   -- the records of the new term
   pub new_size : (e' : Term) (end : ℕ) → end ≡ at + size x.redex → size (plug x.context e') ≡ at + size e' + (records s - end)
@@ -58,16 +57,16 @@ module _ {S : Security} {tab : ℕ → Ty} {g t s : Bytes} {at around : ℕ} (st
 
   -- the bytes after the redex, as the code takes them
   pub rest_is : (end : ℕ) → end ≡ at + size x.redex → take (length s - script_width * end) (drop (script_width * end) s) ≡ after x.context
-  rest_is end h = take_all (length s - script_width * end) (drop (script_width * end) s) (simp length-drop (omega arith)) ∙ back_is end h
+  rest_is end h = grind (arith, take_all, length-drop, back_is)
 
   -- what stands beside the redex is within the limit of depth already
-  deeper : (e' : Term) → ltb depth_limit (around + depth e') ≡ ltb depth_limit (depth (plug x.context e'))
+  deeper : (e' : Term) → nat_lt depth_limit (around + depth e') ≡ nat_lt depth_limit (depth (plug x.context e'))
   deeper e' = by (dec_lt depth_limit (around + depth e'))
     where
       whole : depth (plug x.context x.redex) ≤ depth_limit
       whole = omega (arith, st.fit.shallow, ap depth x.whole)
 
-      by : Dec (depth_limit < around + depth e') → ltb depth_limit (around + depth e') ≡ ltb depth_limit (depth (plug x.context e'))
+      by : Dec (depth_limit < around + depth e') → nat_lt depth_limit (around + depth e') ≡ nat_lt depth_limit (depth (plug x.context e'))
       by (yes l) =
           lt-ltb depth_limit (around + depth e') l
           ∙ sym (lt-ltb depth_limit (depth (plug x.context e')) (plug_past x.context e' depth_limit (omega (arith, x.around_is))))
@@ -77,8 +76,8 @@ module _ {S : Security} {tab : ℕ → Ty} {g t s : Bytes} {at around : ℕ} (st
           (le-ltb depth_limit (depth (plug x.context e')) (plug_within x.context x.redex e' depth_limit whole (omega (arith, x.around_is))))
 
   pub exceeds_is : (room total deep : ℕ) (e' : Term) → total ≡ size (plug x.context e') → deep ≡ depth e'
-      → (ltb script_limit total || (ltb (room / script_width) total || ltb depth_limit (around + deep))) ≡ exceeds room (plug x.context e')
+      → (nat_lt script_limit total || (nat_lt (room / script_width) total || nat_lt depth_limit (around + deep))) ≡ exceeds room (plug x.context e')
   unfolding exceeds
   exceeds_is room total deep e' h k =
-      ap₂ (λ n d. ltb script_limit n || (ltb (room / script_width) n || ltb depth_limit (around + d))) h k
-      ∙ ap (λ b. ltb script_limit (size (plug x.context e')) || (ltb (room / script_width) (size (plug x.context e')) || b)) (deeper e')
+      ap₂ (λ n d. nat_lt script_limit n || (nat_lt (room / script_width) n || nat_lt depth_limit (around + d))) h k
+      ∙ ap (λ b. nat_lt script_limit (size (plug x.context e')) || (nat_lt (room / script_width) (size (plug x.context e')) || b)) (deeper e')

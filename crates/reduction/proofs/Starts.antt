@@ -1,7 +1,5 @@
 -- What a script that can be stepped is: one whole term within the limits, formed over tables that have passed.
-use Rattle.std.proofs.Common.{◌≡◌, sym, ap, ◌∙◌, List, [], ℕ, suc, ◌+◌, ◌≤◌, ◌<◌, arith}
-use Rattle.std.proofs.Common.{subst as transport}
-use Rattle.std.proofs.Math.Bool.{So}
+use Rattle.std.proofs.Common.{◌≡◌, sym, ap, ◌∙◌, List, [], ℕ, suc, ◌+◌, ◌≤◌, ◌<◌, arith, subst as transport, IsTrue}
 use Rattle.calculus.specs.Security.{Property, Reader}
 use Rattle.calculus.specs.Types.{one, sum, leaf, top, size_t}
 use Rattle.calculus.specs.Terms.{first, second, less, Term, reckon}
@@ -9,19 +7,18 @@ use Rattle.calculus.specs.Numbers.{side}
 use Rattle.rules.specs.Answer.{Bytes, Octets, accepted}
 use Rattle.rules.specs.Limits.{table_limit}
 use Rattle.rules.specs.Types.{type_count, type_at, q8}
-use Rattle.rules.specs.Script.{records, sum_of_units, ok16, q13, q16, q19, encode, term}
-use Rattle.rules.specs.Calls.{types_check, groups_check, form_check, own_check, script_check}
+use Rattle.rules.specs.Script.{records, sum_of_units, ok16, q16, encode, term}
+use Rattle.rules.specs.Calls.{types_check, groups_check, own_check, script_check}
 use Rattle.rules.proofs.Asked.{and_then, few_types}
-use Rattle.rules.proofs.Form.{form_yes}
 use Rattle.rules.proofs.TypePlaces.{Standing, left_side, right_side, r_at, ir_at, c_at, ic_at}
 use Rattle.rules.proofs.UnitSums.{UnitSum}
 use Rattle.rules.proofs.Search.{each_all}
 use Rattle.rules.proofs.RecordFields.{ok16_record}
 use Rattle.rules.proofs.NodeFacts.{Named, named}
-use Rattle.demands.proofs.Tables.{Tables}
-use Rattle.demands.proofs.TypesTable.{tables}
-use Rattle.demands.proofs.Checked.{Fit, script_passed}
-use Rattle.demands.proofs.Steps.{fit_passes}
+use Rattle.promises.proofs.Tables.{Tables}
+use Rattle.promises.proofs.TypesTable.{tables}
+use Rattle.promises.proofs.Checked.{Fit, script_passed}
+use Rattle.promises.proofs.Steps.{fit_passes}
 use Rattle.records.specs.Place.{At}
 use Rattle.records.proofs.Stands.{there}
 use Rattle.records.proofs.Made.{own_record}
@@ -30,6 +27,7 @@ use Rattle.contraction.specs.Order.{InOrder}
 use Rattle.contraction.specs.Plans.{Sides}
 use Rattle.reduction.specs.Steps.{Startable}
 use Rattle.reduction.proofs.Order.{in_order}
+use Rattle.std.proofs.lemmas.Grind.{common_steps}
 
 pub record Started (g t s : Bytes) : Type 0 where
   pub types : types_check g t ≡ accepted tt
@@ -46,10 +44,7 @@ table_small g t h = few_types t (and_then (q8 t) _ (and_then (groups_check g) _ 
 
 types_named : (rooms : List ℕ) (g t s : Bytes) → script_check rooms g t s ≡ accepted tt → q16 t s ≡ accepted tt
 unfolding own_check script_check
-types_named rooms g t s h =
-    let a = and_then (types_check g t) _ h in
-    let b = and_then (q13 rooms s) _ a.1 in
-    (form_yes g t s (and_then (form_check g t s) (q19 s) b.1).0).types
+types_named rooms g t s h = grind (arith, common_steps)
 
 -- of any rooms: a step asks for none, a run for two
 pub passed_started : (rooms : List ℕ) (g t s : Bytes) → Octets g → Octets s → script_check rooms g t s ≡ accepted tt → Started g t s
@@ -84,7 +79,7 @@ groups_of_type : (t : Bytes) (i : ℕ) → Standing t i → type_property t i �
 groups_of_type t i st = λ j. record { r = r_at t i st j; ir = ir_at t i st j; c = c_at t i st j; ic = ic_at t i st j }
 
 -- the sides of a sum of two units
-module _ {g t : Bytes} (X : Tables g t) (i : ℕ) (l : i < type_count t) (h : So (sum_of_units t i)) where
+module _ {g t : Bytes} (X : Tables g t) (i : ℕ) (l : i < type_count t) (h : IsTrue (sum_of_units t i)) where
   units : UnitSum (type_at t i)
   units = X.units i l h
 

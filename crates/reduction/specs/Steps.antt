@@ -9,7 +9,7 @@ use Rattle.rules.specs.Types.{type_at}
 use Rattle.rules.specs.Script.{term, size}
 use Rattle.rules.specs.Step.{End, at_value, moves, may_not, wrong_kind, too_big, step_in}
 use Rattle.rules.specs.Calls.{StepReport, script_check}
-use Rattle.answer.specs.Numbers.{number}
+use Rattle.answer.specs.Numbers.{question_number}
 use Rattle.answer.specs.declared.Refusal.{Refusal}
 use Rattle.redex.specs.Fates.{contractum}
 use Rattle.redex.specs.Found.{Site}
@@ -31,13 +31,13 @@ pub record Sited (g t s : Bytes) (at around : ℕ) : Type 0 where
   pub site : Site (properties_of g) (type_at t) 0 0 (term s) at around
 
 -- That holds over some groups and types.
-pub record Contracting (s : Bytes) (at around : ℕ) : Type 0 where
+pub record SomewhereSited (s : Bytes) (at around : ℕ) : Type 0 where
   pub groups : Bytes
   pub types : Bytes
   pub sited : Sited groups types s at around
 
--- A planned step is the one that moves the term, into a buffer of `room` bytes: its redex has this plan and ends before record
--- `end`, and the new term has as many records as are told and fits.
+-- A planned step is the one that moves the term, into a buffer of `room` bytes: its redex has this plan and ends before
+-- record `end`, and the new term has as many records as are told and fits.
 pub record Placing (g t s : Bytes) (room : ℕ) (n : NextStep) : Type 0 where
   pub start : Startable g t s
   pub around : ℕ
@@ -50,40 +50,43 @@ pub record Placing (g t s : Bytes) (room : ℕ) (n : NextStep) : Type 0 where
   pub fits : script_width * size whole ≤ room
   pub moves_to : step_in (properties_of g) (type_at t) room (term s) ≡ moves whole
 
--- the documents' number of an end: of a step that doesn't move the term, and 1 where nothing stops it
+-- the number of an end: of a step that doesn't move the term, and 1 where nothing stops it
 abbrev pub stop_number : Stop → ℕ
 stop_number Value = 0
 stop_number MayNot = 2
 stop_number WrongKind = 3
 stop_number TooBig = 4
 
-abbrev pub end_number : Option Stop → ℕ
-end_number None = 1
-end_number (Some stop) = stop_number stop
+-- the number of a reported end: 1 where nothing stops the step
+abbrev pub reported_end : Option Stop → ℕ
+reported_end None = 1
+reported_end (Some stop) = stop_number stop
 
--- a step's end, as the crate tells it
-abbrev pub told : End → Result ℕ Stop
-told at_value = Err Value
-told (moves e) = Ok (size e)
-told may_not = Err MayNot
-told wrong_kind = Err WrongKind
-told too_big = Err TooBig
+-- a step's end, as the code tells it: the new term's record count, or why it stops
+abbrev pub step_records : End → Result ℕ Stop
+step_records at_value = Err Value
+step_records (moves e) = Ok (size e)
+step_records may_not = Err MayNot
+step_records wrong_kind = Err WrongKind
+step_records too_big = Err TooBig
 
 -- a plan is that of the step: it moves the term, or tells why it doesn't
 pub data Foresees (g t s : Bytes) (room : ℕ) : Result NextStep Stop → Type 0 where
   foresees_step : {n : NextStep} → Placing g t s room n → Foresees g t s room (Ok n)
-  foresees_stop : {stop : Stop} → told (step_in (properties_of g) (type_at t) room (term s)) ≡ Err stop → Foresees g t s room (Err stop)
+  foresees_stop : {stop : Stop} → step_records (step_in (properties_of g) (type_at t) room (term s)) ≡ Err stop
+      → Foresees g t s room (Err stop)
 
-abbrev pub counted : Result NextStep Stop → Result ℕ Stop
-counted (Ok n) = Ok n.records
-counted (Err stop) = Err stop
+-- the record count of a planned step, or why there is none
+abbrev pub next_step_records : Result NextStep Stop → Result ℕ Stop
+next_step_records (Ok n) = Ok n.records
+next_step_records (Err stop) = Err stop
 
 -- what is reported of a step, with the script's own count where it didn't move
-abbrev pub reported : ℕ → Result ℕ Stop → Reported
-reported own (Ok count) = record { stop = None; records = count }
-reported own (Err stop) = record { stop = Some stop; records = own }
+abbrev pub report_of_step : ℕ → Result ℕ Stop → Reported
+report_of_step own (Ok count) = record { stop = None; records = count }
+report_of_step own (Err stop) = record { stop = Some stop; records = own }
 
--- "A step reports its end and a record count."
+-- what a step answers: its end and a record count
 abbrev pub said_step : Result Reported Refusal → Answer StepReport
-said_step (Ok report) = accepted (record { end = end_number report.stop; count = report.records })
-said_step (Err e) = refused (number e.question) e.place
+said_step (Ok report) = accepted (record { end = reported_end report.stop; count = report.records })
+said_step (Err e) = refused (question_number e.question) e.place

@@ -1,7 +1,6 @@
 -- The contractum in the place of its redex: what stands on both sides of the gap, and where evaluation goes on.
 use Rattle.std.proofs.Common.{◌≡◌, sym, ap, ap₂, ◌∙◌, [], ◌++◌, append-nil, ℕ, ◌+◌, ◌*◌, ◌≤◌, ◌<◌, arith, length, Some}
-use Rattle.std.proofs.Common.{subst as transport}
-use Rattle.std.proofs.Math.Bool.{So}
+use Rattle.std.proofs.Common.{subst as transport, IsTrue}
 use Rattle.calculus.specs.Security.{Security}
 use Rattle.calculus.specs.Terms.{Term, protect, is_value, raise_value}
 use Rattle.calculus.specs.Reduction.{Context, plug}
@@ -16,7 +15,7 @@ use Rattle.records.specs.Labels.{influence_at}
 use Rattle.records.proofs.Made.{influence_stands}
 use Rattle.records.proofs.Stands.{at_first}
 use Rattle.redex.specs.Contexts.{before, after, offset, level}
-use Rattle.redex.specs.Fates.{goes, ready, fate, contractum}
+use Rattle.redex.specs.Fates.{reduces, is_potential_redex, fate, contractum}
 use Rattle.redex.proofs.Places.{groups_at, reader_at}
 use Rattle.redex.proofs.Plugs.{plug_bytes, plug_size, plug_depth, before_is}
 use Rattle.rules.proofs.Octets.{octets_append, octets_drop, octets_take}
@@ -29,15 +28,15 @@ use Rattle.contraction.proofs.Plans.{part_plan, LiftPlan, lift_plan, protect_siz
 use Rattle.contraction.proofs.Redexes.{left_side}
 use Rattle.refocusing.specs.declared.Point.{Point}
 use Rattle.refocusing.specs.declared.Focus.TheVariants.{Ahead, Turn, Value}
-use Rattle.refocusing.specs.Focus.{Stands, Focused, ahead, turn, value}
-use Rattle.refocusing.specs.Contracted.{Foremost, Ahead as WrittenAhead, comes_next}
+use Rattle.refocusing.specs.Focus.{Stands, Focused, focus_ahead, focus_turn, focus_value}
+use Rattle.refocusing.specs.Contracted.{Foremost, ContractumAhead as WrittenAhead, comes_next}
 use Rattle.refocusing.proofs.Gaps.{left_size, whole_octets, put_ahead, put_back}
 use Rattle.refocusing.proofs.Runs.{smaller_fits, contracted}
 use Rattle.refocusing.proofs.Redexes.{lies_left}
 
 -- The redex e lies left from record `at` on, and the budget isn't spent.
 module _ {g t : Bytes} {room budget : ℕ} {whole : Term} {E : Context} {e : Term} {p : Point} {a b : Bytes} (q : Stands g t room budget whole E e (encode e) [] p a b)
-    (r : So (ready e)) (f : fate (properties_of g) (type_at t) e ≡ goes) (l : p.steps < budget) {at : ℕ} (at_is : at ≡ offset E) where
+    (r : IsTrue (is_potential_redex e)) (f : fate (properties_of g) (type_at t) e ≡ reduces) (l : p.steps < budget) {at : ℕ} (at_is : at ≡ offset E) where
   abbrev S : Security
   S = properties_of g
 
@@ -87,20 +86,20 @@ module _ {g t : Bytes} {room budget : ℕ} {whole : Term} {E : Context} {e : Ter
         let m = influence_at a at in
         let is : new ≡ raise_value S v.value m = v.is S (type_at t) ∙ ap (raise_value S v.value) (sym (influence_stands stands)) in
         let z = raise_size S v.value m in
-        value new (transport (λ (x : Term). So (is_value x)) (sym is) (raised_stands S v.value m v.is_one))
+        focus_value new (transport (λ (x : Term). IsTrue (is_value x)) (sym is) (raised_stands S v.value m v.is_one))
         (in_place is (omega (arith, z.0, v.small)) (omega (arith, z.1, v.shallow)) (omega (arith, left, z.0, v.small, ends_at_gap)) w)
 
     -- a protected component
     pub part_projected : {x : ℕ} (plan : Planned a e (Part x)) → p'.left ≡ at + 1 + size (part_plan plan).part
         → a' ≡ splice (script_width * at) (encode (protect (protection g a at) (part_plan plan).part)) a → Focused g t room budget whole E a' b (Turn p')
-    unfolding ready
+    unfolding is_potential_redex
     part_projected plan left w =
         let v = part_plan plan in
         let m = protection g a at in
         let is : new ≡ protect m v.part =
         v.is S (type_at t) ∙ ap (λ m. protect m v.part) (sym (ap₂ S.influence (groups_at (at_first a at e stands v.operand)) (reader_at stands))) in
         let z = protect_size m v.part in
-        turn new (transport (λ (x : Term). So (ready x)) (sym is) (v.value r))
+        focus_turn new (transport (λ (x : Term). IsTrue (is_potential_redex x)) (sym is) (v.value r))
         (in_place is (omega (arith, z.0, v.small)) (omega (arith, z.1, v.shallow)) (omega (arith, left, z.0)) w)
 
   -- a contractum that comes next
@@ -111,4 +110,4 @@ module _ {g t : Bytes} {room budget : ℕ} {whole : Term} {E : Context} {e : Ter
       let after_octets : Octets (encode new ++ after E) = transport Octets g'.back (octets_drop (script_width * p'.right) b' o) in
       let octets : Octets (encode (plug E new)) =
       transport Octets (sym (plug_bytes E new)) (octets_append (before E) (encode new ++ after E) before_octets after_octets) in
-      ahead new (contracted q r f l (rw h s) octets step g')
+      focus_ahead new (contracted q r f l (rw h s) octets step g')

@@ -1,18 +1,20 @@
--- A node of which an operand has come to a value: it is still of its kind, and its operands are those that were, with the value among
--- them. That is read off the bytes before the operand, which stay as they are, and so it is said once for every kind.
-use Rattle.std.proofs.Common.{◌≡◌, refl, sym, ap, subst, ◌∙◌, [], ◌++◌, append_assoc, append-nil, ℕ, ◌+◌, ◌*◌, ◌≤◌, arith, take, drop, length-drop, take_at, drop_at, take-append-drop}
+-- A node of which an operand has come to a value: it is still of its kind, and its operands are those that were, with
+-- the value among them. That is read off the bytes before the operand, which stay as they are, and so it is said once
+-- for every kind.
+use Rattle.std.proofs.Common.{◌≡◌, refl, sym, ap, subst, ◌∙◌, [], ◌++◌, append_assoc, append-nil, ℕ, ◌+◌, ◌*◌, ◌≤◌}
+use Rattle.std.proofs.Common.{arith, take, drop, length-drop, take_at, drop_at, take-append-drop, IsTrue}
 use Rattle.std.proofs.Math.Seq.{drop-append-le, take-append-le}
-use Rattle.std.proofs.Math.Bool.{So}
 use Rattle.calculus.specs.Terms.{Term, is_value}
 use Rattle.calculus.specs.Reduction.{Context, plug}
 use Rattle.calculus.proofs.Contexts.{compose}
-use Rattle.rules.specs.Answer.{Bytes, byte}
+use Rattle.rules.specs.Answer.{Bytes}
 use Rattle.rules.specs.Limits.{script_width}
 use Rattle.rules.specs.Script.{encode, size}
 use Rattle.rules.proofs.PrefixLaws.{encode_length, unique}
 use Rattle.rules.proofs.TermCode.{term_code, term_prefix, term_head}
 use Rattle.records.specs.declared.Kind.{Kind}
-use Rattle.records.specs.declared.Kind.TheVariants.{FirstInjection, SecondInjection, FirstProjection, SecondProjection, Case, Protect}
+use Rattle.records.specs.declared.Kind.TheVariants.{FirstInjection, SecondInjection, FirstProjection, SecondProjection}
+use Rattle.records.specs.declared.Kind.TheVariants.{Case, Protect}
 use Rattle.records.specs.Place.{At}
 use Rattle.records.specs.Operands.{first_operand, second_operand}
 use Rattle.records.proofs.Made.{own_record}
@@ -24,7 +26,7 @@ use Rattle.redex.proofs.Plugs.{plug_bytes, before_length}
 use Rattle.redex.proofs.Forms.{Position, Evaluates, first_position, Second, Twofold, second_position}
 use Rattle.redex.proofs.Searches.{position_at}
 use Rattle.redex.proofs.Stages.{Opened, FirstValue}
-use Rattle.refocusing.specs.Focus.{Focused, value}
+use Rattle.refocusing.specs.Focus.{Focused, focus_value}
 use Rattle.refocusing.specs.declared.Point.{Point}
 use Rattle.refocusing.specs.declared.Focus.TheVariants.{Value}
 use Rattle.refocusing.proofs.Passing.{Passed, passed, came_out}
@@ -66,9 +68,7 @@ module _ (F : Context) where
 
 module _ {e z : Term} {n m : ℕ} (q : Position e z n m) (v : Term) where
   kind_stays : 1 ≤ n → kind_of (plug q.context v) ≡ kind_of e
-  kind_stays l =
-      let i : 1 ≤ offset q.context = omega (arith, q.from) in
-      ap (λ h. byte h 0) (head_before q.context v i ∙ sym (head_before q.context z i) ∙ ap term_head (sym q.whole))
+  kind_stays l = grind (arith, head_before, term_head)
 
   evaluates_still : 1 ≤ n → Evaluates e → Evaluates (plug q.context v)
   evaluates_still l h = rw (kind_stays l) h
@@ -109,13 +109,13 @@ module _ (g t : Bytes) (room budget : ℕ) (whole : Term) (E : Context) (k : Kin
   pub record BothPassed : Type 0 where
     pub node : Term
     pub first : FirstValue (encode (plug E node)) (offset E) k node (offset E + 1 + size (first_operand node))
-    pub second : So (is_value (second_operand node))
+    pub second : IsTrue (is_value (second_operand node))
     pub passed : Passed g t room budget whole E node (size node) p a b
 
 module _ {g t : Bytes} {room budget : ℕ} {whole : Term} {E : Context} {k : Kind} {p : Point} {a b : Bytes} where
   pub first_passed : {s : Bytes} {i m : ℕ} {e : Term} → Opened s i k e → (q : Position e (first_operand e) 1 m)
       → Focused g t room budget whole (compose E q.context) a b (Value p) → FirstPassed g t room budget whole E k p a b
-  first_passed {e = e} o q (value v h s) =
+  first_passed {e = e} o q (focus_value v h s) =
       let node = plug q.context v in
       let c = came_out v q (passed (size v) s (append-nil (encode v)) (encode_length term_code v)) in
       let still = evaluates_still q v (omega arith) o.evaluates in
@@ -124,7 +124,7 @@ module _ {g t : Bytes} {room budget : ℕ} {whole : Term} {E : Context} {k : Kin
         node = node;
         value = record {
           own = record { stands = in_place E node; kind_is = o.kind_is ∙ sym (kind_stays q v (omega arith)); evaluates = still };
-          value = subst (λ x. So (is_value x)) (sym is) h;
+          value = subst (λ x. IsTrue (is_value x)) (sym is) h;
           ends = omega (arith, c.left_is, ap size is);
         };
         passed = subst (λ x. Passed g t room budget whole E node (1 + size x) p a b) (sym is) c;
@@ -133,7 +133,7 @@ module _ {g t : Bytes} {room budget : ℕ} {whole : Term} {E : Context} {k : Kin
   pub both_passed : {p₀ : Point} {a₀ b₀ : Bytes} (f : FirstPassed g t room budget whole E k p₀ a₀ b₀)
       → Twofolds k → (x : Second f.node)
       → Focused g t room budget whole (compose E x.position.context) a b (Value p) → BothPassed g t room budget whole E k p a b
-  both_passed f h₂ x (value w h s) =
+  both_passed f h₂ x (focus_value w h s) =
       let q = x.position in
       let node = plug q.context w in
       let c = came_out w q (passed (size w) s (append-nil (encode w)) (encode_length term_code w)) in
@@ -144,7 +144,7 @@ module _ {g t : Bytes} {room budget : ℕ} {whole : Term} {E : Context} {k : Kin
       let v : FirstValue (encode (plug E node)) (offset E) k node (offset E + 1 + size (first_operand node)) =
       record {
         own = record { stands = in_place E node; kind_is = f.value.own.kind_is ∙ sym (kind_stays q w (omega arith)); evaluates = still };
-        value = subst (λ y. So (is_value y)) (sym is) f.value.value;
+        value = subst (λ y. IsTrue (is_value y)) (sym is) f.value.value;
         ends = refl;
       } in
       let y = two h₂ v in
@@ -153,6 +153,6 @@ module _ {g t : Bytes} {room budget : ℕ} {whole : Term} {E : Context} {k : Kin
       record {
         node = node;
         first = v;
-        second = subst (λ y. So (is_value y)) (sym too) h;
+        second = subst (λ y. IsTrue (is_value y)) (sym too) h;
         passed = subst (λ n. Passed g t room budget whole E node n p a b) (omega (arith, y.sizes, ap size is, ap size too)) c;
       }

@@ -1,6 +1,6 @@
 -- A redex that lies left, in its whole term: what its contractum is counted and written by.
-use Rattle.std.proofs.Common.{◌≡◌, sym, ap, ◌∙◌, false, ◌||◌, [], append-nil, ℕ, ◌+◌, ◌-◌, ◌/◌, ◌≤◌, arith, ltb, length}
-use Rattle.std.proofs.Common.{subst as transport}
+use Rattle.std.proofs.Common.{◌≡◌, sym, ap, ◌∙◌, false, ◌||◌, [], append-nil, ℕ, ◌+◌, ◌-◌, ◌/◌, ◌≤◌, arith, nat_lt}
+use Rattle.std.proofs.Common.{length, subst as transport}
 use Rattle.calculus.specs.Terms.{Term}
 use Rattle.calculus.specs.Reduction.{Context, plug}
 use Rattle.rules.specs.Answer.{Bytes}
@@ -10,7 +10,7 @@ use Rattle.rules.specs.Types.{type_at}
 use Rattle.rules.specs.Script.{encode, term, size, records}
 use Rattle.rules.specs.Step.{exceeds}
 use Rattle.rules.proofs.Scripts.{term_encode}
-use Rattle.demands.proofs.Steps.{within_limits}
+use Rattle.promises.proofs.Steps.{within_limits}
 use Rattle.records.specs.Place.{At}
 use Rattle.redex.specs.Contexts.{offset, level}
 use Rattle.redex.specs.Fates.{contractum}
@@ -19,7 +19,7 @@ use Rattle.redex.proofs.Plugs.{plug_size, after_length}
 use Rattle.memory.specs.Written.{Room}
 use Rattle.memory.specs.declared.Writer.{Writer}
 use Rattle.substitution.specs.declared.Size.{Size}
-use Rattle.contraction.specs.Plans.{Ready, Measures, Fit}
+use Rattle.contraction.specs.Plans.{PlannedRedex, Measures, ContractumRoom}
 use Rattle.contraction.specs.declared.Plan.{Plan}
 use Rattle.contraction.proofs.Plans.{contractum_limit}
 use Rattle.contraction.proofs.Rooms.{contractum_few}
@@ -29,6 +29,7 @@ use Rattle.refocusing.specs.declared.Point.{Point}
 use Rattle.refocusing.specs.Gap.{Gap}
 use Rattle.refocusing.specs.Contracted.{Contracting, Foremost}
 use Rattle.refocusing.proofs.Gaps.{right_size, at_left}
+use Rattle.std.proofs.lemmas.Grind.{common_steps}
 
 -- a term that lies left in the hole of E
 pub lies_left : {E : Context} {e : Term} {p : Point} {a b : Bytes} {at : ℕ} → Gap E (encode e) [] p a b → at ≡ offset E → At a at e
@@ -53,7 +54,7 @@ module _ {g t s : Bytes} {at : ℕ} {plan : Plan} {E : Context} {e : Term} (q : 
     goes = q.goes;
   }
 
-  abbrev pub ready : Ready s at plan
+  abbrev pub ready : PlannedRedex s at plan
   ready = record {
     tree = e;
     stands = q.stands;
@@ -62,7 +63,7 @@ module _ {g t s : Bytes} {at : ℕ} {plan : Plan} {E : Context} {e : Term} (q : 
     shallow = omega (arith, redex_shallow starts site);
   }
 
-  abbrev pub fit : (out : Writer) → Room (encode part) out → Fit g t s at plan out
+  abbrev pub fit : (out : Writer) → Room (encode part) out → ContractumRoom g t s at plan out
   fit out room = record {
     order = starts.order;
     ready = ready;
@@ -94,12 +95,12 @@ module _ {g t : Bytes} {at around : ℕ} {plan : Plan} {p : Point} {a b : Bytes}
 
   -- as the code asks it
   pub too_big_is : {m : Size} {n : ℕ} → Measures new m → n ≡ records b
-      → (ltb script_limit (at + m.records + (n - p.right)) || (ltb (length b / script_width) (at + m.records + (n - p.right)) || ltb depth_limit (around + m.depth)))
+      → (nat_lt script_limit (at + m.records + (n - p.right)) || (nat_lt (length b / script_width) (at + m.records + (n - p.right)) || nat_lt depth_limit (around + m.depth)))
       ≡ exceeds (length b) (plug E new)
   too_big_is {m} {n} k h =
-      ap (λ (d : ℕ). ltb script_limit (at + m.records + (n - p.right)) || (ltb (length b / script_width) (at + m.records + (n - p.right)) || ltb depth_limit (d + m.depth))) q.around_is
+      ap (λ (d : ℕ). nat_lt script_limit (at + m.records + (n - p.right)) || (nat_lt (length b / script_width) (at + m.records + (n - p.right)) || nat_lt depth_limit (d + m.depth))) q.around_is
       ∙ exceeds_is (starts q.contracts) (site q.contracts) (length b) _ _ new (total k h) k.deep
 
   -- What isn't too big fits between what stands before the redex and what comes next.
   pub makes_room : exceeds (length b) (plug E new) ≡ false → at + size new ≤ p.right
-  makes_room h = omega (arith, (within_limits (length b) (plug E new) h).1, q.at_is, right_size q.gap, after_length E, plug_size E new)
+  makes_room h = grind (arith, common_steps, within_limits, right_size, after_length, plug_size)

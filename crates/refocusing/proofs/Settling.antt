@@ -1,13 +1,12 @@
 -- A turn of the loop: what the focus tells, and what comes of it.
-use Rattle.std.proofs.Common.{◌≡◌, sym, ap, subst, ◌∙◌, [], ℕ, ◌≤◌, ◌<◌, length, Result, Ok, Err}
-use Rattle.std.proofs.Math.Bool.{So}
+use Rattle.std.proofs.Common.{◌≡◌, sym, ap, subst, ◌∙◌, [], ℕ, ◌≤◌, ◌<◌, length, Result, Ok, Err, IsTrue, arith}
 use Rattle.calculus.specs.Terms.{Term}
 use Rattle.calculus.specs.Reduction.{Context}
 use Rattle.rules.specs.Answer.{Bytes}
 use Rattle.rules.specs.Script.{encode}
 use Rattle.redex.specs.Contexts.{offset, level}
-use Rattle.redex.specs.Fates.{ready}
-use Rattle.refocusing.specs.Focus.{Stands, Standing, Turning, Focused, ahead, turn, left_to_do, Advances, goes_on, has_ended, Settled, at_value, run_ended}
+use Rattle.redex.specs.Fates.{is_potential_redex}
+use Rattle.refocusing.specs.Focus.{Stands, Standing, FocusTurn, Focused, focus_ahead, focus_turn, left_to_do, Advances, still_running, has_ended, Settled, settled_at_value, run_ended}
 use Rattle.refocusing.specs.declared.Point.{Point}
 use Rattle.refocusing.specs.declared.Focus.{Focus}
 use Rattle.refocusing.specs.declared.Focus.TheVariants.{Ahead, Turn, Value}
@@ -21,7 +20,7 @@ Operates g t budget around p a b a' b' r =
 
 abbrev pub Contracts : (g t : Bytes) (budget at around : ℕ) (p : Point) (a b a' b' : Bytes) → Result Focus Ended → Type 0
 Contracts g t budget at around p a b a' b' r =
-    (whole : Term) (E : Context) (e : Term) → So (ready e) → Stands g t (length b) budget whole E e (encode e) [] p a b → at ≡ offset E → around ≡ level E
+    (whole : Term) (E : Context) (e : Term) → IsTrue (is_potential_redex e) → Stands g t (length b) budget whole E e (encode e) [] p a b → at ≡ offset E → around ≡ level E
     → Advances g t (length b) budget whole E (left_to_do budget (Turn p)) a' b' r
 
 -- Evaluation has come to f in the hole of E, with at most m left to do; the term in focus begins at record `at`.
@@ -45,35 +44,32 @@ module _ {g t : Bytes} {room budget : ℕ} {whole : Term} {E : Context} {at m ar
   stands_ahead {p} is l = by (focus_is is)
     where
       by : Focused g t (length b) budget whole E a b (Ahead p) → Standing g t budget around p a b
-      by (ahead e s) = record { whole = whole; context = E; term = e; stands = s; around_is = deep; same_length = l }
+      by (focus_ahead e s) = record { whole = whole; context = E; term = e; stands = s; around_is = deep; same_length = l }
 
   pub operates : {p : Point} {a' b' : Bytes} {r : Result Focus Ended} → f ≡ Ahead p → Operates g t budget around p a b a' b' r
       → Advances g t room budget whole E (left_to_do budget f) a' b' r
   operates {p} {a'} {b'} {r} is h = back is (by (focus_is is))
     where
       by : Focused g t (length b) budget whole E a b (Ahead p) → Advances g t (length b) budget whole E (left_to_do budget (Ahead p)) a' b' r
-      by (ahead e s) = h whole E e s deep
+      by (focus_ahead e s) = h whole E e s deep
 
-  pub stands_turn : {p : Point} → f ≡ Turn p → length a ≡ length b → Turning g t budget at around p a b
+  pub stands_turn : {p : Point} → f ≡ Turn p → length a ≡ length b → FocusTurn g t budget at around p a b
   stands_turn {p} is l = by (focus_is is)
     where
-      by : Focused g t (length b) budget whole E a b (Turn p) → Turning g t budget at around p a b
-      by (turn e y s) = record { whole = whole; context = E; term = e; turn = y; stands = s; at_is = q.at_is; around_is = deep; same_length = l }
+      by : Focused g t (length b) budget whole E a b (Turn p) → FocusTurn g t budget at around p a b
+      by (focus_turn e y s) = record { whole = whole; context = E; term = e; turn = y; stands = s; at_is = q.at_is; around_is = deep; same_length = l }
 
   pub contracts : {p : Point} {a' b' : Bytes} {r : Result Focus Ended} → f ≡ Turn p → Contracts g t budget at around p a b a' b' r
       → Advances g t room budget whole E (left_to_do budget f) a' b' r
   contracts {p} {a'} {b'} {r} is h = back is (by (focus_is is))
     where
       by : Focused g t (length b) budget whole E a b (Turn p) → Advances g t (length b) budget whole E (left_to_do budget (Turn p)) a' b' r
-      by (turn e y s) = h whole E e y s q.at_is deep
+      by (focus_turn e y s) = h whole E e y s q.at_is deep
 
 module _ {g t : Bytes} {room budget : ℕ} {whole : Term} {E : Context} {m : ℕ} {a b : Bytes} {r : Result Focus Ended}
     (x : Advances g t room budget whole E m a b r) where
   pub advanced : {f : Focus} → r ≡ Ok f → Focused g t room budget whole E a b f × (left_to_do budget f < m)
-  advanced {f} is = by (subst (λ r. Advances g t room budget whole E m a b r) is x)
-    where
-      by : Advances g t room budget whole E m a b (Ok f) → Focused g t room budget whole E a b f × (left_to_do budget f < m)
-      by (goes_on h l) = (h, l)
+  advanced {f} is = grind arith
 
   pub advanced_end : {n : ℕ} {s : Result Point Ended} {y z : Ended} → r ≡ Err z → s ≡ Err y → y ≡ z → Settled g t room budget whole E n a b s
   advanced_end {n} {s} {y} {z} is p q = subst (λ s. Settled g t room budget whole E n a b s) (sym (p ∙ ap Err q)) (by (subst (λ r. Advances g t room budget whole E m a b r) is x))
@@ -84,4 +80,4 @@ module _ {g t : Bytes} {room budget : ℕ} {whole : Term} {E : Context} {m : ℕ
 -- the loop ends at a value
 pub settled : {g t : Bytes} {room budget : ℕ} {whole : Term} {E : Context} {at m : ℕ} {a b : Bytes} {f : Focus} {p : Point}
     → Going g t room budget whole E at m a b f → f ≡ Value p → left_to_do budget (Value p) < m → Settled g t room budget whole E m a b (Ok p)
-settled {g} {t} {room} {budget} {whole} {E} {a = a} {b = b} q is l = at_value (subst (λ f. Focused g t room budget whole E a b f) is q.focused) l
+settled {g} {t} {room} {budget} {whole} {E} {a = a} {b = b} q is l = settled_at_value (subst (λ f. Focused g t room budget whole E a b f) is q.focused) l

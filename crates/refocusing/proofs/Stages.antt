@@ -1,7 +1,7 @@
--- What is known of the term in focus at each stage of its passing, and what comes of it: its operands are settled in turn, a branch is
--- passed as it is, and then it is a value or it is its turn.
-use Rattle.std.proofs.Common.{◌≡◌, refl, sym, ap, subst, ◌∙◌, [], append-nil, ℕ, ◌+◌, ◌*◌, ◌≤◌, ◌<◌, ◌⊎◌, inl, inr, arith, length, Result, Ok, Err}
-use Rattle.std.proofs.Math.Bool.{So}
+-- What is known of the term in focus at each stage of its passing, and what comes of it: its operands are settled in
+-- turn, a branch is passed as it is, and then it is a value or it is its turn.
+use Rattle.std.proofs.Common.{◌≡◌, refl, sym, ap, subst, ◌∙◌, [], append-nil, ℕ, ◌+◌, ◌*◌, ◌≤◌, ◌<◌, ◌⊎◌, inl, inr}
+use Rattle.std.proofs.Common.{arith, length, Result, Ok, Err, IsTrue}
 use Rattle.calculus.specs.Terms.{Term, is_value}
 use Rattle.calculus.specs.Reduction.{Context, plug}
 use Rattle.calculus.proofs.Contexts.{compose}
@@ -12,25 +12,27 @@ use Rattle.rules.proofs.PrefixLaws.{encode_length}
 use Rattle.rules.proofs.TermCode.{term_code}
 use Rattle.records.specs.Kinds as kinds
 use Rattle.records.specs.Place.{At}
-use Rattle.records.specs.Operands.{first_operand, second_operand, third_operand}
+use Rattle.records.specs.Operands.{first_operand, second_operand}
 use Rattle.records.proofs.Made.{by_kind}
 use Rattle.records.proofs.Stands.{kind_of, operands, at_second, at_third}
 use Rattle.memory.specs.Splice.{splice}
 use Rattle.redex.specs.Contexts.{after, level}
-use Rattle.redex.specs.Fates.{ready}
+use Rattle.redex.specs.Fates.{is_potential_redex}
 use Rattle.redex.proofs.Plugs.{compose_level}
 use Rattle.redex.proofs.Forms.{Position, alone_value, function_value, OfOne}
 use Rattle.redex.proofs.Stages.{kind_read, Opened, is_kind}
 use Rattle.records.specs.Numbers.{kind_number}
 use Rattle.records.specs.declared.Kind.{Kind}
 use Rattle.records.specs.declared.Kind.TheVariants.{Unit, Function, Literal, Protect, FirstProjection, SecondProjection}
-use Rattle.refocusing.specs.Focus.{Stands, Standing, Focused, value, turn, left_to_do, Ends, Advances, goes_on, has_ended, Settled, at_value, run_ended}
+use Rattle.records.proofs.ThirdOperand.{third_operand}
+use Rattle.refocusing.specs.Focus.{Stands, Standing, Focused, focus_value, focus_turn, left_to_do, EndedRun, Advances, still_running, has_ended, Settled, settled_at_value, run_ended}
 use Rattle.refocusing.specs.declared.Point.{Point}
 use Rattle.refocusing.specs.declared.Focus.{Focus}
 use Rattle.refocusing.specs.declared.Focus.TheVariants.{Ahead, Turn, Value}
 use Rattle.refocusing.specs.declared.Ended.{Ended}
 use Rattle.refocusing.proofs.Shifts.{term_taken}
 use Rattle.refocusing.proofs.Nodes.{FirstPassed}
+use Rattle.refocusing.specs.Moves.{PassesOver}
 use Rattle.refocusing.proofs.Passing.{Passed, passed, stands, went_on, entered}
 
 -- what the settling of a term promises
@@ -52,9 +54,14 @@ module _ {g t : Bytes} {room budget : ℕ} {whole : Term} {E : Context} {e : Ter
     (s : Passed g t room budget whole E e n p a b) where
   -- a term that comes next, passed as it is
   pub term_passed : (z : Term) {p' : Point} {a' : Bytes} → At b p.right z → n + size z ≤ size e
-      → (p'.left ≡ p.left + size z) × (p'.right ≡ p.right + size z) × (p'.steps ≡ p.steps) × (a' ≡ splice (script_width * p.left) (encode z) a)
+      → PassesOver (size z) (encode z) p p' a a'
       → Passed g t room budget whole E e (n + size z) p' a' b
-  term_passed z {p'} h l f = went_on s (size z) l p' (f.0, f.1, f.2, f.3 ∙ ap (λ m. splice (script_width * p.left) m a) (sym (term_taken h)))
+  term_passed z {p'} h l f = went_on s (size z) l p' (record {
+    left = f.left;
+    right = f.right;
+    steps = f.steps;
+    front = f.front ∙ ap (λ m. splice (script_width * p.left) m a) (sym (term_taken h));
+  })
 
   module _ {z : Term} {m : ℕ} (q : Position e z n m) (same : length b ≡ room) (around : ℕ) (deep : around ≡ level E + m) where
     here : Stands g t (length b) budget whole (compose E q.context) z [] (encode z) p a b
@@ -81,29 +88,26 @@ module _ {g t : Bytes} {room budget : ℕ} {whole : Term} {E : Context} {e : Ter
         (f whole (compose E q.context) z here deeper)
 
   -- a term that is passed
-  pub comes_to_value : {m : ℕ} → n ≡ size e → So (is_value e) → left_to_do budget (Value p) < m → Advances g t room budget whole E m a b (Ok (Value p))
-  comes_to_value l v h = goes_on (value e v (stands (encode e) [] s (append-nil (encode e)) (omega (arith, encode_length term_code e)))) h
+  pub comes_to_value : {m : ℕ} → n ≡ size e → IsTrue (is_value e) → left_to_do budget (Value p) < m → Advances g t room budget whole E m a b (Ok (Value p))
+  comes_to_value l v h = still_running (focus_value e v (stands (encode e) [] s (append-nil (encode e)) (omega (arith, encode_length term_code e)))) h
 
-  pub comes_to_turn : {m : ℕ} → n ≡ size e → So (ready e) → left_to_do budget (Turn p) < m → Advances g t room budget whole E m a b (Ok (Turn p))
-  comes_to_turn l v h = goes_on (turn e v (stands (encode e) [] s (append-nil (encode e)) (omega (arith, encode_length term_code e)))) h
+  pub comes_to_turn : {m : ℕ} → n ≡ size e → IsTrue (is_potential_redex e) → left_to_do budget (Turn p) < m → Advances g t room budget whole E m a b (Ok (Turn p))
+  comes_to_turn l v h = still_running (focus_turn e v (stands (encode e) [] s (append-nil (encode e)) (omega (arith, encode_length term_code e)))) h
 
 -- an operand that is settled, or the run has ended
 module _ {g t : Bytes} {room budget : ℕ} {whole : Term} {E : Context} {m : ℕ} {a b : Bytes} where
   pub settled_value : {r : Result Point Ended} {p : Point} → Settled g t room budget whole E m a b r → r ≡ Ok p
       → Focused g t room budget whole E a b (Value p) × (left_to_do budget (Value p) < m)
-  settled_value {p = p} s h = by (subst (λ r. Settled g t room budget whole E m a b r) h s)
-    where
-      by : Settled g t room budget whole E m a b (Ok p) → Focused g t room budget whole E a b (Value p) × (left_to_do budget (Value p) < m)
-      by (at_value f l) = (f, l)
+  settled_value {p = p} s h = grind arith
 
-  pub settled_end : {r : Result Point Ended} {x : Ended} → Settled g t room budget whole E m a b r → r ≡ Err x → Ends g t room budget whole a b x
+  pub settled_end : {r : Result Point Ended} {x : Ended} → Settled g t room budget whole E m a b r → r ≡ Err x → EndedRun g t room budget whole a b x
   settled_end {x = x} s h = by (subst (λ r. Settled g t room budget whole E m a b r) h s)
     where
-      by : Settled g t room budget whole E m a b (Err x) → Ends g t room budget whole a b x
+      by : Settled g t room budget whole E m a b (Err x) → EndedRun g t room budget whole a b x
       by (run_ended z) = z
 
 pub ends_so : {g t : Bytes} {room budget : ℕ} {whole : Term} {E : Context} {m : ℕ} {a b : Bytes} {r : Result Focus Ended} {x y : Ended} → r ≡ Err x → x ≡ y
-    → Ends g t room budget whole a b y → Advances g t room budget whole E m a b r
+    → EndedRun g t room budget whole a b y → Advances g t room budget whole E m a b r
 ends_so {g} {t} {room} {budget} {whole} {E} {m} {a} {b} p q h =
     subst (λ r. Advances g t room budget whole E m a b r) (sym (p ∙ ap Err q)) (has_ended h)
 
@@ -113,9 +117,7 @@ Unary k = (k ≡ kinds.protect) ⊎ ((k ≡ kinds.first_projection) ⊎ (k ≡ k
 
 pub unary_size : (e : Term) → Unary (kind_of e) → size e ≡ 1 + size (first_operand e)
 unfolding size
-unary_size e (inl h) = by_kind (λ x. size x ≡ 1 + size (first_operand x)) kinds.protect e h refl
-unary_size e (inr (inl h)) = by_kind (λ x. size x ≡ 1 + size (first_operand x)) kinds.first_projection e h refl
-unary_size e (inr (inr h)) = by_kind (λ x. size x ≡ 1 + size (first_operand x)) kinds.second_projection e h refl
+unary_size e n = grind arith
 
 pub unary_of_one : {n : ℕ} → Unary n → OfOne n
 unary_of_one (inl h) = inl h
@@ -125,11 +127,10 @@ unary_of_one (inr (inr h)) = inr (inr (inl h))
 case_operands : (e : Term) → kind_of e ≡ kinds.case
     → (3 ≤ operands e) × (size e ≡ 1 + size (first_operand e) + size (second_operand e) + size (third_operand e))
 unfolding size
-case_operands e h =
-    by_kind (λ x. (3 ≤ operands x) × (size x ≡ 1 + size (first_operand x) + size (second_operand x) + size (third_operand x))) kinds.case e h (omega arith, omega arith)
+case_operands e h = grind arith
 
 -- the kinds that are values as they stand
-pub lone_value : {s : Bytes} {i : ℕ} {k : Kind} {e : Term} → kind_number k ≡ kind s i → At s i e → (k ≡ Unit) ⊎ ((k ≡ Literal) ⊎ (k ≡ Function)) → So (is_value e)
+pub lone_value : {s : Bytes} {i : ℕ} {k : Kind} {e : Term} → kind_number k ≡ kind s i → At s i e → (k ≡ Unit) ⊎ ((k ≡ Literal) ⊎ (k ≡ Function)) → IsTrue (is_value e)
 lone_value is a (inl h) = (alone_value _ (inl (kind_read is a h))).0
 lone_value is a (inr (inl h)) = (alone_value _ (inr (kind_read is a h))).0
 lone_value is a (inr (inr h)) = function_value _ (kind_read is a h)

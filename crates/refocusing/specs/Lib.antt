@@ -1,4 +1,5 @@
 pub mod Gap
 pub mod Focus
 pub mod Contracted
+pub mod Moves
 pub mod Refocusing

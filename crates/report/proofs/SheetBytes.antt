@@ -1,7 +1,9 @@
 -- A sheet's bytes are below 256, if the table's and the script's are.
-use Rattle.std.proofs.Common.{◌≡◌, ℕ, zero, suc, ◌≤◌, ◌<◌, Bool, true, false, cond, min, subst, ltb-true, refl, sym, [], ◌∷◌, arith}
+use Rattle.std.proofs.Common.{◌≡◌, ℕ, zero, suc, ◌≤◌, ◌<◌, Bool, true, false, cond, min, subst, ltb-true, refl, sym, []}
+use Rattle.std.proofs.Common.{◌∷◌, arith}
 use Rattle.calculus.specs.Security.{Property}
-use Rattle.calculus.specs.Terms.{first, second, Term, var, unit, lam, pair, inj, app, proj, case, protect, mu, literal, reckon}
+use Rattle.calculus.specs.Terms.{first, second, Term, var, unit, lam, pair, inj, app, proj, case, protect, mu, literal}
+use Rattle.calculus.specs.Terms.{reckon}
 use Rattle.calculus.proofs.Booleans.{and_left}
 use Rattle.rules.specs.Answer.{Bytes, Octets, accepted}
 use Rattle.rules.specs.Limits.{group_limit}
@@ -11,16 +13,16 @@ use Rattle.rules.specs.Script.{encode, term}
 use Rattle.rules.specs.Sheet.{shown_record, sheet_record, sheet}
 use Rattle.rules.specs.Step.{End, at_value, moves, may_not, wrong_kind, too_big, step_in}
 use Rattle.rules.specs.Run.{Ran, run}
-use Rattle.rules.specs.Calls.{q25, q26, q27, groups_check, types_check, script_check, running, sheeting}
+use Rattle.rules.specs.Calls.{q25, q26, q27, groups_check, types_check, script_check, run_call, sheet_call}
 use Rattle.rules.proofs.Asked.{and_then, few_rows}
 use Rattle.rules.proofs.Octets.{octets_append}
 use Rattle.rules.proofs.Scripts.{term_encode}
-use Rattle.demands.proofs.Answers.{accepted_inj}
-use Rattle.demands.proofs.Formed.{Secure, Formed}
-use Rattle.demands.proofs.Tables.{Tables}
-use Rattle.demands.proofs.TypesTable.{tables}
-use Rattle.demands.proofs.Checked.{Fit, script_passed}
-use Rattle.demands.proofs.Steps.{fit_moves}
+use Rattle.promises.proofs.Answers.{accepted_inj}
+use Rattle.promises.proofs.Formed.{Secure, Formed}
+use Rattle.promises.proofs.Tables.{Tables}
+use Rattle.promises.proofs.TypesTable.{tables}
+use Rattle.promises.proofs.Checked.{Fit, script_passed}
+use Rattle.promises.proofs.Steps.{fit_moves}
 
 none_octets : Octets []
 none_octets i = omega arith
@@ -52,7 +54,6 @@ module _ (g t : Bytes) (X : Tables g t) (few : rows g ≤ group_limit) (group : 
 
   sheet_octets : (e : Term) (n : ℕ) → Formed g t n e → Octets (sheet g group e)
   unfolding sheet Formed
-  sheet_octets (var m) n F = none_octets
   sheet_octets (unit k) n F = own_octets 0 k 0 (omega arith) F (omega arith)
   sheet_octets (lam k i e) n F = own_octets 4 k 0 (omega arith) F.0 (omega arith)
   sheet_octets (pair k a b) n F =
@@ -60,18 +61,13 @@ module _ (g t : Bytes) (X : Tables g t) (few : rows g ≤ group_limit) (group : 
       (parts_octets (leq g k.r group) _ (octets_append _ _ (sheet_octets a n F.1) (sheet_octets b n F.2)))
   sheet_octets (inj first k i e) n F = octets_append _ _ (own_octets 1 k 0 (omega arith) F.0 (omega arith)) (parts_octets (leq g k.r group) _ (sheet_octets e n F.3))
   sheet_octets (inj second k i e) n F = octets_append _ _ (own_octets 2 k 0 (omega arith) F.0 (omega arith)) (parts_octets (leq g k.r group) _ (sheet_octets e n F.3))
-  sheet_octets (app w f a) n F = none_octets
-  sheet_octets (proj d w e) n F = none_octets
-  sheet_octets (case w i e a b) n F = none_octets
-  sheet_octets (protect m e) n F = none_octets
-  sheet_octets (mu w i e) n F = none_octets
   sheet_octets (literal k m) n F = own_octets 6 k m (omega arith) F.0 F.1
-  sheet_octets (reckon o w a b) n F = none_octets
+  sheet_octets _ n F = none_octets
 
 -- of a value that passes its questions
 page_octets : (g t v : Bytes) (group room : ℕ) → Octets g → (script_check [] g t v ≡ accepted tt → Fit g t (term v)) → (b : Bytes)
-    → sheeting g t v group room ≡ accepted b → Octets b
-unfolding sheeting script_check types_check
+    → sheet_call g t v group room ≡ accepted b → Octets b
+unfolding sheet_call script_check types_check
 page_octets g t v group room octets F b h =
     let e1 = and_then (script_check [] g t v) _ h in
     let types = (and_then (types_check g t) _ e1.0).0 in
@@ -81,10 +77,10 @@ page_octets g t v group room octets F b h =
     let e4 = (and_then (q27 (sheet g group (term v)) room) _ e3).1 in
     subst Octets (accepted_inj e4) (sheet_octets g t (tables g t octets types) few group (term v) 0 (F e1.0).formed)
 
-pub value_octets : (g t v : Bytes) (group room : ℕ) → Octets g → Octets v → (b : Bytes) → sheeting g t v group room ≡ accepted b → Octets b
+pub value_octets : (g t v : Bytes) (group room : ℕ) → Octets g → Octets v → (b : Bytes) → sheet_call g t v group room ≡ accepted b → Octets b
 value_octets g t v group room octets_g octets_v = page_octets g t v group room octets_g (λ e. (script_passed [] g t v octets_v e).fit)
 
-pub term_octets : (g t : Bytes) (e : Term) (group room : ℕ) → Octets g → Fit g t e → (b : Bytes) → sheeting g t (encode e) group room ≡ accepted b → Octets b
+pub term_octets : (g t : Bytes) (e : Term) (group room : ℕ) → Octets g → Fit g t e → (b : Bytes) → sheet_call g t (encode e) group room ≡ accepted b → Octets b
 term_octets g t e group room octets F = page_octets g t (encode e) group room octets (λ p. subst (λ (u : Term). Fit g t u) (sym (term_encode e)) F)
 
 -- a run's last term is formed
@@ -96,14 +92,11 @@ module _ (g t : Bytes) (types : types_check g t ≡ accepted tt) (X : Tables g t
     where
       go : (x : End) → step_in (properties_of g) (type_at t) room e ≡ x → ((e' : Term) → Fit g t e' → Fit g t (run (properties_of g) (type_at t) room budget e').last)
           → Fit g t (run (properties_of g) (type_at t) room (suc budget) e).last
-      go at_value h ih = rw (h, run) F
       go (moves e') h ih = rw (h, run) (ih e' (fit_moves g t types X room e e' F h))
-      go may_not h ih = rw (h, run) F
-      go wrong_kind h ih = rw (h, run) F
-      go too_big h ih = rw (h, run) F
+      go _ h ih = rw (h, run) F
 
-pub last_fits : (g t s : Bytes) (budget room room' : ℕ) → Octets g → Octets s → (x : Ran) → running g t s budget room room' ≡ accepted x → Fit g t x.last
-unfolding running
+pub last_fits : (g t s : Bytes) (budget room room' : ℕ) → Octets g → Octets s → (x : Ran) → run_call g t s budget room room' ≡ accepted x → Fit g t x.last
+unfolding run_call
 last_fits g t s budget room room' octets_g octets_s x h =
     let p = and_then (script_check (room ∷ room' ∷ []) g t s) _ h in
     let P = script_passed (room ∷ room' ∷ []) g t s octets_s p.0 in

@@ -1,5 +1,6 @@
 -- The report's texts from what the calls answer, and how long they can be.
-use Rattle.std.proofs.Common.{◌≡◌, ℕ, zero, suc, ◌+◌, ◌*◌, ◌-◌, ◌/◌, ◌≤◌, Bool, true, false, [], ◌∷◌, ◌++◌, length, take, drop, refl, sym, ap, ◌∙◌, arith, length-append, leb, eqb}
+use Rattle.std.proofs.Common.{◌≡◌, ℕ, zero, suc, ◌+◌, ◌*◌, ◌-◌, ◌/◌, ◌≤◌, Bool, true, false, [], ◌∷◌, ◌++◌, length}
+use Rattle.std.proofs.Common.{take, drop, refl, sym, ap, ◌∙◌, arith, length-append, nat_le, nat_eq}
 use Rattle.std.proofs.Math.Option.{Option, none, some}
 use Rattle.std.proofs.lemmas.Bool.{leb-true, ne_eqb}
 use Rattle.std.proofs.lemmas.List.{take_at}
@@ -10,12 +11,14 @@ use Rattle.rules.specs.Groups.{rows}
 use Rattle.rules.specs.Script.{encode, term, size}
 use Rattle.rules.specs.Sheet.{sheet}
 use Rattle.rules.specs.Run.{Ran}
-use Rattle.rules.specs.Calls.{zeros, q25, q26, q27, script_check, type_records, running, Report, run_report, first_after, sheeting, sheet_records, sheet_after}
+use Rattle.rules.specs.Calls.{zeros, q25, q26, q27, script_check, type_records, run_call, Report, run_report}
+use Rattle.rules.specs.Calls.{first_after, sheet_call, sheet_records, sheet_after}
 use Rattle.rules.specs.Reach.{verdict}
-use Rattle.rules.specs.Report.{refusal_line, accepted_line, run_line, sheet_line, sheet_lines, sheet_text, value_text, run_text, checked_text, script_text, after_words, our_words, report}
+use Rattle.rules.specs.Report.{refusal_line, accepted_line, run_line, sheet_line, sheet_lines, sheet_text, value_text}
+use Rattle.rules.specs.Report.{run_text, checked_text, script_text, after_words, our_words, report}
 use Rattle.rules.specs.Words.{words_check}
-use Rattle.demands.proofs.Answers.{accepted_inj}
-use Rattle.demands.proofs.Checked.{Fit}
+use Rattle.promises.proofs.Answers.{accepted_inj}
+use Rattle.promises.proofs.Checked.{Fit}
 use Rattle.rules.proofs.Asked.{ask_true, and_then}
 use Rattle.substitution.proofs.Reading.{term_length}
 use Rattle.packing.proofs.Exported.{run_ends}
@@ -31,15 +34,15 @@ either : {A : Type 0} {q p : ℕ} {a : A} → accepted a ≡ refused q p → ⊥
 either e = let z : ◌≡◌ {A = ℕ} 0 1 = cc in omega (arith, z)
 
 -- question 27: the sheet fits its buffer
-pub page_fits : (g t s : Bytes) (group room : ℕ) (b : Bytes) → sheeting g t s group room ≡ accepted b → length b ≤ room
-unfolding sheeting
+pub page_fits : (g t s : Bytes) (group room : ℕ) (b : Bytes) → sheet_call g t s group room ≡ accepted b → length b ≤ room
+unfolding sheet_call
 page_fits g t s group room b e =
     let e1 = (and_then (script_check [] g t s) _ e).1 in
     let e2 = (and_then (q25 0 group (rows g)) _ e1).1 in
     let e3 = (and_then (q26 (term s)) _ e2).1 in
     let e4 = and_then (q27 (sheet g group (term s)) room) _ e3 in
     omega
-    (arith, leb-true (length (sheet g group (term s))) room (ask_true 27 0 (leb (length (sheet g group (term s))) room) e4.0), ap length (accepted_inj e4.1))
+    (arith, leb-true (length (sheet g group (term s))) room (ask_true 27 0 (nat_le (length (sheet g group (term s))) room) e4.0), ap length (accepted_inj e4.1))
 
 -- the counted records lie in the sheet's buffer,
 pub count_within : (a : Answer Bytes) (count room : ℕ) → accepted count ≡ sheet_records a → ((b : Bytes) → a ≡ accepted b → length b ≤ room)
@@ -84,11 +87,11 @@ unfolding value_text
 no_value w g t x end e n = rw (ne_eqb x.end 0 (λ z. n (sym e ∙ z)), value_text)
 
 pub a_value : (w g t v : Bytes) (x : Ran) (end : ℕ) → x.end ≡ end → end ≡ 0 → encode x.last ≡ v
-    → value_text w g t x ≡ sheet_text w (sheeting g t v 0 report_sheet)
+    → value_text w g t x ≡ sheet_text w (sheet_call g t v 0 report_sheet)
 unfolding value_text
 a_value w g t v x end e z h =
     let k : x.end ≡ 0 = e ∙ z in
-    rw k (ap (λ (b : Bytes). sheet_text w (sheeting g t b 0 report_sheet)) h)
+    rw k (ap (λ (b : Bytes). sheet_text w (sheet_call g t b 0 report_sheet)) h)
 
 -- a run that ended with these numbers
 pub record Ended (a : Answer Ran) (end steps records : ℕ) : Type 0 where
@@ -122,7 +125,7 @@ last_in_front a end steps records old w x h =
     sym (ap (take (script_width * records)) (h ∙ ap (λ (b : Answer Ran). first_after b old) x.is) ∙ take_at e rest (script_width * records) l)
 
 -- and has at most 8,192 records
-pub few_records : (g t s : Bytes) (budget first scratch end steps records : ℕ) → Octets s → Ended (running g t s budget first scratch) end steps records
+pub few_records : (g t s : Bytes) (budget first scratch end steps records : ℕ) → Octets s → Ended (run_call g t s budget first scratch) end steps records
     → records ≤ script_limit
 few_records g t s budget first scratch end steps records o x = omega (arith, (run_ends g t s budget first scratch x.ran o x.is).last, x.records_is)
 
@@ -142,12 +145,12 @@ run_refused w g t (accepted x) q p e = absurd (either (sym e))
 run_refused w g t (refused q' p') q p e = cc
 
 pub script_accepted : (w g t s : Bytes) (records : ℕ) → accepted records ≡ type_records (verdict g t s)
-    → script_text w g t s ≡ accepted_line records ++ run_text w g t (running g t s report_budget report_buffer report_buffer)
+    → script_text w g t s ≡ accepted_line records ++ run_text w g t (run_call g t s report_budget report_buffer report_buffer)
 unfolding script_text checked_text type_records
 script_accepted w g t s records = go (verdict g t s)
   where
     go : (a : Answer Ty) → accepted records ≡ type_records a
-        → checked_text w g t s a ≡ accepted_line records ++ run_text w g t (running g t s report_budget report_buffer report_buffer)
+        → checked_text w g t s a ≡ accepted_line records ++ run_text w g t (run_call g t s report_budget report_buffer report_buffer)
     go (accepted type) h = cc
     go (refused q p) h = absurd (either h)
 
@@ -195,12 +198,12 @@ sheet_room w (refused q p) f = omega (arith, refusal_length q p)
 
 pub value_length : (w g t : Bytes) (x : Ran) → Octets g → Fit g t x.last → length (value_text w g t x) ≤ value_room
 unfolding value_text
-value_length w g t x octets F = go (eqb x.end 0) refl
+value_length w g t x octets F = go (nat_eq x.end 0) refl
   where
     a : Answer Bytes
-    a = sheeting g t (encode x.last) 0 report_sheet
+    a = sheet_call g t (encode x.last) 0 report_sheet
 
-    go : (b : Bool) → eqb x.end 0 ≡ b → length (value_text w g t x) ≤ value_room
+    go : (b : Bool) → nat_eq x.end 0 ≡ b → length (value_text w g t x) ≤ value_room
     go true e = rw (e, value_text) (sheet_room w a (λ b h. (page_fits g t (encode x.last) 0 report_sheet b h, term_octets g t x.last 0 report_sheet octets F b h)))
     go false e = rw (e, value_text) (omega arith)
 
@@ -217,9 +220,9 @@ script_length w g t s octets_g octets_s = go (verdict g t s)
   where
     go : (a : Answer Ty) → length (checked_text w g t s a) ≤ report_room
     go (accepted type) =
-        let r : Bytes = run_text w g t (running g t s report_budget report_buffer report_buffer) in
+        let r : Bytes = run_text w g t (run_call g t s report_budget report_buffer report_buffer) in
         omega
-        (arith, length-append (accepted_line (size_t type)) r, accepted_length (size_t type), run_text_length w g t (running g t s report_budget report_buffer report_buffer) octets_g (last_fits g t s report_budget report_buffer report_buffer octets_g octets_s))
+        (arith, length-append (accepted_line (size_t type)) r, accepted_length (size_t type), run_text_length w g t (run_call g t s report_budget report_buffer report_buffer) octets_g (last_fits g t s report_budget report_buffer report_buffer octets_g octets_s))
     go (refused q p) = omega (arith, refusal_length q p)
 
 -- No report is longer, whatever the files hold.

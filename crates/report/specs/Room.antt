@@ -1,5 +1,5 @@
--- Room in the written buffer: no text of the report is longer, whatever the files hold. A number has at most 20 digits, a literal's
--- at most 5, and a word at most 12 letters.
+-- Room in the written buffer: no text of the report is longer, whatever the files hold. A number has at most 20 digits,
+-- a literal's at most 5, and a word at most 12 letters.
 use Rattle.std.specs.Prelude.{ℕ, ◌+◌, ◌*◌}
 use Rattle.rules.specs.Limits.{script_limit}
 

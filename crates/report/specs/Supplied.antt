@@ -4,6 +4,7 @@ use Rattle.std.specs.Borrow.{Bor}
 use Rattle.std.proofs.Math.Option as math
 use Rattle.rules.specs.Answer.{Bytes}
 
+-- the bytes of a file, or none
 abbrev pub file : Option (Bor Bytes) → math.Option Bytes
 file None = math.none
 file (Some bytes) = math.some bytes.now

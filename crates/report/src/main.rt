@@ -1,7 +1,8 @@
-// The report program: the files `groups`, `types` and `script` of the current folder are checked and run, and the report is
-// written to standard output, in the words of the file `words` if there is one. What a program reads and writes is in no contract, so
-// `write_report` makes the whole text of the files' bytes in a lent buffer, and what is around it only reads, calls it and writes. Each
-// function has the buffers of the call that it makes, so that the text's is all that is lent for writing.
+// The report program: the files `groups`, `types` and `script` of the current folder are checked and run, and the
+// report is written to standard output, in the words of the file `words` if there is one. What a program reads and
+// writes is in no contract, so `write_report` makes the whole text of the files' bytes in a lent buffer, and what is
+// around it only reads, calls it and writes. Each function has the buffers of the call that it makes, so that the
+// text's is all that is lent for writing.
 
 #![tactic(auto)]
 
@@ -9,10 +10,10 @@ ghost use Rattle.std.specs.Prelude.{◌≡◌, ◌+◌, ◌≤◌, length, IfOk,
 ghost use Rattle.rules.specs.Limits.{report_budget, report_buffer};
 ghost use Rattle.rules.specs.Script.{encode};
 ghost use Rattle.rules.specs.Run.{Ran};
-ghost use Rattle.rules.specs.Calls.{running};
+ghost use Rattle.rules.specs.Calls.{run_call};
 ghost use Rattle.rules.specs.Report.{value_text, run_text, script_text, report};
-ghost use Rattle.reduction.specs.Steps.{end_number};
-ghost use Rattle.memory.specs.Written.{Room, Written};
+ghost use Rattle.reduction.specs.Steps.{reported_end};
+ghost use Rattle.memory.specs.Written.{Written};
 ghost use Rattle.report.specs.Supplied.{file};
 ghost use Rattle.report.specs.Room.{value_room, run_room, report_room};
 
@@ -62,7 +63,7 @@ fn value_text(
     stop: Option<Stop>,
 )
     requires { text.old.end + value_room ≤ length text.old.out.now }
-    ensures { (x : Ran) → x.end ≡ end_number stop → encode x.last ≡ value.now
+    ensures { (x : Ran) → x.end ≡ reported_end stop → encode x.last ≡ value.now
         → Written (value_text words.now groups.now types.now x) text.old text.new }
 {
     if stop != Some(Stop::Value) {
@@ -75,12 +76,12 @@ fn value_text(
     }
 }
 
-// The run's text: its line, and the value's text. An accepted script's run isn't refused; the definition has a text for every
-// answer, and so has this.
+// The run's text: its line, and the value's text. An accepted script's run isn't refused; the definition has a text for
+// every answer, and so has this.
 fn run_text(text: &mut Writer, words: &Table, groups: &[u8], types: &[u8], script: &[u8])
     requires { text.old.end + run_room ≤ length text.old.out.now }
     ensures { Written (run_text words.now groups.now types.now
-        (running groups.now types.now script.now report_budget report_buffer report_buffer))
+        (run_call groups.now types.now script.now report_budget report_buffer report_buffer))
         text.old text.new }
 {
     let mut first = [0u8; RUN_LENGTH];

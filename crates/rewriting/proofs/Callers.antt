@@ -1,45 +1,36 @@
 -- A loop that writes the callers, a record a turn, in records of any width.
-use Rattle.std.proofs.Common.{◌≡◌, refl, sym, ap, ap₂, ◌∙◌, Bool, true, false, cond, ◌&&◌, [], ◌∷◌, ◌++◌, append_assoc, ℕ, zero, suc, ◌+◌, ◌*◌, ◌-◌, ◌/◌, ◌≤◌, ◌<◌, arith, ltb-true, eqb, ltb, length, take, drop, set, take-append-drop, length-drop}
+use Rattle.std.proofs.Common.{◌≡◌, refl, sym, ap, ap₂, ◌∙◌, Bool, true, false, cond, ◌&&◌, ◌++◌, append_assoc, ℕ, zero}
+use Rattle.std.proofs.Common.{suc, ◌+◌, ◌*◌, ◌-◌, ◌/◌, ◌≤◌, ◌<◌, arith, ltb-true, nat_eq, nat_lt, length, take, drop}
+use Rattle.std.proofs.Common.{set, take-append-drop}
 use mir.Val.{bool_byte}
 use Rattle.std.proofs.Math.Seq.{set-get_or, get_or-drop}
-use Rattle.std.proofs.Math.Nat.{mul-add}
 use Rattle.rules.specs.Answer.{Bytes, byte}
-use Rattle.rules.specs.Callers.{recursion_of_type, caller, first_number, put_callers, count_callers, write_callers_of, callers_written_of}
-use Rattle.rules.proofs.Callers.{next_record}
+use Rattle.rules.specs.Callers.{recursion_of_type, caller, first_number, put_callers, count_callers, write_callers_of}
+use Rattle.rules.specs.Callers.{callers_written_of}
 use Rattle.rules.proofs.Prefix.{record_at}
-use Rattle.rules.proofs.Parts.{record_byte, record_first}
-use Rattle.rewriting.specs.Caller.{number_at, recursion_at, caller_at, WrittenAt}
+use Rattle.rewriting.specs.Caller.{record_number_at, recursion_at, caller_at, WrittenAt}
 use Rattle.rewriting.proofs.SetByte.{set_up_to, set_past}
 
 and_second : (a b : Bool) → a && b ≡ true → b ≡ true
-and_second true b h = h
-and_second false true h = refl
-and_second false false h = h
+and_second a b h = grind arith
 
 -- what the test is as a number
 pub counted : (b : Bool) → bool_byte b ≡ cond b 1 0
-counted true = refl
-counted false = refl
+counted b = grind arith
 
 pub at_most_one : (b : Bool) → bool_byte b ≤ 1
-at_most_one true = omega arith
-at_most_one false = omega arith
+at_most_one b = grind arith
 
 -- a record that is there is there whole
 pub there : (width n i : ℕ) → 1 ≤ width → i < n / width → width * i + width ≤ n
-there width n i w l =
-    let p : n / width ≡ suc i + (n / width - suc i) = omega arith in
-    omega (arith, whole, ap (λ m. width * m) p, mul-add width (suc i) (n / width - suc i), next_record width i)
-  where
-    whole : width * (n / width) ≤ n
-    whole = omega arith
+there width n i w l = grind arith
 
 pub names_type : (width : ℕ) (t : Bytes) (k n : ℕ) → recursion_of_type width t k n ≡ true → n < length t / width
-names_type width t k n h = ltb-true n (length t / width) (and_second (eqb k 11) (ltb n (length t / width)) h)
+names_type width t k n h = ltb-true n (length t / width) (and_second (nat_eq k 11) (nat_lt n (length t / width)) h)
 
 module _ (type_bytes width : ℕ) where
   -- the test, made with what was read of record i
-  pub tested : (t s : Bytes) (i : ℕ) {k n : ℕ} {b : Bool} → k ≡ byte s (width * i) → n ≡ number_at width s i → b ≡ recursion_of_type type_bytes t k n
+  pub tested : (t s : Bytes) (i : ℕ) {k n : ℕ} {b : Bool} → k ≡ byte s (width * i) → n ≡ record_number_at width s i → b ≡ recursion_of_type type_bytes t k n
       → recursion_at type_bytes width t s i ≡ b
   tested t s i p q e = sym (e ∙ ap₂ (recursion_of_type type_bytes t) p q)
 
@@ -49,7 +40,7 @@ module _ (type_bytes width : ℕ) where
     left_as_is h = record { wrote = sym h; script = rw h (sym (set-get_or s (width * i + 1) 0)) }
 
     -- in one that is, byte 1 is set
-    pub set_in : (v : ℕ) → recursion_at type_bytes width t s i ≡ true → v ≡ byte t (type_bytes * number_at width s i + 1)
+    pub set_in : (v : ℕ) → recursion_at type_bytes width t s i ≡ true → v ≡ byte t (type_bytes * record_number_at width s i + 1)
         → WrittenAt type_bytes width t s i true (set s (width * i + 1) v)
     set_in v h e = record { wrote = sym h; script = rw h (ap (set s (width * i + 1)) e) }
 

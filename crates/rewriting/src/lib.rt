@@ -1,5 +1,6 @@
-// The rewriting of types tables and scripts that were written before a rule changed, and of the old office program's. No other crate knows
-// the records of the forms before, and only `importing` and `exporting` know those of the old office program.
+// The rewriting of types tables and scripts that were written before a rule changed, and of the old office program's.
+// No other crate knows the records of the forms before, and only `importing` and `exporting` know those of the old
+// office program.
 
 #![tactic(auto)]
 
@@ -10,11 +11,12 @@ ghost use Rattle.rules.specs.Callers.{recursion_of_type, write_callers_of, calle
 ghost use Rattle.rules.specs.Callers.{write_callers, callers_written, write_office_callers, office_callers_written};
 ghost use Rattle.rules.specs.Answer.{byte, accepted};
 ghost use Rattle.rules.specs.Rewriting.{widen_types, widen_script, old_types_check, old_script_check};
-ghost use Rattle.rules.specs.Rewriting.{rewriting_types, rewriting_script, rewritten_records, rewritten_after};
-ghost use Rattle.answer.specs.Said.{said};
+ghost use Rattle.rules.specs.Rewriting.{rewriting_types, rewriting_script};
+ghost use Rattle.answer.specs.Said.{answer_of};
 ghost use Rattle.memory.specs.Splice.{splice};
 ghost use Rattle.rewriting.specs.Caller.{WrittenAt};
-ghost use Rattle.rewriting.specs.Widened.{widened, fitting};
+ghost use Rattle.rewriting.specs.HandsOver.{HandsOver};
+ghost use Rattle.rewriting.specs.Widened.{widened_records, after_27};
 
 use answer::{Checked, Question, Refusal};
 use lattice::Reader;
@@ -23,13 +25,16 @@ use script::SCRIPT_LENGTH;
 use types::TYPE_WIDTH;
 use types_table::TABLE_LENGTH;
 
+/// The bytes of a type record of the form before creators: its kind, r, ir and a 0.
 pub const OLD_TYPE_WIDTH: usize = 4;
 
+/// The bytes of a script record of the form before creators: its kind, r, ir, a 0 and its number.
 pub const OLD_SCRIPT_WIDTH: usize = 6;
 
+/// The bytes of a script record of the old office program: its kind, r, ir, a 0, its number and two names.
 pub const OFFICE_WIDTH: usize = 10;
 
-// The most records of a script of the old office program.
+/// The most records of a script of the old office program.
 pub const OFFICE_LIMIT: usize = 6000;
 
 // What a record has grown by: c and ic.
@@ -38,16 +43,19 @@ const CREATORS: usize = 2;
 // Byte 1 of a recursion: the group that its call is made as.
 const CALLER: usize = 1;
 
-// The fields of record i of a script whose records have this width, and r of record i of a types table: all forms begin alike.
+// The fields of record i of a script whose records have this width, and r of record i of a types table: all forms
+// begin alike.
 fn kind(script: &[u8], width: usize, i: usize) -> u8
-    requires { (6 ≤ width) × (width * i + width ≤ length script.now) }
+    requires wide { 6 ≤ width }
+    requires there { width * i + width ≤ length script.now }
     ensures { result ≡ byte script.now (width * i) }
 {
     script[width * i]
 }
 
 fn number(script: &[u8], width: usize, i: usize) -> usize
-    requires { (6 ≤ width) × (width * i + width ≤ length script.now) }
+    requires wide { 6 ≤ width }
+    requires there { width * i + width ≤ length script.now }
     ensures { result ≡ byte script.now (width * i + 4) + 256 * byte script.now (width * i + 5) }
 {
     let bytes = [script[width * i + 4], script[width * i + 5]];
@@ -55,7 +63,8 @@ fn number(script: &[u8], width: usize, i: usize) -> usize
 }
 
 fn reader(types: &[u8], width: usize, i: usize) -> Reader
-    requires { (2 ≤ width) × (width * i + width ≤ length types.now) }
+    requires wide { 2 ≤ width }
+    requires there { width * i + width ≤ length types.now }
     ensures { result.0 ≡ byte types.now (width * i + 1) }
 {
     Reader(types[width * i + types::R])
@@ -71,7 +80,9 @@ fn recursion_of_type(types: &[u8], width: usize, kind: u8, number: usize) -> boo
 
 // Puts r of its type into byte 1 of record i, if that is a recursion of a type of the table. Did it write?
 fn write_caller(types: &[u8], type_width: usize, script: &mut [u8], width: usize, i: usize) -> bool
-    requires { (2 ≤ type_width) × (6 ≤ width) × (width * i + width ≤ length script.old) }
+    requires types_wide { 2 ≤ type_width }
+    requires wide { 6 ≤ width }
+    requires there { width * i + width ≤ length script.old }
     ensures { WrittenAt type_width width types.now script.old i result script.new }
 {
     let named = number(script, width, i);
@@ -83,12 +94,13 @@ fn write_caller(types: &[u8], type_width: usize, script: &mut [u8], width: usize
     true
 }
 
-// Puts r of its type into byte 1 of each recursion of a type of the table, in records of these widths. Nothing is asked, and every other
-// byte stays. How many records it wrote.
+// Puts r of its type into byte 1 of each recursion of a type of the table, in records of these widths. Nothing is
+// asked, and every other byte stays. How many records it wrote.
 fn write_callers_of(types: &[u8], type_width: usize, script: &mut [u8], width: usize) -> u64
-    requires { (2 ≤ type_width) × (6 ≤ width) }
-    ensures { (result ≡ callers_written_of type_width width types.now script.old)
-        × (script.new ≡ write_callers_of type_width width types.now script.old) }
+    requires types_wide { 2 ≤ type_width }
+    requires wide { 6 ≤ width }
+    ensures count { result ≡ callers_written_of type_width width types.now script.old }
+    ensures script { script.new ≡ write_callers_of type_width width types.now script.old }
 {
     let mut written: u64 = 0;
     for i in 0..script.len() / width {
@@ -97,26 +109,35 @@ fn write_callers_of(types: &[u8], type_width: usize, script: &mut [u8], width: u
     written
 }
 
-// In a script of 6-byte records over a types table of 4-byte records.
+/// Puts r of its type into byte 1 of each recursion of a type of the table, in a script of 6-byte records over a
+/// types table of 4-byte records. Nothing is asked, and every other byte stays. The answer is how many records it
+/// wrote.
 pub fn write_callers(types: &[u8], script: &mut [u8]) -> u64
-    ensures { (result ≡ callers_written types.now script.old)
-        × (script.new ≡ write_callers types.now script.old) }
+    ensures count { result ≡ callers_written types.now script.old }
+    ensures script { script.new ≡ write_callers types.now script.old }
 {
     write_callers_of(types, OLD_TYPE_WIDTH, script, OLD_SCRIPT_WIDTH)
 }
 
-// In a script of the old office program, of 10-byte records over a types table of the present form.
+/// Puts r of its type into byte 1 of each recursion of a type of the table, in a script of the old office program, of
+/// 10-byte records, over a types table of the present form. Nothing is asked, and every other byte stays. The answer
+/// is how many records it wrote.
 pub fn write_office_callers(types: &[u8], script: &mut [u8]) -> u64
-    ensures { (result ≡ office_callers_written types.now script.old)
-        × (script.new ≡ write_office_callers types.now script.old) }
+    ensures count { result ≡ office_callers_written types.now script.old }
+    ensures script { script.new ≡ write_office_callers types.now script.old }
 {
     write_callers_of(types, TYPE_WIDTH, script, OFFICE_WIDTH)
 }
 
 // The first `kept` bytes of old records of this width, each with group 0 as c and ic after it, to the front of `wide`.
 fn widen(old: &[u8], width: usize, kept: usize, count: usize, wide: &mut [u8])
-    requires { (width ≤ 10) × (kept ≤ width) × (kept ≤ 6) × (count ≤ script_limit) × (width * count ≤ length old.now) × ((kept + 2) * count ≤ length wide.old) }
-    ensures { wide.new ≡ splice 0 (widened width kept count old.now) wide.old }
+    requires narrow { width ≤ 10 }
+    requires within { kept ≤ width }
+    requires short { kept ≤ 6 }
+    requires few { count ≤ script_limit }
+    requires there { width * count ≤ length old.now }
+    requires room { (kept + 2) * count ≤ length wide.old }
+    ensures { wide.new ≡ splice 0 (widened_records width kept count old.now) wide.old }
 {
     let creators = [0u8; CREATORS];
     for i in 0..count {
@@ -127,22 +148,24 @@ fn widen(old: &[u8], width: usize, kept: usize, count: usize, wide: &mut [u8])
     }
 }
 
-// The records of an old office script without their names, to the front of `wide`.
+/// Writes the records of a script of the old office program without their names, and with group 0 as c and ic, to the
+/// front of `wide`. Every other byte stays.
 pub fn widen_office(script: &[u8], wide: &mut [u8])
-    requires { (office_records script.now ≤ office_limit) × (script_width * office_records script.now ≤ length wide.old) }
+    requires few { office_records script.now ≤ office_limit }
+    requires room { script_width * office_records script.now ≤ length wide.old }
     ensures { wide.new ≡ splice 0 (nameless script.now) wide.old }
 {
     let count = script.len() / OFFICE_WIDTH;
     widen(script, OFFICE_WIDTH, OLD_SCRIPT_WIDTH, count, wide);
 }
 
-// Questions 2 to 12 of an old types table, which goes to the front of `wide` in the new form: 8 of its own length, the others of the new
-// form, to which c and ic as group 0 make no difference.
+// Questions 2 to 12 of an old types table, which goes to the front of `wide` in the new form: 8 of its own length,
+// the others of the new form, to which c and ic as group 0 make no difference.
 #[tactic(auto, using(answer::proofs::Passed::then_asked, answer::proofs::Passed::stopped), unfolding(rules::specs::Rewriting::old_types_check))]
 fn old_types_check(groups: &[u8], types: &[u8], wide: &mut [u8]) -> Checked
     requires { type_width * table_limit ≤ length wide.old }
-    ensures asked { said result ≡ old_types_check groups.now types.now }
-    ensures written { said result ≡ accepted tt
+    ensures asked { answer_of result ≡ old_types_check groups.now types.now }
+    ensures written { answer_of result ≡ accepted tt
         → wide.new ≡ splice 0 (widen_types types.now) wide.old }
 {
     let a7 = groups_table::groups_check(groups);
@@ -159,8 +182,8 @@ fn old_types_check(groups: &[u8], types: &[u8], wide: &mut [u8]) -> Checked
     types_table::types_check(groups, &wide[..end])
 }
 
-// Questions 2 to 19 of an old script over an old types table, each of which goes to the front of a buffer in the new form: 8 and 13 of
-// their own lengths, the others of the new form.
+// Questions 2 to 19 of an old script over an old types table, each of which goes to the front of a buffer in the new
+// form: 8 and 13 of their own lengths, the others of the new form.
 #[tactic(auto, using(answer::proofs::Passed::then_asked, answer::proofs::Passed::stopped), unfolding(rules::specs::Rewriting::old_script_check))]
 fn old_script_check(
     groups: &[u8],
@@ -169,9 +192,10 @@ fn old_script_check(
     table: &mut [u8],
     wide: &mut [u8],
 ) -> Checked
-    requires { (type_width * table_limit ≤ length table.old) × (script_width * script_limit ≤ length wide.old) }
-    ensures asked { said result ≡ old_script_check groups.now types.now script.now }
-    ensures written { said result ≡ accepted tt
+    requires table_room { type_width * table_limit ≤ length table.old }
+    requires script_room { script_width * script_limit ≤ length wide.old }
+    ensures asked { answer_of result ≡ old_script_check groups.now types.now script.now }
+    ensures written { answer_of result ≡ accepted tt
         → wide.new ≡ splice 0 (widen_script script.now) wide.old }
 {
     let a12 = old_types_check(groups, types, table);
@@ -189,27 +213,23 @@ fn old_script_check(
     syntax::script_check(groups, &table[..types_end], &wide[..end], &[])
 }
 
-// Question 27 of records of this width, and the records to the front of `rewritten`. The answer is how many there are.
+/// Writes `records`, of `width` bytes each, to the front of `rewritten`; the answer is how many there are. Refused by
+/// question 27, `Room`, where they don't fit, and then nothing is written.
 pub fn hand_over(records: &[u8], width: usize, rewritten: &mut [u8]) -> Result<usize, Refusal>
     requires { 0 < width }
-    ensures { (said result
-        ≡ rewritten_records width (fitting records.now (length rewritten.old)))
-        × (rewritten.new
-        ≡ rewritten_after (fitting records.now (length rewritten.old)) rewritten.old) }
+    ensures { HandsOver width (after_27 records.now (length rewritten.old)) rewritten.old (answer_of result) rewritten.new }
 {
     answer::ask(Question::Room, 0, records.len() <= rewritten.len())?;
     memory::put(records, rewritten, 0);
     Ok(records.len() / width)
 }
 
-// A types table of 4-byte records in the new form, to the front of `rewritten`: questions 2 to 12 and 27. They are asked of a copy, so
-// that a refusal writes nothing.
+/// Writes a types table of 4-byte records in the present form, with group 0 as c and ic, to the front of `rewritten`;
+/// the answer is the record count. Refused where groups and table fail their check, questions 2 to 12, or by question
+/// 27, `Room`. They are asked of a copy, so that a refusal writes nothing.
 pub fn rewrite_types(groups: &[u8], types: &[u8], rewritten: &mut [u8]) -> Result<usize, Refusal>
-    ensures { (said result
-        ≡ rewritten_records type_width (rewriting_types groups.now types.now (length rewritten.old)))
-        × (rewritten.new
-        ≡ rewritten_after (rewriting_types groups.now types.now (length rewritten.old))
-        rewritten.old) }
+    ensures { HandsOver type_width (rewriting_types groups.now types.now (length rewritten.old))
+        rewritten.old (answer_of result) rewritten.new }
 {
     let mut wide = [0u8; TABLE_LENGTH];
     old_types_check(groups, types, &mut wide)?;
@@ -217,21 +237,17 @@ pub fn rewrite_types(groups: &[u8], types: &[u8], rewritten: &mut [u8]) -> Resul
     hand_over(&wide[..end], TYPE_WIDTH, rewritten)
 }
 
-// A script of 6-byte records over a types table of 4-byte records in the new form, to the front of `rewritten`: questions 2 to 19 and
-// 27, asked of copies too.
+/// Writes a script of 6-byte records over a types table of 4-byte records in the present form, with group 0 as c and
+/// ic, to the front of `rewritten`; the answer is the record count. Refused where script and tables fail their check,
+/// questions 2 to 19, or by question 27, `Room`. They are asked of copies, so that a refusal writes nothing.
 pub fn rewrite_script(
     groups: &[u8],
     types: &[u8],
     script: &[u8],
     rewritten: &mut [u8],
 ) -> Result<usize, Refusal>
-    ensures { (said result
-        ≡ rewritten_records script_width
-        (rewriting_script groups.now types.now script.now (length rewritten.old)))
-        × (rewritten.new
-        ≡ rewritten_after
-        (rewriting_script groups.now types.now script.now (length rewritten.old))
-        rewritten.old) }
+    ensures { HandsOver script_width (rewriting_script groups.now types.now script.now (length rewritten.old))
+        rewritten.old (answer_of result) rewritten.new }
 {
     let mut table = [0u8; TABLE_LENGTH];
     let mut wide = [0u8; SCRIPT_LENGTH];

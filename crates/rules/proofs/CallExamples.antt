@@ -1,16 +1,16 @@
 -- Every statement holds by computation.
-use mathlib.Core.Path.{refl}
+use Rattle.std.proofs.Common.{refl}
 use Rattle.rules.specs.CallExamples.{CallExamples}
 use Rattle.rules.specs.Types.{encode_type}
 use Rattle.rules.specs.Script.{encode, size, depth, subterm}
 use Rattle.rules.specs.Step.{exceeds}
 use Rattle.rules.specs.Strip.{strip_from}
-use Rattle.rules.specs.Calls.{checking, type_records, stepping, running, run_report, sheeting, sheet_records}
-use Rattle.rules.specs.Report.{text, decimal, our_words, run_text, report}
+use Rattle.rules.specs.Calls.{check_call, type_records, step_call, run_call, run_report, sheet_call, sheet_records}
+use Rattle.rules.specs.Report.{text, decimal_digits, our_words, run_text, report}
 use Rattle.rules.specs.Words.{word}
 
 pub call_examples : CallExamples
-unfolding encode_type encode size depth subterm exceeds strip_from checking type_records stepping running run_report sheeting sheet_records text decimal our_words word run_text report
+unfolding encode_type encode size depth subterm exceeds strip_from check_call type_records step_call run_call run_report sheet_call sheet_records text decimal_digits our_words word run_text report
 call_examples = record {
   records_found = refl;
   none_found = refl;

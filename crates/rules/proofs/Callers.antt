@@ -1,21 +1,19 @@
--- What writing the callers does to each byte of a script: byte 1 of a recursion of a type is r of that type, and every other byte stays.
-use mathlib.Core.Path.{◌≡◌, refl, ap, sym, ◌∙◌}
-use mathlib.Core.Bool.{Bool, true, false, cond}
-use mathlib.Core.List.{[], ◌∷◌}
-use Prim.Native.Nat.{ℕ, zero, suc, ◌+◌, ◌*◌, ◌≤◌, ◌<◌}
-use native.Mathlib.Omega.{arith}
-use native.Mathlib.Nat.{zero-add}
-use lib.ListN.{length, take, drop, set, get_or-append, length-append, length-drop}
-use lib.Seq.{get_or-drop, get_or-take, length-take-le}
+-- What writing the callers does to each byte of a script: byte 1 of a recursion of a type is r of that type, and every
+-- other byte stays.
+use Rattle.std.proofs.Common.{◌≡◌, refl, ap, sym, ◌∙◌, Bool, true, false, cond, [], ◌∷◌, ℕ, zero, suc, ◌+◌, ◌*◌, ◌≤◌}
+use Rattle.std.proofs.Common.{◌<◌, arith, zero-add, length, take, drop, set, length-append, length-drop, get_or-drop}
+use Rattle.std.proofs.Common.{get_or-take, length-take-le}
+use Rattle.std.proofs.Math.ListN.{get_or-append}
 use Rattle.std.proofs.lemmas.List.{get_or-append-add, get_or-set_same, get_or-set_other, length-set}
 use Rattle.std.proofs.Math.Nat.{mul-add, mul-one}
 use Rattle.rules.specs.Answer.{Bytes, byte, Octets}
 use Rattle.rules.specs.Limits.{old_type_width, old_script_width}
 use Rattle.rules.specs.Callers.{old_records, old_r, recursion_of_type, caller, first_number, put_callers, write_callers}
 use Rattle.rules.proofs.Octets.{octets_append, octets_take, octets_drop}
+use Rattle.std.proofs.lemmas.Grind.{common_steps}
 
 pub next_record : (width i : ℕ) → width * suc i ≡ width + width * i
-next_record width i = let p : suc i ≡ 1 + i = omega arith in ap (λ n. width * n) p ∙ mul-add width 1 i ∙ ap (λ n. n + width * i) (mul-one width)
+next_record width i = grind arith
 
 -- the caller of record i, in records of this width
 abbrev pub caller_of : ℕ → ℕ → Bytes → Bytes → ℕ → ℕ
@@ -46,20 +44,13 @@ module _ (type_bytes width : ℕ) (wide : 6 ≤ width) (t : Bytes) where
   -- a byte of a later record
   put_later : (n : ℕ) (s : Bytes) (i m : ℕ) → width * suc n ≤ length s → byte (put (suc n) s) (width * suc i + m) ≡ byte (put n (drop width s)) (width * i + m)
   unfolding put_callers
-  put_later n s i m l =
-      let p : width * suc i + m ≡ length (front s) + (width * i + m) = omega (arith, next_record width i, front_length n s l) in
-      ap (byte (put (suc n) s)) p ∙ get_or-append-add (front s) (put n (drop width s)) (width * i + m) 0
+  put_later n s i m l = grind (arith, common_steps)
 
   was_later : (s : Bytes) (i m : ℕ) → byte (drop width s) (width * i + m) ≡ byte s (width * suc i + m)
-  was_later s i m =
-      let p : width + (width * i + m) ≡ width * suc i + m = omega (arith, next_record width i) in
-      get_or-drop width s (width * i + m) 0 ∙ ap (byte s) p
+  was_later s i m = grind (arith, common_steps)
 
   was_first : (s : Bytes) (i : ℕ) → byte (drop width s) (width * i) ≡ byte s (width * suc i)
-  was_first s i =
-      let p : width * i ≡ width * i + 0 = omega arith in
-      let q : width * suc i + 0 ≡ width * suc i = omega arith in
-      ap (byte (drop width s)) p ∙ was_later s i 0 ∙ ap (byte s) q
+  was_first s i = grind (arith, common_steps)
 
   at_front : (n : ℕ) (s : Bytes) (m : ℕ) → width * suc n ≤ length s → m < width → byte (put (suc n) s) m ≡ byte (front s) m
   unfolding put_callers
@@ -70,21 +61,14 @@ module _ (type_bytes width : ℕ) (wide : 6 ≤ width) (t : Bytes) where
   unfolding put_callers
   put_byte zero s i m l d e = refl
   put_byte (suc n) s (suc i) m l d e = put_later n s i m l ∙ put_byte n (drop width s) i m (later n s l) d e ∙ was_later s i m
-  put_byte (suc n) s zero m l d e =
-      let p : width * 0 + m ≡ m = omega arith in
-      ap (byte (put (suc n) s)) p ∙ at_front n s m l d ∙ get_or-set_other (take width s) 1 m _ 0 e ∙ get_or-take width s m 0 d ∙ ap (byte s) (sym p)
+  put_byte (suc n) s zero m l d e = grind (arith, at_front, get_or-set_other, get_or-take)
 
   -- byte 1
   pub put_r : (n : ℕ) (s : Bytes) (i : ℕ) → width * n ≤ length s → i < n → byte (put n s) (width * i + 1) ≡ caller_of type_bytes width t s i
   put_r zero s i l a = absurd (omega arith)
   put_r (suc n) s (suc i) l a =
       put_later n s i 1 l ∙ put_r n (drop width s) i (later n s l) (omega arith) ∙ rw (was_first s i, was_later s i 1, was_later s i 4, was_later s i 5) refl
-  put_r (suc n) s zero l a =
-      let p : width * 0 ≡ 0 = omega arith in
-      let q : (m : ℕ) → width * 0 + m ≡ m = λ m. omega arith in
-      ap (byte (put (suc n) s)) (q 1) ∙ at_front n s 1 l (omega arith)
-      ∙ get_or-set_same (take width s) 1 _ 0 (omega (arith, length-take-le width s (omega (arith, next_record width n))))
-      ∙ sym (rw p (rw (zero-add 1, zero-add 4, zero-add 5) refl))
+  put_r (suc n) s zero l a = grind (arith, at_front, get_or-set_same, length-take-le, next_record, zero-add)
 
 -- The same of a whole script.
 module _ (t s : Bytes) where
@@ -104,19 +88,14 @@ module _ (t s : Bytes) where
 pub callers_first : (t : Bytes) (k r ir z lo hi : ℕ) (s : Bytes)
     → write_callers t (k ∷ r ∷ ir ∷ z ∷ lo ∷ hi ∷ s) ≡ k ∷ caller old_type_width t k r (lo + 256 * hi) ∷ ir ∷ z ∷ lo ∷ hi ∷ write_callers t s
 unfolding put_callers
-callers_first t k r ir z lo hi s =
-    let p : old_records (k ∷ r ∷ ir ∷ z ∷ lo ∷ hi ∷ s) ≡ suc (old_records s) = omega arith in
-    ap (λ n. put_callers old_type_width old_script_width t n (k ∷ r ∷ ir ∷ z ∷ lo ∷ hi ∷ s)) p
+callers_first t k r ir z lo hi s = grind arith
 
 -- a byte past the first record
 pub record_past : (a b c d e f : ℕ) (s : Bytes) (x y : ℕ) → x ≡ 6 + y → byte (a ∷ b ∷ c ∷ d ∷ e ∷ f ∷ s) x ≡ byte s y
-record_past a b c d e f s x y p =
-    let q : x ≡ suc (suc (suc (suc (suc (suc y))))) = omega arith in
-    ap (λ (j : ℕ). byte (a ∷ b ∷ c ∷ d ∷ e ∷ f ∷ s) j) q
+record_past a b c d e f s x y p = grind arith
 
 either_octet : (b : Bool) (m n : ℕ) → m < 256 → n < 256 → cond b m n < 256
-either_octet true m n p q = p
-either_octet false m n p q = q
+either_octet b m n p q = grind arith
 
 octets_set : (s : Bytes) (i v : ℕ) → v < 256 → Octets s → Octets (set s i v)
 octets_set [] i v l p j = omega arith

@@ -1,12 +1,12 @@
 -- Every statement holds by computation.
-use mathlib.Core.Path.{refl}
+use Rattle.std.proofs.Common.{refl}
 use Rattle.rules.specs.Cases.{Cases}
 use Rattle.rules.specs.Groups.{join}
-use Rattle.rules.specs.Calls.{groups_check, checking, type_bytes, running, run_report}
+use Rattle.rules.specs.Calls.{groups_check, check_call, type_bytes, run_call, run_report}
 use Rattle.rules.specs.Report.{text, report}
 
 pub cases : Cases
-unfolding groups_check join checking type_bytes running run_report text report
+unfolding groups_check join check_call type_bytes run_call run_report text report
 cases = record {
   a_refused = refl;
   a_run = refl;

@@ -1,18 +1,16 @@
--- The numbers that questions 18 and 19 give to records, depths and counts of binders, are a code of their own: a term together
--- with its number is a tree, whose records are one number wide. So each record's number is that of its node.
-use mathlib.Core.Path.{◌≡◌, refl, ap, sym, ◌∙◌}
-use mathlib.Core.List.{List, [], ◌∷◌, ◌++◌, append-nil}
-use Prim.Native.Nat.{ℕ, suc, ◌+◌, ◌*◌, ◌<◌}
-use native.Mathlib.Omega.{arith}
-use lib.ListN.{length, get_or}
+-- The numbers that questions 18 and 19 give to records, depths and counts of binders, are a code of their own: a term
+-- together with its number is a tree, whose records are one number wide. So each record's number is that of its node.
+use Rattle.std.proofs.Common.{◌≡◌, refl, ap, sym, ◌∙◌, List, [], ◌∷◌, ◌++◌, append-nil, ℕ, suc, ◌+◌, ◌*◌, ◌<◌, arith}
+use Rattle.std.proofs.Common.{length, get_or, Bool, true, false, cond, if◌then◌else◌}
 use Rattle.calculus.specs.Terms.{Term, var, unit, lam, pair, inj, app, proj, case, protect, mu, literal, reckon}
 use Rattle.rules.specs.Answer.{Bytes, byte}
 use Rattle.rules.specs.Limits.{script_width}
-use Rattle.rules.specs.Script.{encode, size, counts}
+use Rattle.calculus.specs.Typing.{finds_own}
+use Rattle.rules.specs.Script.{encode, size, weight, depths_from, binders_from}
 use Rattle.rules.proofs.Prefix.{All, joined, total, Shape, Code, record_at}
 use Rattle.rules.proofs.Parts.{record_first}
 use Rattle.rules.proofs.PrefixLaws.{encode_length, alone}
-use Rattle.rules.proofs.Nodes.{At, Every, node_at, at_size, at_record}
+use Rattle.rules.proofs.Nodes.{NodeAt, Every, node_at, at_size, at_record}
 use Rattle.rules.proofs.TermCode.{term_shape, term_code, term_operands, term_head}
 
 -- the numbers of depths and of binders: one more, and the same
@@ -21,6 +19,29 @@ up n = suc n
 
 abbrev pub stay : ℕ → ℕ
 stay n = n
+
+-- A number for each record, in the records' order: n at the node, `deeper n` at an operand, and `bound n` at one that a
+-- binder stands over; a case with number i passes on `wide i n` in the place of n.
+unfoldable pub counts : (ℕ → ℕ → ℕ) → (ℕ → ℕ) → (ℕ → ℕ) → ℕ → Term → List ℕ
+counts wide deeper bound n (lam k i e) = n ∷ counts wide deeper bound (bound n) e
+counts wide deeper bound n (pair k a b) = n ∷ (counts wide deeper bound (deeper n) a ++ counts wide deeper bound (deeper n) b)
+counts wide deeper bound n (inj d k i e) = n ∷ counts wide deeper bound (deeper n) e
+counts wide deeper bound n (app w f a) = n ∷ (counts wide deeper bound (deeper n) f ++ counts wide deeper bound (deeper n) a)
+counts wide deeper bound n (proj d w e) = n ∷ counts wide deeper bound (deeper n) e
+counts wide deeper bound n (case w i e a b) =
+    n ∷ (counts wide deeper bound (deeper (wide i n)) e
+    ++ (counts wide deeper bound (bound (wide i n)) a ++ counts wide deeper bound (bound (wide i n)) b))
+counts wide deeper bound n (protect m e) = n ∷ counts wide deeper bound (deeper n) e
+counts wide deeper bound n (mu w i e) = n ∷ counts wide deeper bound (bound n) e
+counts wide deeper bound n (reckon o w a b) = n ∷ (counts wide deeper bound (deeper n) a ++ counts wide deeper bound (deeper n) b)
+counts wide deeper bound n _ = n ∷ []
+
+-- one deeper still, where the case finds its own type
+abbrev pub widened : ℕ → ℕ → ℕ
+widened i n = if finds_own i then suc n else n
+
+abbrev pub unwidened : ℕ → ℕ → ℕ
+unwidened i n = n
 
 abbrev pub zip : {T : Type 0} → List ℕ → List T → List (ℕ × T)
 zip [] [] = []
@@ -49,8 +70,6 @@ zip_all P (m ∷ ms) (e ∷ es) h = (h.0 m, zip_all P ms es h.1)
 module _ (wide : ℕ → ℕ → ℕ) (deeper bound : ℕ → ℕ) where
   -- the operands' numbers
   abbrev pub under : ℕ → Term → List ℕ
-  under n (var m) = []
-  under n (unit k) = []
   under n (lam k i e) = bound n ∷ []
   under n (pair k a b) = deeper n ∷ deeper n ∷ []
   under n (inj d k i e) = deeper n ∷ []
@@ -59,22 +78,11 @@ module _ (wide : ℕ → ℕ → ℕ) (deeper bound : ℕ → ℕ) where
   under n (case w i e a b) = deeper (wide i n) ∷ bound (wide i n) ∷ bound (wide i n) ∷ []
   under n (protect m e) = deeper n ∷ []
   under n (mu w i e) = bound n ∷ []
-  under n (literal k m) = []
   under n (reckon o w a b) = deeper n ∷ deeper n ∷ []
+  under n _ = []
 
   under_length : (n : ℕ) (e : Term) → length (under n e) ≡ length (term_operands e)
-  under_length n (var m) = refl
-  under_length n (unit k) = refl
-  under_length n (lam k i e) = refl
-  under_length n (pair k a b) = refl
-  under_length n (inj d k i e) = refl
-  under_length n (app w f a) = refl
-  under_length n (proj d w e) = refl
-  under_length n (case w i e a b) = refl
-  under_length n (protect m e) = refl
-  under_length n (mu w i e) = refl
-  under_length n (literal k m) = refl
-  under_length n (reckon o w a b) = refl
+  under_length n e = grind arith
 
   abbrev pub numbered : ℕ × Term → List (ℕ × Term)
   numbered p = zip (under p.0 p.1) (term_operands p.1)
@@ -91,8 +99,6 @@ module _ (wide : ℕ → ℕ → ℕ) (deeper bound : ℕ → ℕ) where
 
   pub counts_is : (n : ℕ) (e : Term) → counts wide deeper bound n e ≡ n ∷ joined (λ (q : ℕ × Term). counts wide deeper bound q.0 q.1) (numbered (n, e))
   unfolding counts
-  counts_is n (var m) = refl
-  counts_is n (unit k) = refl
   counts_is n (lam k i e) = rw (append-nil (counts wide deeper bound (bound n) e))
   counts_is n (pair k a b) = rw (append-nil (counts wide deeper bound (deeper n) b))
   counts_is n (inj d k i e) = rw (append-nil (counts wide deeper bound (deeper n) e))
@@ -101,8 +107,8 @@ module _ (wide : ℕ → ℕ → ℕ) (deeper bound : ℕ → ℕ) where
   counts_is n (case w i e a b) = rw (append-nil (counts wide deeper bound (bound (wide i n)) b))
   counts_is n (protect m e) = rw (append-nil (counts wide deeper bound (deeper n) e))
   counts_is n (mu w i e) = rw (append-nil (counts wide deeper bound (bound n) e))
-  counts_is n (literal k m) = refl
   counts_is n (reckon o w a b) = rw (append-nil (counts wide deeper bound (deeper n) b))
+  counts_is n _ = refl
 
   abbrev pub count_code : Code counted
   count_code =
@@ -133,14 +139,13 @@ module _ (wide : ℕ → ℕ → ℕ) (deeper bound : ℕ → ℕ) where
   counts_length n e = omega (arith, encode_length count_code (n, e))
 
   -- the number and the record of a node
-  pub count_at : {n m : ℕ} {e c : Term} {j : ℕ} → At counted (n, e) j (m, c) → get_or (counts wide deeper bound n e) j 0 ≡ m
+  pub count_at : {n m : ℕ} {e c : Term} {j : ℕ} → NodeAt counted (n, e) j (m, c) → get_or (counts wide deeper bound n e) j 0 ≡ m
   count_at {n} {m} {e} {c} {j} a =
       let s = counts wide deeper bound n e in
       let z : j ≡ 1 * (0 + j) = omega arith in
-      ap (λ k. byte s k) z ∙ sym (record_first 1 s (0 + j) (omega arith))
-      ∙ ap (λ b. byte b 0) (at_record count_code a s 0 [] (alone count_code (n, e)))
+      cc (z, record_first 1 s (0 + j) (omega arith), at_record count_code a s 0 [] (alone count_code (n, e)))
 
-  pub head_at : {n m : ℕ} {e c : Term} {j : ℕ} → At counted (n, e) j (m, c) → record_at script_width (encode e) j ≡ term_head c
+  pub head_at : {n m : ℕ} {e c : Term} {j : ℕ} → NodeAt counted (n, e) j (m, c) → record_at script_width (encode e) j ≡ term_head c
   head_at {n} {m} {e} {c} {j} a =
       let z : j ≡ 0 + j = omega arith in
       ap (λ k. record_at script_width (encode e) k) z ∙ at_record numbered_code a (encode e) 0 [] (alone numbered_code (n, e))
@@ -157,3 +162,46 @@ module _ (wide : ℕ → ℕ → ℕ) (deeper bound : ℕ → ℕ) where
         → Every counted (λ p. R p.0 (term_head p.1)) (n, e)
     to_counted_nodes h =
         record { at = λ j c a. rw (count_at a, head_at a) at (h j (omega (arith, at_size counted a, term_shape.size_is c.1))) }
+
+-- what a case adds to its operands' depth
+pub wide_weight : (i n : ℕ) → suc (widened i n) ≡ n + weight i
+wide_weight i n = go (finds_own i)
+  where
+    go : (b : Bool) → suc (cond b (suc n) n) ≡ n + cond b 2 1
+    go true = omega arith
+    go false = omega arith
+
+pub depths_counts : (n : ℕ) (e : Term) → depths_from n e ≡ counts widened up up n e
+unfolding depths_from counts
+depths_counts n (lam k i e) = rw (depths_counts (suc n) e)
+depths_counts n (pair k a b) = rw (depths_counts (suc n) a, depths_counts (suc n) b)
+depths_counts n (inj d k i e) = rw (depths_counts (suc n) e)
+depths_counts n (app w f a) = rw (depths_counts (suc n) f, depths_counts (suc n) a)
+depths_counts n (proj d w e) = rw (depths_counts (suc n) e)
+depths_counts n (case w i e a b) =
+    let m = suc (widened i n) in
+    ap (λ j. n ∷ (depths_from j e ++ (depths_from j a ++ depths_from j b))) (sym (wide_weight i n))
+    ∙ rw (depths_counts m e, depths_counts m a, depths_counts m b)
+depths_counts n (protect m e) = rw (depths_counts (suc n) e)
+depths_counts n (mu w i e) = rw (depths_counts (suc n) e)
+depths_counts n (reckon o w a b) = rw (depths_counts (suc n) a, depths_counts (suc n) b)
+depths_counts n _ = refl
+
+pub binders_counts : (n : ℕ) (e : Term) → binders_from n e ≡ counts unwidened stay up n e
+unfolding binders_from counts
+binders_counts n (lam k i e) = rw (binders_counts (suc n) e)
+binders_counts n (pair k a b) = rw (binders_counts n a, binders_counts n b)
+binders_counts n (inj d k i e) = rw (binders_counts n e)
+binders_counts n (app w f a) = rw (binders_counts n f, binders_counts n a)
+binders_counts n (proj d w e) = rw (binders_counts n e)
+binders_counts n (case w i e a b) = rw (binders_counts n e, binders_counts (suc n) a, binders_counts (suc n) b)
+binders_counts n (protect m e) = rw (binders_counts n e)
+binders_counts n (mu w i e) = rw (binders_counts (suc n) e)
+binders_counts n (reckon o w a b) = rw (binders_counts n a, binders_counts n b)
+binders_counts n _ = refl
+
+pub depths_length : (n : ℕ) (e : Term) → length (depths_from n e) ≡ size e
+depths_length n e = ap length (depths_counts n e) ∙ counts_length widened up up n e
+
+pub binders_length : (n : ℕ) (e : Term) → length (binders_from n e) ≡ size e
+binders_length n e = ap length (binders_counts n e) ∙ counts_length unwidened stay up n e

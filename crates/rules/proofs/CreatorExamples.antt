@@ -1,16 +1,16 @@
 -- Every statement holds by computation.
-use mathlib.Core.Path.{refl}
+use Rattle.std.proofs.Common.{refl}
 use Rattle.rules.specs.CreatorExamples.{CreatorExamples}
 use Rattle.rules.specs.Answer.{first_from, last_below}
 use Rattle.rules.specs.Types.{encode_type}
 use Rattle.rules.specs.Script.{encode}
 use Rattle.rules.specs.Strip.{strip_from}
 use Rattle.rules.specs.Callers.{put_callers, count_callers}
-use Rattle.rules.specs.Calls.{types_check, comparing, checking, type_bytes, stepping}
+use Rattle.rules.specs.Calls.{types_check, compare_call, check_call, type_bytes, step_call}
 use Rattle.rules.specs.Rewriting.{rewriting_types, rewriting_script, rewritten_records}
 
 pub creator_examples : CreatorExamples
-unfolding first_from last_below encode_type encode strip_from put_callers count_callers types_check comparing checking type_bytes stepping rewriting_types rewriting_script rewritten_records
+unfolding first_from last_below encode_type encode strip_from put_callers count_callers types_check compare_call check_call type_bytes step_call rewriting_types rewriting_script rewritten_records
 creator_examples = record {
   creator_past_rows = refl;
   indirect_creator_past_rows = refl;

@@ -1,34 +1,16 @@
 -- Question 18 of an encoding: a term's depth is that of its deepest record.
-use mathlib.Core.Path.{◌≡◌, ap, sym, ◌∙◌}
-use mathlib.Core.Bool.{Bool, true, false, cond}
-use Prim.Native.Nat.{ℕ, suc, ◌+◌, ◌≤◌, ◌<◌}
-use native.Mathlib.Omega.{arith}
-use borrow.Author.Tests.{leb-true, le-leb}
-use lib.ListN.{get_or}
+use Rattle.std.proofs.Common.{◌≡◌, ap, sym, subst, ◌∙◌, Bool, true, false, cond, ℕ, suc, ◌+◌, ◌≤◌, ◌<◌, arith, leb-true, le-leb, get_or}
 use Rattle.calculus.specs.Terms.{Term, var, unit, lam, pair, inj, app, proj, case, protect, mu, literal, reckon}
-use Rattle.calculus.specs.Typing.{finds_own}
 use Rattle.rules.specs.Answer.{Bytes, accepted}
 use Rattle.rules.specs.Limits.{depth_limit}
-use Rattle.rules.specs.Script.{weight, widened, encode, size, records, term, depth, depths, ok18, q18}
+use Rattle.rules.specs.Script.{weight, encode, size, records, term, depth, depths, ok18, q18}
 use Rattle.rules.proofs.Search.{each_all, each_accepted}
 use Rattle.rules.proofs.Nodes.{Every, every_here, every_below, every_node}
 use Rattle.rules.proofs.Scripts.{records_encode, term_encode}
-use Rattle.rules.proofs.Counts.{up, counted, to_counted_records, to_counted_nodes}
-
--- what a case adds to its operands' depth
-wide_weight : (i n : ℕ) → suc (widened i n) ≡ n + weight i
-wide_weight i n = go (finds_own i)
-  where
-    go : (b : Bool) → suc (cond b (suc n) n) ≡ n + cond b 2 1
-    go true = omega arith
-    go false = omega arith
+use Rattle.rules.proofs.Counts.{up, widened, counted, to_counted_records, to_counted_nodes, wide_weight, depths_counts}
 
 weighs : (i : ℕ) → 1 ≤ weight i
-weighs i = go (finds_own i)
-  where
-    go : (b : Bool) → 1 ≤ cond b 2 1
-    go true = omega arith
-    go false = omega arith
+weighs i = grind arith
 
 module _ (limit : ℕ) where
   -- a node's number alone
@@ -78,10 +60,12 @@ module _ (limit : ℕ) where
 
   -- every entry of the depths against the depth
   pub depths_depth : (e : Term) → ((j : ℕ) → j < size e → get_or (depths e) j 0 ≤ limit) → depth e ≤ limit
-  depths_depth e h = omega (arith, lows_depth e 1 (to_counted_nodes widened up up Low 1 e h))
+  depths_depth e h =
+      omega (arith, lows_depth e 1 (to_counted_nodes widened up up Low 1 e (λ j l. subst (λ ns. get_or ns j 0 ≤ limit) (depths_counts 1 e) (h j l))))
 
   pub depth_depths : (e : Term) → depth e ≤ limit → (j : ℕ) → j < size e → get_or (depths e) j 0 ≤ limit
-  depth_depths e h = to_counted_records widened up up Low 1 e (depth_lows e 1 (omega arith))
+  depth_depths e h j l =
+      subst (λ ns. get_or ns j 0 ≤ limit) (sym (depths_counts 1 e)) (to_counted_records widened up up Low 1 e (depth_lows e 1 (omega arith)) j l)
 
 pub q18_depth : (e : Term) → q18 (encode e) ≡ accepted tt → depth e ≤ depth_limit
 unfolding ok18
@@ -93,7 +77,4 @@ q18_depth e q =
 
 pub q18_encode : (e : Term) → depth e ≤ depth_limit → q18 (encode e) ≡ accepted tt
 unfolding ok18
-q18_encode e h =
-    each_accepted 18 (records (encode e)) (ok18 (depths (term (encode e))))
-    (λ j l. ap (λ d. ok18 (depths d) j) (term_encode e)
-    ∙ le-leb _ depth_limit (depth_depths depth_limit e h j (omega (arith, records_encode e))))
+q18_encode e h = grind (arith, each_accepted, term_encode, le-leb, depth_depths, records_encode)

@@ -1,12 +1,12 @@
 -- Every statement holds by computation.
-use mathlib.Core.Path.{refl}
+use Rattle.std.proofs.Common.{refl}
 use Rattle.rules.specs.Examples.{Examples}
 use Rattle.rules.specs.Answer.{first_from}
-use Rattle.rules.specs.Script.{term, counts, ok18}
-use Rattle.rules.specs.Calls.{groups_check, types_check, comparing, checking, type_bytes, running, run_report}
+use Rattle.rules.specs.Script.{term, depths_from, binders_from, ok18}
+use Rattle.rules.specs.Calls.{groups_check, types_check, compare_call, check_call, type_bytes, run_call, run_report}
 
 pub examples : Examples
-unfolding first_from term counts ok18 groups_check types_check comparing checking type_bytes running run_report
+unfolding first_from term depths_from binders_from ok18 groups_check types_check compare_call check_call type_bytes run_call run_report
 examples = record {
   row_and_bit = refl;
   not_transposed = refl;

@@ -1,28 +1,27 @@
--- What an export's records are: those of a prefix code of their own. In the present form they are the script's, its variables' numbers 0,
--- and their names are those of the naming.
-use mathlib.Core.Path.{◌≡◌, refl, ap, ap₂, sym, subst, ◌∙◌}
-use mathlib.Core.Bool.{true}
-use mathlib.Core.List.{[], ◌++◌, append_assoc, append-nil}
-use Prim.Native.Nat.{ℕ, suc, ◌+◌, ◌*◌, ◌-◌, ◌/◌, ◌%◌, ◌<◌}
-use native.Mathlib.Omega.{arith}
-use lib.ListN.{length}
+-- What an export's records are: those of a prefix code of their own. In the present form they are the script's, its
+-- variables' numbers 0, and their names are those of the naming.
+use Rattle.std.proofs.Common.{◌≡◌, refl, ap, ap₂, sym, subst, ◌∙◌, true, [], ◌++◌, append_assoc, append-nil, ℕ, suc}
+use Rattle.std.proofs.Common.{◌+◌, ◌*◌, ◌-◌, ◌/◌, ◌%◌, ◌<◌, arith, length}
 use Rattle.calculus.specs.Security.{Property}
-use Rattle.calculus.specs.Terms.{first, second, choose, plus, less, Term, var, unit, lam, pair, inj, app, proj, case, protect, mu, literal, reckon}
+use Rattle.calculus.specs.Terms.{first, second, choose, plus, less, Term, var, unit, lam, pair, inj, app, proj, case}
+use Rattle.calculus.specs.Terms.{protect, mu, literal, reckon}
 use Rattle.rules.specs.Answer.{Bytes, byte, accepted}
 use Rattle.rules.specs.Limits.{office_width}
 use Rattle.rules.specs.Rewriting.{widen_script}
-use Rattle.rules.specs.Script.{full_record, script_record, object_record, encode, size, c, ic, unwidened}
-use Rattle.rules.specs.Names.{naming}
-use Rattle.rules.specs.Office.{office_records, first_name, second_name, first_six, nameless, with_names, ok29, q29, office_record, office}
+use Rattle.rules.specs.Script.{full_record, script_record, object_record, encode, size, c, ic}
+use Rattle.rules.specs.Names.{level_names}
+use Rattle.rules.specs.Office.{office_records, first_name, second_name, first_six, nameless, with_names, ok29, q29}
+use Rattle.rules.specs.Office.{office_record, office}
 use Rattle.rules.proofs.Search.{each_accepted}
 use Rattle.rules.proofs.Prefix.{joined, Shape, Code, record_at}
 use Rattle.rules.proofs.Parts.{record_byte, record_first}
 use Rattle.rules.proofs.PrefixLaws.{encode_length, alone}
 use Rattle.rules.proofs.Nodes.{Every, every_here, every_below, every_of, to_records}
 use Rattle.rules.proofs.TermCode.{term_shape, term_head, two_bytes}
-use Rattle.rules.proofs.Counts.{up, stay, counted}
+use Rattle.rules.proofs.Counts.{up, stay, unwidened, counted}
 use Rattle.rules.proofs.Names.{blank, blank_size}
 use Rattle.rules.proofs.Office.{Stands, operand_1, operand_2, operand_3, head_byte, stands_whole}
+use Rattle.std.proofs.lemmas.Grind.{common_steps}
 
 -- a term with the count of binders outside it
 abbrev pub office_head : ℕ × Term → Bytes
@@ -41,48 +40,22 @@ office_head (n, reckon plus w a b) = office_record 13 w 0 0 0 0
 office_head (n, reckon (less i) w a b) = office_record 14 w 0 i 0 0
 
 pub head_length : (p : ℕ × Term) → length (office_head p) ≡ office_width
-head_length (n, var m) = refl
-head_length (n, unit k) = refl
-head_length (n, lam k i e) = refl
-head_length (n, pair k a b) = refl
-head_length (n, inj d k i e) = refl
-head_length (n, app w f a) = refl
-head_length (n, proj d w e) = refl
-head_length (n, case w i e a b) = refl
-head_length (n, protect m e) = refl
-head_length (n, mu w i e) = refl
-head_length (n, literal k m) = refl
-head_length (n, reckon plus w a b) = refl
-head_length (n, reckon (less i) w a b) = refl
+head_length p = grind arith
 
 abbrev pub naming_shape : Shape (ℕ × Term)
 naming_shape = counted unwidened stay up
 
 abbrev pub office_of : ℕ × Term → Bytes
-office_of p = office (naming p.0 p.1)
+office_of p = office (level_names p.0 p.1)
 
 pub encode_is : (p : ℕ × Term) → office_of p ≡ office_head p ++ joined office_of (naming_shape.operands p)
-unfolding office naming
-encode_is (n, var m) = refl
-encode_is (n, unit k) = refl
-encode_is (n, lam k i e) = rw (append-nil (office (naming (suc n) e)))
-encode_is (n, pair k a b) = rw (append-nil (office (naming n b)))
-encode_is (n, inj first k i e) = rw (append-nil (office (naming n e)))
-encode_is (n, inj second k i e) = rw (append-nil (office (naming n e)))
-encode_is (n, app w f a) = rw (append-nil (office (naming n a)))
-encode_is (n, proj first w e) = rw (append-nil (office (naming n e)))
-encode_is (n, proj second w e) = rw (append-nil (office (naming n e)))
-encode_is (n, case w i e a b) = rw (append-nil (office (naming (suc n) b)))
-encode_is (n, protect m e) = rw (append-nil (office (naming n e)))
-encode_is (n, mu w i e) = rw (append-nil (office (naming (suc n) e)))
-encode_is (n, literal k m) = refl
-encode_is (n, reckon plus w a b) = rw (append-nil (office (naming n b)))
-encode_is (n, reckon (less i) w a b) = rw (append-nil (office (naming n b)))
+unfolding office level_names
+encode_is p = grind (arith, common_steps)
 
 abbrev pub office_code : Code naming_shape
 office_code = record { width = office_width; head = office_head; encode = office_of; head_length = head_length; encode_is = encode_is }
 
-pub office_length : (n : ℕ) (e : Term) → length (office (naming n e)) ≡ office_width * size e
+pub office_length : (n : ℕ) (e : Term) → length (office (level_names n e)) ≡ office_width * size e
 office_length n e = encode_length office_code (n, e)
 
 -- The present form of n records.
@@ -115,8 +88,8 @@ comes_object kind k n x y h =
     let p : script_record kind k.r k.ir n ≡ object_record kind k n = rw (h.0, h.1) refl in
     subst (Comes 1 (office_record kind k.r k.ir n x y)) p (comes_record kind k.r k.ir n x y)
 
-pub export_comes : (n : ℕ) (e : Term) → Every term_shape Plain e → Comes (size e) (office (naming n e)) (encode (blank e))
-unfolding size office naming encode blank
+pub export_comes : (n : ℕ) (e : Term) → Every term_shape Plain e → Comes (size e) (office (level_names n e)) (encode (blank e))
+unfolding size office level_names encode blank
 export_comes n (var m) h = comes_record 0 0 0 0 (n - suc m) 0
 export_comes n (unit k) h = comes_object 1 k 0 0 0 (every_here h)
 export_comes n (lam k i e) h = comes_then (comes_object 2 k i n 0 (every_here h)) (export_comes (suc n) e (every_below h).0)
@@ -143,7 +116,7 @@ export_comes n (reckon plus w a b) h =
 export_comes n (reckon (less i) w a b) h =
     comes_then (comes_record 14 w 0 i 0 0) (comes_then (export_comes n a (every_below h).0) (export_comes n b (every_below h).1.0))
 
-pub export_records : (e : Term) → office_records (office (naming 0 e)) ≡ size e
+pub export_records : (e : Term) → office_records (office (level_names 0 e)) ≡ size e
 export_records e = omega (arith, office_length 0 e)
 
 nothing : present 0 [] ≡ []
@@ -151,10 +124,10 @@ unfolding first_six widen_script
 nothing = refl
 
 -- an export in the present form
-pub export_nameless : (e : Term) → Every term_shape Plain e → nameless (office (naming 0 e)) ≡ encode (blank e)
+pub export_nameless : (e : Term) → Every term_shape Plain e → nameless (office (level_names 0 e)) ≡ encode (blank e)
 unfolding nameless
 export_nameless e h =
-    let o = office (naming 0 e) in
+    let o = office (level_names 0 e) in
     let p : office_records o ≡ size e + 0 = omega (arith, export_records e) in
     ap₂ present p (sym (append-nil o)) ∙ (export_comes 0 e h).comes 0 [] ∙ ap (λ z. encode (blank e) ++ z) nothing ∙ append-nil (encode (blank e))
 
@@ -162,15 +135,14 @@ export_nameless e h =
 module _ (o : Bytes) where
   module _ {i : ℕ} {p : ℕ × Term} (at : Stands office_code o i p) where
     first_is : (x : ℕ) → byte (office_head p) 6 ≡ x % 256 → byte (office_head p) 7 ≡ x / 256 → first_name o i ≡ x
-    first_is x f g =
-        ap₂ (λ a b. a + 256 * b) (head_byte office_code at 6 (omega arith) ∙ f) (head_byte office_code at 7 (omega arith) ∙ g) ∙ two_bytes x
+    first_is x f g = grind (arith, common_steps, head_byte, office_code, two_bytes)
 
     second_is : (x : ℕ) → byte (office_head p) 8 ≡ x % 256 → byte (office_head p) 9 ≡ x / 256 → second_name o i ≡ x
     second_is x f g =
         ap₂ (λ a b. a + 256 * b) (head_byte office_code at 8 (omega arith) ∙ f) (head_byte office_code at 9 (omega arith) ∙ g) ∙ two_bytes x
 
-  pub export_names : (n : ℕ) (e : Term) (i : ℕ) → Stands office_code o i (n, e) → with_names o i (blank e) ≡ naming n e
-  unfolding with_names naming blank
+  pub export_names : (n : ℕ) (e : Term) (i : ℕ) → Stands office_code o i (n, e) → with_names o i (blank e) ≡ level_names n e
+  unfolding with_names level_names blank
   export_names n (var m) i at = rw (first_is at (n - suc m) refl refl) refl
   export_names n (unit k) i at = refl
   export_names n (lam k t e) i at = rw (first_is at n refl refl, export_names (suc n) e (1 + i) (operand_1 office_code at refl)) refl
@@ -200,21 +172,7 @@ module _ (o : Bytes) where
 -- Question 29 of an export: what isn't used is 0.
 head_ok29 : (p : ℕ × Term) → ok29 (office_head p) 0 ≡ true
 unfolding ok29
-head_ok29 (n, var m) = refl
-head_ok29 (n, unit k) = refl
-head_ok29 (n, lam k i e) = refl
-head_ok29 (n, pair k a b) = refl
-head_ok29 (n, inj first k i e) = refl
-head_ok29 (n, inj second k i e) = refl
-head_ok29 (n, app w f a) = refl
-head_ok29 (n, proj first w e) = refl
-head_ok29 (n, proj second w e) = refl
-head_ok29 (n, case w i e a b) = refl
-head_ok29 (n, protect m e) = refl
-head_ok29 (n, mu w i e) = refl
-head_ok29 (n, literal k m) = refl
-head_ok29 (n, reckon plus w a b) = refl
-head_ok29 (n, reckon (less i) w a b) = refl
+head_ok29 p = grind arith
 
 module _ (s : Bytes) (i : ℕ) where
   field : (a b : ℕ) → a < office_width → b < office_width
@@ -226,13 +184,13 @@ module _ (s : Bytes) (i : ℕ) where
   ok29_record =
       rw (record_first office_width s i (omega arith), field 6 7 (omega arith) (omega arith), field 8 9 (omega arith) (omega arith), field 4 5 (omega arith) (omega arith)) refl
 
-pub export_q29 : (e : Term) → q29 (office (naming 0 e)) ≡ accepted tt
+pub export_q29 : (e : Term) → q29 (office (level_names 0 e)) ≡ accepted tt
 export_q29 e =
-    let o = office (naming 0 e) in
+    let o = office (level_names 0 e) in
     each_accepted 29 (office_records o) (ok29 o)
     (λ k l. let z : k ≡ 0 + k = omega arith in
     ap (ok29 o) z ∙ sym (ok29_record o (0 + k))
     ∙ to_records office_code (λ h. ok29 h 0 ≡ true) o 0 (0, e) [] (alone office_code (0, e)) (every_of head_ok29 (0, e)) k (omega (arith, export_records e)))
 
-pub export_stands : (e : Term) → Stands office_code (office (naming 0 e)) 0 (0, e)
+pub export_stands : (e : Term) → Stands office_code (office (level_names 0 e)) 0 (0, e)
 export_stands e = stands_whole office_code (0, e)

@@ -1,6 +1,5 @@
 -- Questions 14 to 18, the form of a script.
-use mathlib.Core.Path.{◌≡◌}
-use mathlib.Core.List.{[]}
+use Rattle.std.proofs.Common.{◌≡◌, []}
 use Rattle.rules.specs.Answer.{Bytes, Octets, accepted}
 use Rattle.rules.specs.Script.{q13, q14, q15, q36_objects, q16, q17, q18}
 use Rattle.rules.specs.Calls.{form_check}

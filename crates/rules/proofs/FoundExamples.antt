@@ -1,16 +1,16 @@
 -- Every statement holds by computation.
-use mathlib.Core.Path.{refl}
+use Rattle.std.proofs.Common.{refl}
 use Rattle.rules.specs.FoundExamples.{FoundExamples}
 use Rattle.rules.specs.Answer.{first_from, last_below}
 use Rattle.rules.specs.Groups.{meet}
 use Rattle.rules.specs.Types.{encode_type}
-use Rattle.rules.specs.Script.{encode, size, depth, term, counts, ok18}
+use Rattle.rules.specs.Script.{encode, size, depth, term, depths_from, binders_from, ok18}
 use Rattle.rules.specs.Step.{exceeds}
 use Rattle.rules.specs.Strip.{strip_from}
-use Rattle.rules.specs.Calls.{checking, type_bytes, stepping}
+use Rattle.rules.specs.Calls.{check_call, type_bytes, step_call}
 
 pub found_examples : FoundExamples
-unfolding first_from last_below meet encode_type encode size depth term counts ok18 exceeds strip_from checking type_bytes stepping
+unfolding first_from last_below meet encode_type encode size depth term depths_from binders_from ok18 exceeds strip_from check_call type_bytes step_call
 found_examples = record {
   found = refl;
   found_raised = refl;

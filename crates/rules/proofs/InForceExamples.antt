@@ -1,5 +1,5 @@
 -- Every statement holds by computation.
-use mathlib.Core.Path.{refl}
+use Rattle.std.proofs.Common.{refl}
 use Rattle.rules.specs.InForce.{in_force}
 use Rattle.rules.specs.InForceExamples.{numbers, InForceExamples}
 

@@ -43,3 +43,4 @@ pub mod InForceExamples
 pub mod InForce
 pub mod OfficeExamples
 pub mod Examples
+pub mod OldTables

@@ -1,16 +1,16 @@
--- Terms with names: the function finds what the relation says, and names by the count of binders outside give a term back.
-use mathlib.Core.Path.{◌≡◌, refl, ap, ap₂, sym, subst, ◌∙◌}
-use mathlib.Core.Bool.{Bool, true, false}
-use mathlib.Core.List.{List, [], ◌∷◌}
-use Prim.Native.Nat.{ℕ, zero, suc, ◌+◌, ◌-◌, ◌<◌}
-use native.Mathlib.Omega.{arith}
-use borrow.Author.Tests.{eqb-true, eqb-false, eq-eqb, ne_eqb}
-use lib.Dec.{eqb}
-use lib.ListN.{length}
+-- Terms with names: the function finds what the relation says, and names by the count of binders outside give a term
+-- back.
+use Rattle.std.proofs.Common.{◌≡◌, refl, ap, ap₂, sym, subst, ◌∙◌, Bool, true, false, List, [], ◌∷◌, ℕ, zero, suc, ◌+◌}
+use Rattle.std.proofs.Common.{◌-◌, ◌<◌, arith, eqb-true, eq-eqb, ne_eqb, nat_eq, length}
+use borrow.Author.Tests.{eqb-false}
 use Rattle.calculus.specs.Terms.{Term, var, unit, lam, pair, inj, app, proj, case, protect, mu, literal, reckon}
 use Rattle.rules.specs.Answer.{Bytes}
 use Rattle.rules.specs.Script.{size, depth}
-use Rattle.rules.specs.Names.{Named, named_var, named_unit, named_lam, named_pair, named_inj, named_app, named_proj, named_case, named_protect, named_mu, named_literal, named_reckon, Nearest, this_one, further, Means, means_var, means_unit, means_lam, means_pair, means_inj, means_app, means_proj, means_case, means_protect, means_mu, means_literal, means_reckon, nearest, meant, naming}
+use Rattle.rules.specs.Names.{Named, named_var, named_unit, named_lam, named_pair, named_inj, named_app, named_proj}
+use Rattle.rules.specs.Names.{named_case, named_protect, named_mu, named_literal, named_reckon, Nearest, nearest_here}
+use Rattle.rules.specs.Names.{nearest_further, Means, means_var, means_unit, means_lam, means_pair, means_inj}
+use Rattle.rules.specs.Names.{means_app, means_proj, means_case, means_protect, means_mu, means_literal, means_reckon}
+use Rattle.rules.specs.Names.{nearest, meant, level_names}
 use Rattle.rules.specs.Office.{with_names}
 use Rattle.rules.proofs.Nodes.{Every, every_here, every_below, every_node}
 use Rattle.rules.proofs.TermCode.{term_shape}
@@ -27,20 +27,20 @@ nearest_later x y ns e = rw (ne_eqb x y e)
 -- the nearest, where there is one
 pub nearest_found : (x : ℕ) (ns : List ℕ) → nearest x ns < length ns → Nearest x ns (nearest x ns)
 nearest_found x [] l = absurd (omega arith)
-nearest_found x (y ∷ ns) l = go (eqb x y) refl (λ h. nearest_found x ns h)
+nearest_found x (y ∷ ns) l = go (nat_eq x y) refl (λ h. nearest_found x ns h)
   where
-    go : (b : Bool) → eqb x y ≡ b → (nearest x ns < length ns → Nearest x ns (nearest x ns)) → Nearest x (y ∷ ns) (nearest x (y ∷ ns))
+    go : (b : Bool) → nat_eq x y ≡ b → (nearest x ns < length ns → Nearest x ns (nearest x ns)) → Nearest x (y ∷ ns) (nearest x (y ∷ ns))
     go true e ih =
         let p = eqb-true x y e in
-        subst (λ (n : ℕ). Nearest x (y ∷ ns) n) (sym (nearest_first x y ns p)) (subst (λ (z : ℕ). Nearest x (z ∷ ns) 0) p this_one)
+        subst (λ (n : ℕ). Nearest x (y ∷ ns) n) (sym (nearest_first x y ns p)) (subst (λ (z : ℕ). Nearest x (z ∷ ns) 0) p nearest_here)
     go false e ih =
         let ne = eqb-false x y e in
         let p = nearest_later x y ns ne in
-        subst (λ (n : ℕ). Nearest x (y ∷ ns) n) (sym p) (further ne (ih (omega (arith, p))))
+        subst (λ (n : ℕ). Nearest x (y ∷ ns) n) (sym p) (nearest_further ne (ih (omega (arith, p))))
 
 pub found_nearest : {x n : ℕ} {ns : List ℕ} → Nearest x ns n → (nearest x ns ≡ n) × (n < length ns)
-found_nearest {x} (this_one {ns}) = (nearest_first x x ns refl, omega arith)
-found_nearest {x} (further {y} {n} {ns} ne h) =
+found_nearest {x} (nearest_here {ns}) = (nearest_first x x ns refl, omega arith)
+found_nearest {x} (nearest_further {y} {n} {ns} ne h) =
     let p = found_nearest h in
     (nearest_later x y ns ne ∙ ap suc p.0, omega (arith, p.1))
 
@@ -84,10 +84,6 @@ abbrev pub outer : ℕ → List ℕ
 outer zero = []
 outer (suc n) = n ∷ outer n
 
-pub outer_length : (n : ℕ) → length (outer n) ≡ n
-outer_length zero = refl
-outer_length (suc n) = ap suc (outer_length n)
-
 nearest_outer : (n m : ℕ) → m < n → nearest (n - suc m) (outer n) ≡ m
 nearest_outer zero m l = absurd (omega arith)
 nearest_outer (suc n) zero l = nearest_first (suc n - 1) n (outer n) (omega arith)
@@ -95,8 +91,8 @@ nearest_outer (suc n) (suc m) l =
     let p : suc n - suc (suc m) ≡ n - suc m = omega arith in
     nearest_later (suc n - suc (suc m)) n (outer n) (λ e. omega arith) ∙ ap suc (ap (λ x. nearest x (outer n)) p ∙ nearest_outer n m (omega arith))
 
-pub meant_naming : (n : ℕ) (e : Term) → Scoped n e → meant (outer n) (naming n e) ≡ e
-unfolding meant naming
+pub meant_naming : (n : ℕ) (e : Term) → Scoped n e → meant (outer n) (level_names n e) ≡ e
+unfolding meant level_names
 meant_naming n (var m) h = ap var (nearest_outer n m h)
 meant_naming n (unit k) h = refl
 meant_naming n (lam k i e) h = ap (lam k i) (meant_naming (suc n) e h)
@@ -158,8 +154,6 @@ blank_depth (reckon o w a b) = rw (blank_depth a, blank_depth b)
 -- what is meant differs in variables' numbers alone
 pub blank_meant : (s : Bytes) (i : ℕ) (ns : List ℕ) (e : Term) → blank (meant ns (with_names s i e)) ≡ blank e
 unfolding blank meant with_names
-blank_meant s i ns (var n) = refl
-blank_meant s i ns (unit k) = refl
 blank_meant s i ns (lam k t e) = rw (blank_meant s (1 + i) (_ ∷ ns) e)
 blank_meant s i ns (pair k a b) = rw (blank_meant s (1 + i) ns a, blank_meant s (1 + i + size a) ns b)
 blank_meant s i ns (inj d k t e) = rw (blank_meant s (1 + i) ns e)
@@ -169,8 +163,8 @@ blank_meant s i ns (case w t e a b) =
     rw (blank_meant s (1 + i) ns e, blank_meant s (1 + i + size e) (_ ∷ ns) a, blank_meant s (1 + i + size e + size a) (_ ∷ ns) b)
 blank_meant s i ns (protect m e) = rw (blank_meant s (1 + i) ns e)
 blank_meant s i ns (mu w t e) = rw (blank_meant s (1 + i) (_ ∷ ns) e)
-blank_meant s i ns (literal k n) = refl
 blank_meant s i ns (reckon o w a b) = rw (blank_meant s (1 + i) ns a, blank_meant s (1 + i + size a) ns b)
+blank_meant s i ns _ = refl
 
 -- What doesn't look at variables' numbers holds of all nodes of both.
 module _ (P : Term → Type 0) where

@@ -1,11 +1,6 @@
 -- Questions 14, 15 and 16 of an encoding, as facts about every node of its tree.
-use mathlib.Core.Path.{◌≡◌, refl, ap, sym, ◌∙◌}
-use mathlib.Core.Bool.{Bool, true}
-use mathlib.Core.List.{[]}
-use Prim.Native.Nat.{ℕ, ◌+◌}
-use native.Mathlib.Omega.{arith}
-use native.Mathlib.Nat.{zero-add}
-use Rattle.calculus.specs.Terms.{first, second, plus, less, Term, var, unit, lam, pair, inj, app, proj, case, protect, mu, literal, reckon}
+use Rattle.std.proofs.Common.{◌≡◌, ap, sym, ◌∙◌, Bool, true, [], ℕ, ◌+◌, arith, zero-add}
+use Rattle.calculus.specs.Terms.{Term}
 use Rattle.rules.specs.Answer.{Bytes, accepted, each}
 use Rattle.rules.specs.Limits.{script_width}
 use Rattle.rules.specs.Script.{encode, records, ok14, ok15, ok16, q14, q15, q16}
@@ -33,21 +28,7 @@ module _ (q : ℕ) (ok : Bytes → ℕ → Bool) (own : (s : Bytes) (i : ℕ) �
 
 pub head_ok14 : (e : Term) → ok14 (term_head e) 0 ≡ true
 unfolding ok14
-head_ok14 (var n) = refl
-head_ok14 (unit k) = refl
-head_ok14 (lam k i e) = refl
-head_ok14 (pair k a b) = refl
-head_ok14 (inj first k i e) = refl
-head_ok14 (inj second k i e) = refl
-head_ok14 (app w f a) = refl
-head_ok14 (proj first w e) = refl
-head_ok14 (proj second w e) = refl
-head_ok14 (case w i e a b) = refl
-head_ok14 (protect m e) = refl
-head_ok14 (mu w i e) = refl
-head_ok14 (literal k n) = refl
-head_ok14 (reckon plus w a b) = refl
-head_ok14 (reckon (less i) w a b) = refl
+head_ok14 e = grind arith
 
 -- every encoding passes 14, so a term that was reached passes it again
 pub q14_encode : (e : Term) → q14 (encode e) ≡ accepted tt

@@ -1,17 +1,18 @@
 -- Every statement holds by computation.
-use mathlib.Core.Path.{refl}
+use Rattle.std.proofs.Common.{refl}
 use Rattle.rules.specs.NumberExamples.{NumberExamples}
 use Rattle.rules.specs.Answer.{first_from, last_below}
 use Rattle.rules.specs.Types.{encode_type}
 use Rattle.rules.specs.Script.{encode}
 use Rattle.rules.specs.Strip.{strip_from}
-use Rattle.rules.specs.Calls.{types_check, comparing, checking, type_bytes, stepping, running, run_report, sheeting}
+use Rattle.rules.specs.Calls.{types_check, compare_call, check_call, type_bytes, step_call, run_call, run_report}
+use Rattle.rules.specs.Calls.{sheet_call}
 use Rattle.rules.specs.Rewriting.{rewriting_script}
 use Rattle.rules.specs.Words.{word}
 use Rattle.rules.specs.Report.{text, our_words, report}
 
 pub number_examples : NumberExamples
-unfolding first_from last_below encode_type encode strip_from types_check comparing checking type_bytes stepping running run_report sheeting rewriting_script word text our_words report
+unfolding first_from last_below encode_type encode strip_from types_check compare_call check_call type_bytes step_call run_call run_report sheet_call rewriting_script word text our_words report
 number_examples = record {
   number_type = refl;
   number_in_pair = refl;

@@ -1,8 +1,5 @@
 -- Bytes are below 256, also in parts.
-use mathlib.Core.List.{[], ◌∷◌, ◌++◌}
-use Prim.Native.Nat.{ℕ, zero, suc}
-use native.Mathlib.Omega.{arith}
-use lib.ListN.{take, drop}
+use Rattle.std.proofs.Common.{[], ◌∷◌, ◌++◌, ℕ, zero, suc, arith, take, drop}
 use Rattle.rules.specs.Answer.{Bytes, Octets}
 
 pub octets_append : (a b : Bytes) → Octets a → Octets b → Octets (a ++ b)

@@ -1,21 +1,20 @@
 -- Old office scripts on bytes: their records in the present form, their names, and questions 29 and 30 of their terms.
-use mathlib.Core.Path.{◌≡◌, refl, ap, sym, subst, ◌∙◌}
-use mathlib.Core.Bool.{Bool, true, and-eq-true_iff}
-use mathlib.Core.List.{List, [], ◌∷◌, ◌++◌, append-nil}
-use Prim.Native.Nat.{ℕ, zero, suc, ◌+◌, ◌*◌, ◌%◌, ◌≤◌, ◌<◌}
-use native.Mathlib.Omega.{arith}
-use borrow.Author.Tests.{eqb-true, leb-true, ltb-true, lt-ltb, ne_eqb}
-use lib.Dec.{eqb, ltb}
-use lib.ListN.{length, get_or, take, drop, length-append, length-drop, get_or-append}
-use lib.Seq.{get_or-drop, get_or-take, length-take-le}
+use Rattle.std.proofs.Common.{◌≡◌, refl, ap, sym, subst, ◌∙◌, Bool, true, List, [], ◌∷◌, ◌++◌, append-nil, ℕ, zero, suc}
+use Rattle.std.proofs.Common.{◌+◌, ◌*◌, ◌%◌, ◌≤◌, ◌<◌, arith, eqb-true, leb-true, ltb-true, lt-ltb, ne_eqb, nat_eq}
+use Rattle.std.proofs.Common.{nat_lt, length, get_or, take, drop, length-append, length-drop, get_or-drop, get_or-take}
+use Rattle.std.proofs.Common.{length-take-le}
+use Rattle.std.proofs.Math.Bool.{and-eq-true_iff}
+use Rattle.std.proofs.Math.ListN.{get_or-append}
 use Rattle.std.proofs.lemmas.List.{get_or-append-add}
-use Rattle.calculus.specs.Terms.{first, second, plus, less, Term, var, unit, lam, pair, inj, app, proj, case, protect, mu, literal, reckon}
+use Rattle.calculus.specs.Terms.{first, second, plus, less, Term, var, unit, lam, pair, inj, app, proj, case, protect}
+use Rattle.calculus.specs.Terms.{mu, literal, reckon}
 use Rattle.rules.specs.Answer.{Bytes, byte, Octets, accepted, ◌⇒◌}
 use Rattle.rules.specs.Limits.{script_width, old_script_width, office_width, office_limit}
 use Rattle.rules.specs.Callers.{old_records}
 use Rattle.rules.specs.Script.{encode, size, kind, records, term, q13}
 use Rattle.rules.specs.Names.{nearest, meant, scopes}
-use Rattle.rules.specs.Office.{office_records, office_kind, first_name, second_name, first_six, nameless, with_names, named_term, q28, ok30, q30}
+use Rattle.rules.specs.Office.{office_records, office_kind, first_name, second_name, first_six, nameless, with_names}
+use Rattle.rules.specs.Office.{named_term, q28, ok30, q30}
 use Rattle.rules.proofs.Search.{each_all, each_accepted}
 use Rattle.rules.proofs.Prefix.{Shape, Code}
 use Rattle.rules.proofs.Parts.{record_byte}
@@ -28,6 +27,7 @@ use Rattle.rules.proofs.ScriptLength.{fitting_q13}
 use Rattle.rules.proofs.Scripts.{Whole}
 use Rattle.rules.proofs.Widening.{widen_script_length, widen_script_byte, widen_script_octets}
 use Rattle.rules.proofs.Octets.{octets_append, octets_take, octets_drop}
+use Rattle.std.proofs.lemmas.Grind.{common_steps}
 
 -- A tree that stands at a record, and its operands.
 pub record Stands {T : Type 0} {S : Shape T} (C : Code S) (s : Bytes) (i : ℕ) (e : T) : Type 0 where
@@ -71,19 +71,12 @@ first_six_byte : (n : ℕ) (s : Bytes) (i m : ℕ) → office_width * n ≤ leng
     → byte (first_six n s) (old_script_width * i + m) ≡ byte s (office_width * i + m)
 unfolding first_six
 first_six_byte zero s i m l a d = absurd (omega arith)
-first_six_byte (suc n) s zero m l a d =
-    let e : length (take 6 s) ≡ 6 = length-take-le 6 s (omega arith) in
-    let p : 6 * 0 + m ≡ m = omega arith in
-    let q : m ≡ 10 * 0 + m = omega arith in
-    ap (byte (take 6 s ++ first_six n (drop 10 s))) p ∙ get_or-append (take 6 s) (first_six n (drop 10 s)) 0 m (omega (arith, e)) ∙ get_or-take 6 s m 0 d
-    ∙ ap (byte s) q
+first_six_byte (suc n) s zero m l a d = grind (arith, length-take-le, get_or-append, get_or-take)
 first_six_byte (suc n) s (suc i) m l a d =
     let e : length (take 6 s) ≡ 6 = length-take-le 6 s (omega arith) in
     let p : 6 * suc i + m ≡ length (take 6 s) + (6 * i + m) = omega (arith, e) in
     let q : 10 + (10 * i + m) ≡ 10 * suc i + m = omega arith in
-    ap (byte (take 6 s ++ first_six n (drop 10 s))) p ∙ get_or-append-add (take 6 s) (first_six n (drop 10 s)) (6 * i + m) 0
-    ∙ first_six_byte n (drop 10 s) i m (omega (arith, length-drop 10 s)) (omega arith) d
-    ∙ get_or-drop 10 s (10 * i + m) 0 ∙ ap (byte s) q
+    cc (p, get_or-append-add (take 6 s) (first_six n (drop 10 s)) (6 * i + m) 0, first_six_byte n (drop 10 s) i m (omega (arith, length-drop 10 s)) (omega arith) d, get_or-drop 10 s (10 * i + m) 0, q)
 
 first_six_octets : (n : ℕ) (s : Bytes) → Octets s → Octets (first_six n s)
 unfolding first_six
@@ -112,8 +105,7 @@ module _ (s : Bytes) where
 
   pub nameless_byte : (i m : ℕ) → i < office_records s → m < old_script_width → byte (nameless s) (script_width * i + m) ≡ byte s (office_width * i + m)
   unfolding nameless
-  nameless_byte i m l d =
-      widen_script_byte (first_six (office_records s) s) i m (omega (arith, six_records)) d ∙ first_six_byte (office_records s) s i m whole l d
+  nameless_byte i m l d = grind (arith, widen_script_byte, six_records, first_six_byte)
 
   pub nameless_kind : (i : ℕ) → i < office_records s → kind (nameless s) i ≡ office_kind s i
   nameless_kind i l =
@@ -123,10 +115,7 @@ module _ (s : Bytes) where
 
   -- the kind of a term's record
   pub kind_here : {i : ℕ} {e : Term} → Stands term_code (nameless s) i e → office_kind s i ≡ byte (term_head e) 0
-  kind_here {i} {e} at =
-      let p : script_width * i + 0 ≡ script_width * i = omega arith in
-      sym (nameless_kind i (omega (arith, stands_length at, nameless_length, size_positive term_code e)))
-      ∙ ap (byte (nameless s)) (sym p) ∙ head_byte term_code at 0 (omega arith)
+  kind_here {i} {e} at = grind (arith, common_steps, nameless_kind, stands_length, nameless_length, size_positive, term_code, head_byte)
 
 -- Question 28.
 pub record Measured (s : Bytes) : Type 0 where
@@ -145,15 +134,7 @@ q28_measured s q =
     }
 
 pub nameless_13 : (s : Bytes) → q28 s ≡ accepted tt → q13 [] (nameless s) ≡ accepted tt
-nameless_13 s q =
-    let m = q28_measured s q in
-    fitting_q13 [] (nameless s)
-    (record {
-      whole = omega (arith, nameless_length s);
-      some_record = omega (arith, nameless_records s, m.some_record);
-      limited = omega (arith, nameless_records s, m.limited);
-      roomy = λ i l. absurd (omega arith);
-    })
+nameless_13 s q = grind (arith, q28_measured, fitting_q13, nameless_length, nameless_records)
 
 -- A test of each record with its scope.
 abbrev pub Passing : (ℕ → List ℕ → Bool) → ℕ → List (List ℕ) → Type 0
@@ -190,13 +171,11 @@ module _ (ok : ℕ → List ℕ → Bool) where
 
 -- question 30 of record i in a scope
 abbrev pub bound : Bytes → ℕ → List ℕ → Bool
-bound s i ns = eqb (office_kind s i) 0 ⇒ ltb (nearest (first_name s i) ns) (length ns)
+bound s i ns = nat_eq (office_kind s i) 0 ⇒ nat_lt (nearest (first_name s i) ns) (length ns)
 
 module _ (s : Bytes) where
   pub scopes_length : (i : ℕ) (ns : List ℕ) (e : Term) → length (scopes ns (with_names s i e)) ≡ size e
   unfolding scopes with_names size
-  scopes_length i ns (var n) = refl
-  scopes_length i ns (unit k) = refl
   scopes_length i ns (lam k t e) = omega (arith, scopes_length (1 + i) (first_name s i ∷ ns) e)
   scopes_length i ns (pair k a b) =
       omega (arith, length-append (scopes ns (with_names s (1 + i) a)) (scopes ns (with_names s (1 + i + size a) b)), scopes_length (1 + i) ns a, scopes_length (1 + i + size a) ns b)
@@ -218,9 +197,9 @@ module _ (s : Bytes) where
       )
   scopes_length i ns (protect m e) = omega (arith, scopes_length (1 + i) ns e)
   scopes_length i ns (mu w t e) = omega (arith, scopes_length (1 + i) (first_name s i ∷ ns) e)
-  scopes_length i ns (literal k n) = refl
   scopes_length i ns (reckon o w a b) =
       omega (arith, length-append (scopes ns (with_names s (1 + i) a)) (scopes ns (with_names s (1 + i + size a) b)), scopes_length (1 + i) ns a, scopes_length (1 + i + size a) ns b)
+  scopes_length i ns _ = refl
 
   -- a record that is no variable's
   other : {i : ℕ} {e : Term} (ns : List ℕ) → Stands term_code (nameless s) i e → (k : ℕ) → byte (term_head e) 0 ≡ suc k → bound s i ns ≡ true

@@ -1,11 +1,9 @@
--- Callers in old office scripts: brought to the present form they are those that are put into the present form, and on terms they are the
--- labels of its recursions.
-use mathlib.Core.Path.{◌≡◌, refl, ap, ap₂, sym, ◌∙◌}
-use mathlib.Core.List.{[], ◌∷◌, ◌++◌, append_assoc, append-nil}
-use Prim.Native.Nat.{ℕ, zero, suc, ◌+◌, ◌*◌, ◌≤◌}
-use native.Mathlib.Omega.{arith}
-use lib.ListN.{length}
-use Rattle.calculus.specs.Terms.{first, second, plus, less, Term, var, unit, lam, pair, inj, app, proj, case, protect, mu, literal, reckon}
+-- Callers in old office scripts: brought to the present form they are those that are put into the present form, and on
+-- terms they are the labels of its recursions.
+use Rattle.std.proofs.Common.{◌≡◌, refl, ap, ap₂, sym, ◌∙◌, [], ◌∷◌, ◌++◌, append_assoc, append-nil, ℕ, zero, suc, ◌+◌}
+use Rattle.std.proofs.Common.{◌*◌, ◌≤◌, arith, length}
+use Rattle.calculus.specs.Terms.{first, second, plus, less, Term, var, unit, lam, pair, inj, app, proj, case, protect}
+use Rattle.calculus.specs.Terms.{mu, literal, reckon}
 use Rattle.calculus.specs.Relabelling.{Labels, relabel}
 use Rattle.rules.specs.Answer.{Bytes, Octets}
 use Rattle.rules.specs.Limits.{type_width, script_width, office_width}
@@ -34,8 +32,7 @@ module _ (type_bytes : ℕ) (t : Bytes) where
   put_present (suc n) (a ∷ b ∷ c ∷ d ∷ e ∷ f ∷ g ∷ []) l = absurd (omega arith)
   put_present (suc n) (a ∷ b ∷ c ∷ d ∷ e ∷ f ∷ g ∷ h ∷ []) l = absurd (omega arith)
   put_present (suc n) (a ∷ b ∷ c ∷ d ∷ e ∷ f ∷ g ∷ h ∷ i ∷ []) l = absurd (omega arith)
-  put_present (suc n) (a ∷ b ∷ c ∷ d ∷ e ∷ f ∷ g ∷ h ∷ i ∷ j ∷ s) l =
-      ap (λ z. a ∷ caller type_bytes t a b (e + 256 * f) ∷ c ∷ d ∷ e ∷ f ∷ 0 ∷ 0 ∷ z) (put_present n s (omega arith))
+  put_present (suc n) (a ∷ b ∷ c ∷ d ∷ e ∷ f ∷ g ∷ h ∷ i ∷ j ∷ s) l = grind (arith, put_present n s (omega arith))
 
 -- the callers in a script's terms
 abbrev pub called : ℕ → Bytes → Labels
@@ -101,14 +98,7 @@ module _ (t s : Bytes) where
   pub office_callers_length : length (write_office_callers t s) ≡ length s
   office_callers_length = put_length type_width office_width (omega arith) t (office_records s) s whole
 
-  pub office_callers_octets : Octets t → Octets s → Octets (write_office_callers t s)
-  office_callers_octets p q = put_octets type_width office_width t (office_records s) s p q
-
   -- the present form of a script with its callers
   pub nameless_callers : nameless (write_office_callers t s) ≡ write_callers_of type_width script_width t (nameless s)
   unfolding nameless
-  nameless_callers =
-      let p : office_records (write_office_callers t s) ≡ office_records s = omega (arith, office_callers_length) in
-      ap (λ n. present n (write_office_callers t s)) p
-      ∙ put_present type_width t (office_records s) s whole
-      ∙ ap (λ n. put_callers type_width script_width t n (nameless s)) (sym (nameless_records s))
+  nameless_callers = grind (arith, office_callers_length, put_present, nameless_records)

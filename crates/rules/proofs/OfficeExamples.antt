@@ -1,13 +1,13 @@
 -- The examples of old office scripts, computed.
-use mathlib.Core.Path.{refl}
+use Rattle.std.proofs.Common.{refl}
 use Rattle.rules.specs.Answer.{first_from}
 use Rattle.rules.specs.Callers.{put_callers, count_callers}
 use Rattle.rules.specs.Rewriting.{rewritten_records}
-use Rattle.rules.specs.Office.{ok29, importing, exporting}
+use Rattle.rules.specs.Office.{ok29, import_call, export_call}
 use Rattle.rules.specs.OfficeExamples.{OfficeExamples}
 
 pub office_examples : OfficeExamples
-unfolding first_from put_callers count_callers rewritten_records ok29 importing exporting
+unfolding first_from put_callers count_callers rewritten_records ok29 import_call export_call
 office_examples = record {
   own = refl;
   outer = refl;

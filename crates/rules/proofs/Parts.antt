@@ -1,13 +1,10 @@
 -- Parts of lists: what stands at a place, and what follows it.
-use mathlib.Core.Path.{◌≡◌, refl, ap, sym, ◌∙◌}
-use mathlib.Core.List.{List, [], ◌∷◌, ◌++◌, append_assoc}
-use Prim.Native.Nat.{ℕ, ◌+◌, ◌*◌, ◌≤◌, ◌<◌}
-use native.Mathlib.Omega.{arith}
-use native.Mathlib.Nat.{add-zero}
-use lib.ListN.{length, drop, get_or-append}
-use lib.Seq.{drop-drop, drop_at, get_or-drop, get_or-take}
+use Rattle.std.proofs.Common.{◌≡◌, refl, ap, sym, ◌∙◌, List, [], ◌∷◌, ◌++◌, append_assoc, ℕ, ◌+◌, ◌*◌, ◌≤◌, ◌<◌, arith}
+use Rattle.std.proofs.Common.{add-zero, length, drop, drop-drop, drop_at, get_or-drop, get_or-take}
+use Rattle.std.proofs.Math.ListN.{get_or-append}
 use Rattle.rules.specs.Answer.{Bytes, byte}
 use Rattle.rules.proofs.Prefix.{All, joined, total, record_at}
+use Rattle.std.proofs.lemmas.Grind.{common_steps}
 
 pub all_of : {T : Type 0} (P : T → Type 0) → ((e : T) → P e) → (es : List T) → All P es
 all_of P f [] = tt
@@ -31,8 +28,7 @@ past s n m k front rest l e h = ap (λ x. drop x s) e ∙ sym (drop-drop m n s) 
 
 -- the first byte of `front` where it stands at n
 pub first_byte : (s : Bytes) (n : ℕ) (front rest : Bytes) → 1 ≤ length front → drop n s ≡ front ++ rest → byte s n ≡ byte front 0
-first_byte s n front rest l h =
-    ap (λ x. byte s x) (sym (add-zero n)) ∙ sym (get_or-drop n s 0 0) ∙ ap (λ b. byte b 0) h ∙ get_or-append front rest 0 0 l
+first_byte s n front rest l h = grind (arith, common_steps)
 
 -- byte j of record i
 pub record_byte : (width : ℕ) (s : Bytes) (i j : ℕ) → j < width → byte (record_at width s i) j ≡ byte s (width * i + j)

@@ -1,13 +1,13 @@
 -- Every statement holds by computation.
-use mathlib.Core.Path.{refl}
+use Rattle.std.proofs.Common.{refl}
 use Rattle.rules.specs.PreviewExamples.{PreviewExamples}
 use Rattle.rules.specs.Script.{encode, size, depth}
 use Rattle.rules.specs.Step.{exceeds}
-use Rattle.rules.specs.Calls.{stepping}
-use Rattle.rules.specs.Preview.{previewing, moving, moved_steps}
+use Rattle.rules.specs.Calls.{step_call}
+use Rattle.rules.specs.Preview.{preview_call, move_call, moved_steps}
 
 pub preview_examples : PreviewExamples
-unfolding encode size depth exceeds stepping previewing moving moved_steps
+unfolding encode size depth exceeds step_call preview_call move_call moved_steps
 preview_examples = record {
   value_shown = refl;
   moved_shown = refl;

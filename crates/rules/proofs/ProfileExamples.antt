@@ -1,5 +1,5 @@
 -- Every statement holds by computation.
-use mathlib.Core.Path.{refl}
+use Rattle.std.proofs.Common.{refl}
 use Rattle.rules.specs.ProfileExamples.{ProfileExamples}
 use Rattle.rules.specs.Calls.{type_records}
 use Rattle.rules.specs.Profile.{profile_checking}

@@ -1,15 +1,13 @@
--- A record's fields are those of its own bytes, so questions 9, 10, 14, 15, 16 and 19 ask of record i what they ask of its bytes.
-use mathlib.Core.Path.{◌≡◌, ap₂}
-use mathlib.Core.List.{List, [], ◌∷◌}
-use Prim.Native.Nat.{ℕ, ◌+◌, ◌*◌}
-use native.Mathlib.Omega.{arith}
-use lib.ListN.{get_or}
+-- A record's fields are those of its own bytes, so questions 9, 10, 14, 15, 16 and 19 ask of record i what they ask of
+-- its bytes.
+use Rattle.std.proofs.Common.{◌≡◌, List, [], ◌∷◌, ℕ, arith, get_or}
 use Rattle.rules.specs.Answer.{Bytes}
 use Rattle.rules.specs.Limits.{script_width, type_width}
 use Rattle.rules.specs.Types.{type_kind, type_r, type_ir, type_zero, type_c, type_ic, ok10, ok36_type}
 use Rattle.rules.specs.Script.{kind, r, ir, zero_byte, number, c, ic, ok14, ok15, ok36_object, ok16, ok19}
 use Rattle.rules.proofs.Prefix.{record_at}
 use Rattle.rules.proofs.Parts.{record_byte, record_first}
+use Rattle.std.proofs.lemmas.Grind.{common_steps}
 
 module _ (t : Bytes) (i : ℕ) where
   pub type_kind_is : type_kind (record_at type_width t i) 0 ≡ type_kind t i
@@ -52,7 +50,7 @@ module _ (s : Bytes) (i : ℕ) where
   zero_byte_is = record_byte script_width s i 3 (omega arith)
 
   pub number_is : number (record_at script_width s i) 0 ≡ number s i
-  number_is = ap₂ (λ a b. a + 256 * b) (record_byte script_width s i 4 (omega arith)) (record_byte script_width s i 5 (omega arith))
+  number_is = grind (arith, common_steps)
 
   pub c_is : c (record_at script_width s i) 0 ≡ c s i
   c_is = record_byte script_width s i 6 (omega arith)

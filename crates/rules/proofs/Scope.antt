@@ -1,19 +1,18 @@
 -- Question 19 of an encoding: a term's variables against the binders over them.
-use mathlib.Core.Path.{◌≡◌, refl, ap, sym, subst, ◌∙◌}
-use mathlib.Core.Bool.{true}
-use mathlib.Core.List.{[], ◌∷◌}
-use Prim.Native.Nat.{ℕ, suc, ◌<◌}
-use native.Mathlib.Omega.{arith}
-use borrow.Author.Tests.{ltb-true, lt-ltb}
-use Rattle.calculus.specs.Terms.{first, second, plus, less, Term, var, unit, lam, pair, inj, app, proj, case, protect, mu, literal, reckon}
+use Rattle.std.proofs.Common.{◌≡◌, refl, ap, sym, subst, ◌∙◌, true, List, [], ◌∷◌, ℕ, suc, ◌<◌, arith, ltb-true, lt-ltb}
+use Rattle.std.proofs.Common.{get_or}
+use Rattle.rules.proofs.Prefix.{record_at}
+use Rattle.calculus.specs.Terms.{first, second, plus, less, Term, var, unit, lam, pair, inj, app, proj, case, protect}
+use Rattle.calculus.specs.Terms.{mu, literal, reckon}
 use Rattle.rules.specs.Answer.{Bytes, accepted}
-use Rattle.rules.specs.Script.{unwidened, encode, records, term, binders, ok19, q19}
+use Rattle.rules.specs.Script.{encode, records, term, binders, ok19, q19}
+use Rattle.rules.specs.Limits.{script_width}
 use Rattle.rules.proofs.Search.{each_all, each_accepted}
 use Rattle.rules.proofs.Nodes.{Every, every_here, every_below, every_node}
 use Rattle.rules.proofs.TermCode.{term_head, two_bytes}
 use Rattle.rules.proofs.RecordFields.{ok19_record}
 use Rattle.rules.proofs.Scripts.{records_encode, term_encode}
-use Rattle.rules.proofs.Counts.{up, stay, counted, to_counted_records, to_counted_nodes}
+use Rattle.rules.proofs.Counts.{up, stay, unwidened, counted, to_counted_records, to_counted_nodes, binders_counts}
 
 -- every variable's number is below the count of binders over it, of which n stand over the term
 abbrev pub Scoped : ℕ → Term → Type 0
@@ -72,16 +71,21 @@ scoped_bounds (literal k m) n h = every_node refl tt
 scoped_bounds (reckon plus w a b) n h = every_node refl (scoped_bounds a n h.0, (scoped_bounds b n h.1, tt))
 scoped_bounds (reckon (less i) w a b) n h = every_node refl (scoped_bounds a n h.0, (scoped_bounds b n h.1, tt))
 
+-- the same of the binders over record j
+abbrev BoundAt : Term → ℕ → List ℕ → Type 0
+BoundAt e j ns = Bound (get_or ns j 0) (record_at script_width (encode e) j)
+
 pub q19_scoped : (e : Term) → q19 (encode e) ≡ accepted tt → Scoped 0 e
 q19_scoped e q =
     bounds_scoped e 0
     (to_counted_nodes unwidened stay up Bound 0 e
-    (λ j l. ok19_record (encode e) j (binders e)
+    (λ j l. subst (BoundAt e j) (binders_counts 0 e)
+    (ok19_record (encode e) j (binders e)
     ∙ ap (λ d. ok19 (binders d) (encode e) j) (sym (term_encode e))
-    ∙ each_all 19 (records (encode e)) (ok19 (binders (term (encode e))) (encode e)) q j (omega (arith, records_encode e))))
+    ∙ each_all 19 (records (encode e)) (ok19 (binders (term (encode e))) (encode e)) q j (omega (arith, records_encode e)))))
 
 pub q19_encode : (e : Term) → Scoped 0 e → q19 (encode e) ≡ accepted tt
 q19_encode e h =
     each_accepted 19 (records (encode e)) (ok19 (binders (term (encode e))) (encode e))
     (λ j l. ap (λ d. ok19 (binders d) (encode e) j) (term_encode e) ∙ sym (ok19_record (encode e) j (binders e))
-    ∙ to_counted_records unwidened stay up Bound 0 e (scoped_bounds e 0 h) j (omega (arith, records_encode e)))
+    ∙ subst (BoundAt e j) (sym (binders_counts 0 e)) (to_counted_records unwidened stay up Bound 0 e (scoped_bounds e 0 h) j (omega (arith, records_encode e))))

@@ -1,12 +1,7 @@
 -- Question 13: what it says of a script, and which encodings pass it.
-use mathlib.Core.Path.{◌≡◌}
-use mathlib.Core.Bool.{and-eq-true_iff}
-use mathlib.Core.List.{List}
-use Prim.Native.Nat.{ℕ, ◌%◌, ◌≤◌, ◌<◌}
-use native.Mathlib.Omega.{arith}
-use borrow.Author.Tests.{eqb-true, leb-true, eq-eqb, le-leb}
-use lib.Dec.{leb}
-use lib.ListN.{length, get_or}
+use Rattle.std.proofs.Common.{◌≡◌, List, ℕ, ◌%◌, ◌≤◌, ◌<◌, arith, eqb-true, leb-true, eq-eqb, le-leb, nat_le, length}
+use Rattle.std.proofs.Common.{get_or}
+use Rattle.std.proofs.Math.Bool.{and-eq-true_iff}
 use Rattle.calculus.specs.Terms.{Term}
 use Rattle.rules.specs.Answer.{Bytes, accepted}
 use Rattle.rules.specs.Limits.{script_width, script_limit}
@@ -32,17 +27,11 @@ q13_fitting rooms s q =
       whole = eqb-true (length s % script_width) 0 a.0;
       some_record = leb-true 1 (records s) b.0;
       limited = leb-true (records s) script_limit c.0;
-      roomy = λ i l. leb-true (length s) (get_or rooms i 0) (all_below_all (length rooms) (λ k. leb (length s) (get_or rooms k 0)) c.1 i l);
+      roomy = λ i l. leb-true (length s) (get_or rooms i 0) (all_below_all (length rooms) (λ k. nat_le (length s) (get_or rooms k 0)) c.1 i l);
     }
 
 pub fitting_q13 : (rooms : List ℕ) (s : Bytes) → Fitting rooms s → q13 rooms s ≡ accepted tt
-fitting_q13 rooms s f =
-    rw (
-      eq-eqb (length s % script_width) 0 f.whole,
-      le-leb 1 (records s) f.some_record,
-      le-leb (records s) script_limit f.limited,
-      all_below_true (length rooms) (λ k. leb (length s) (get_or rooms k 0)) (λ k l. le-leb (length s) (get_or rooms k 0) (f.roomy k l)),
-    )
+fitting_q13 rooms s f = grind (arith, eq-eqb, le-leb, all_below_true, nat_le)
 
 pub q13_encode : (rooms : List ℕ) (e : Term) → size e ≤ script_limit → ((i : ℕ) → i < length rooms → length (encode e) ≤ get_or rooms i 0)
     → q13 rooms (encode e) ≡ accepted tt

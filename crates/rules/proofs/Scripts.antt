@@ -1,16 +1,12 @@
 -- A script that passes questions 13, 14 and 17 is the encoding of its term, and every encoding passes 17.
-use mathlib.Core.Path.{◌≡◌, ap, sym, subst, ◌∙◌}
-use mathlib.Core.Bool.{and-eq-true_iff}
-use mathlib.Core.List.{List, [], ◌++◌, append-nil}
-use mathlib.Core.Option.{some}
-use Prim.Native.Nat.{ℕ, ◌+◌, ◌*◌, ◌-◌, ◌%◌, ◌<◌}
-use native.Mathlib.Omega.{arith}
-use borrow.Author.Tests.{eqb-true, eq-eqb}
-use lib.ListN.{length, get_or, drop, drop_of_length-le}
+use Rattle.std.proofs.Common.{◌≡◌, ap, sym, subst, ◌∙◌, List, [], ◌++◌, append-nil, ℕ, ◌+◌, ◌*◌, ◌-◌, ◌%◌, ◌<◌, arith}
+use Rattle.std.proofs.Common.{eqb-true, eq-eqb, length, get_or, drop, drop_of_length-le}
+use Rattle.std.proofs.Math.Bool.{and-eq-true_iff}
+use Rattle.std.proofs.Math.Option.{some}
 use Rattle.calculus.specs.Terms.{Term}
-use Rattle.rules.specs.Answer.{Bytes, Octets, accepted, ask}
+use Rattle.rules.specs.Answer.{Bytes, Octets, accepted}
 use Rattle.rules.specs.Types.{end_after}
-use Rattle.rules.specs.Script.{encode, size, term, no_term, arity, kind, records, term_end, exactly, ok14, q13, q14, q17}
+use Rattle.rules.specs.Script.{encode, size, term, no_term, arity, kind, records, term_end, ok14, q13, q14, q17}
 use Rattle.rules.proofs.Search.{each_all}
 use Rattle.rules.proofs.Asked.{ask_true, exactly_some}
 use Rattle.rules.proofs.Parts.{record_byte}
@@ -60,7 +56,4 @@ whole rooms s o q13_yes q14_yes q17_yes =
 -- The other way: a term that was reached passes 17 again.
 pub q17_encode : (e : Term) → q17 (encode e) ≡ accepted tt
 unfolding term_end
-q17_encode e =
-    ap (exactly (records (encode e)))
-    (tree_end term_prefix e (encode e) 0 (records (encode e) - 0) [] (omega (arith, records_encode e)) (sym (append-nil (encode e))))
-    ∙ ap (ask 17 (0 + size e)) (eq-eqb (0 + size e) (records (encode e)) (omega (arith, records_encode e)))
+q17_encode e = cc (tree_end term_prefix e (encode e) 0 (records (encode e) - 0) [] (omega (arith, records_encode e)) (sym (append-nil (encode e))), eq-eqb (0 + size e) (records (encode e)) (omega (arith, records_encode e)))

@@ -1,11 +1,9 @@
 -- The search in rising order: what a loop over rows or records needs, whichever the question.
-use mathlib.Core.Path.{◌≡◌, refl, ap, sym, ◌∙◌}
-use mathlib.Core.Bool.{Bool, true, false, not, false≢true}
-use mathlib.Core.Option.{Option, none, some}
-use Prim.Native.Nat.{ℕ, zero, suc, ◌+◌, ◌≤◌, ◌<◌}
-use native.Mathlib.Omega.{arith}
-use native.Mathlib.Decide.{ℕ_discrete}
-use Rattle.rules.specs.Answer.{accepted, refused, first_from, last_below, all_below, is_none, refused_at, each}
+use Rattle.std.proofs.Common.{◌≡◌, refl, ap, sym, ◌∙◌, Bool, true, false, not, ℕ, zero, suc, ◌+◌, ◌≤◌, ◌<◌, arith}
+use Rattle.std.proofs.Math.Option.{none, some, Option}
+use Rattle.std.proofs.Math.Bool.{false≢true}
+use Rattle.std.proofs.Math.Decide.{ℕ_discrete}
+use Rattle.rules.specs.Answer.{accepted, refused, first_from, last_below, all_below, is_absent, refused_at, each}
 
 pub from_none : (test : ℕ → Bool) (n i : ℕ) → ((k : ℕ) → i ≤ k → k < i + n → test k ≡ false) → first_from test n i ≡ none
 unfolding first_from
@@ -36,7 +34,7 @@ from_same test test' (suc n) i h =
     λ j. elim (h i (omega arith) (omega arith) j) [ true ↦ some i | false ↦ rest j ]
 
 pub each_same : (q n : ℕ) (ok ok' : ℕ → Bool) → ((k : ℕ) → k < n → ok k ≡ ok' k) → each q n ok ≡ each q n ok'
-each_same q n ok ok' h = ap (refused_at q) (from_same (λ i. not (ok i)) (λ i. not (ok' i)) n 0 (λ k a b. ap not (h k (omega arith))))
+each_same q n ok ok' h = grind (arith, from_same)
 
 -- record i is the first that fails
 pub each_refused : (q n : ℕ) (ok : ℕ → Bool) (i : ℕ) → i < n → ((k : ℕ) → k < i → ok k ≡ true) → ok i ≡ false → each q n ok ≡ refused q i
@@ -46,8 +44,7 @@ each_refused q n ok i l h e =
 -- The other way: what an accepted question says of each record.
 split : (test : ℕ → Bool) (n i : ℕ) (b : Bool) → test i ≡ b → first_from test (suc n) i ≡ none → (test i ≡ false) × (first_from test n (suc i) ≡ none)
 unfolding first_from
-split test n i true e q = let r : some i ≡ none = rw (e, first_from) at q in let x : ◌≡◌ {A = ℕ} 0 1 = cc in absurd (omega arith)
-split test n i false e q = (e, rw (e, first_from) at q)
+split test n i b e q = grind arith
 
 pub from_all : (test : ℕ → Bool) (n i : ℕ) → first_from test n i ≡ none → (k : ℕ) → i ≤ k → k < i + n → test k ≡ false
 from_all test zero i q k a b = absurd (omega arith)
@@ -59,32 +56,26 @@ from_all test (suc n) i q k a b =
     ]
 
 refused_none : (q : ℕ) (o : Option ℕ) → refused_at q o ≡ accepted tt → o ≡ none
-refused_none q none e = refl
-refused_none q (some p) e = let x : ◌≡◌ {A = ℕ} 0 1 = cc in absurd (omega arith)
+refused_none q o e = grind arith
 
 not-false : (b : Bool) → not b ≡ false → b ≡ true
-not-false true e = refl
-not-false false e = sym e
+not-false b e = grind arith
 
 pub each_all : (q n : ℕ) (ok : ℕ → Bool) → each q n ok ≡ accepted tt → (k : ℕ) → k < n → ok k ≡ true
 each_all q n ok e k l = not-false (ok k) (from_all (λ i. not (ok i)) n 0 (refused_none q _ e) k (omega arith) (omega arith))
 
 -- The same for a test of all numbers below n.
 pub all_below_true : (n : ℕ) (ok : ℕ → Bool) → ((k : ℕ) → k < n → ok k ≡ true) → all_below ok n ≡ true
-all_below_true n ok h = ap is_none (from_none (λ i. not (ok i)) n 0 (λ k a b. ap not (h k (omega arith))))
+all_below_true n ok h = ap is_absent (from_none (λ i. not (ok i)) n 0 (λ k a b. ap not (h k (omega arith))))
 
-pub all_below_false : (n : ℕ) (ok : ℕ → Bool) (i : ℕ) → i < n → ((k : ℕ) → k < i → ok k ≡ true) → ok i ≡ false → all_below ok n ≡ false
-all_below_false n ok i l h e = ap is_none (from_some (λ i. not (ok i)) n 0 i (omega arith) (omega arith) (λ k a b. ap not (h k b)) (ap not e))
-
-is_none_none : (o : Option ℕ) → is_none o ≡ true → o ≡ none
-is_none_none none e = refl
-is_none_none (some p) e = absurd (false≢true e)
+is_none_none : (o : Option ℕ) → is_absent o ≡ true → o ≡ none
+is_none_none o e = grind arith
 
 pub all_below_all : (n : ℕ) (ok : ℕ → Bool) → all_below ok n ≡ true → (k : ℕ) → k < n → ok k ≡ true
 all_below_all n ok e k l = not-false (ok k) (from_all (λ i. not (ok i)) n 0 (is_none_none _ e) k (omega arith) (omega arith))
 
 -- A number that the search finds passes the test, stands in the range, and none before it passes.
-pub record Found (test : ℕ → Bool) (n i j : ℕ) : Type 0 where
+pub record IsFirst (test : ℕ → Bool) (n i j : ℕ) : Type 0 where
   pub passes : test j ≡ true
   pub low : i ≤ j
   pub high : j < i + n
@@ -96,12 +87,12 @@ some_inj e = cc
 pub none≢some : {A : Type 0} {a : A} → none ≡ some a → ⊥
 none≢some p = let x : ◌≡◌ {A = ℕ} 0 1 = cc in omega arith
 
-pub found : (test : ℕ → Bool) (n i j : ℕ) → first_from test n i ≡ some j → Found test n i j
+pub found : (test : ℕ → Bool) (n i j : ℕ) → first_from test n i ≡ some j → IsFirst test n i j
 unfolding first_from
 found test zero i j e = let x : ◌≡◌ {A = ℕ} 0 1 = cc in absurd (omega arith)
 found test (suc n) i j e = here (test i) refl (λ h. found test n (suc i) j h)
   where
-    later : test i ≡ false → Found test n (suc i) j → Found test (suc n) i j
+    later : test i ≡ false → IsFirst test n (suc i) j → IsFirst test (suc n) i j
     later p f =
         let l = f.low in
         let h = f.high in
@@ -111,7 +102,7 @@ found test (suc n) i j e = here (test i) refl (λ h. found test n (suc i) j h)
         before k (yes q) a b = ap test (sym q) ∙ p
         before k (no ne) a b = f.least k (omega arith) b
 
-    here : (b : Bool) → test i ≡ b → (first_from test n (suc i) ≡ some j → Found test n (suc i) j) → Found test (suc n) i j
+    here : (b : Bool) → test i ≡ b → (first_from test n (suc i) ≡ some j → IsFirst test n (suc i) j) → IsFirst test (suc n) i j
     here true p ih =
         let q : i ≡ j = some_inj (rw (p, first_from) at e) in
         record { passes = ap test (sym q) ∙ p; low = omega arith; high = omega arith; least = λ k a b. absurd (omega arith) }

@@ -1,10 +1,7 @@
 -- A types table that passes questions 8 to 12 is a table as the theory needs it.
-use mathlib.Core.Path.{◌≡◌, refl, sym, ◌∙◌}
-use mathlib.Core.Bool.{true, So, and-eq-true_iff}
-use Prim.Native.Nat.{ℕ, suc, ◌<◌}
-use native.Mathlib.Omega.{arith}
-use native.Mathlib.Decide.{dec_lt}
-use borrow.Author.Tests.{le-leb}
+use Rattle.std.proofs.Common.{◌≡◌, refl, sym, ◌∙◌, true, ℕ, suc, ◌<◌, arith, le-leb, IsTrue}
+use Rattle.std.proofs.Math.Bool.{and-eq-true_iff}
+use Rattle.std.proofs.Math.Decide.{dec_lt}
 use Rattle.calculus.specs.Security.{Property}
 use Rattle.calculus.specs.Types.{Leaf, Former, Ty, leaf, node, size_t, secure_t, fits, type_limit}
 use Rattle.calculus.specs.Typing.{Table}
@@ -20,14 +17,10 @@ use Rattle.rules.proofs.TypeTables.{Passes, standing, every_short}
 
 -- questions 10 and 36 of every record
 pub nodes_secure : (g : Bytes) (e : Ty) → Every type_shape (λ c. ok10 g (type_head c) 0 ≡ true) e
-    → Every type_shape (λ c. ok36_type g (type_head c) 0 ≡ true) e → So (secure_t (properties_of g) e)
+    → Every type_shape (λ c. ok36_type g (type_head c) 0 ≡ true) e → IsTrue (secure_t (properties_of g) e)
 unfolding ok10 ok36_type secure_t
 nodes_secure g (leaf b k) h x = (and-eq-true_iff _ _).1 (every_here h, every_here x)
-nodes_secure g (node f k s t) h x =
-    (and-eq-true_iff _ _).1 (
-      (and-eq-true_iff _ _).1 (every_here h, every_here x),
-      (and-eq-true_iff _ _).1 (nodes_secure g s (every_below h).0 (every_below x).0, nodes_secure g t (every_below h).1.0 (every_below x).1.0),
-    )
+nodes_secure g (node f k s t) h x = grind (arith, nodes_secure g s (every_below h).0 (every_below x).0, nodes_secure g t (every_below h).1.0 (every_below x).1.0, and-eq-true_iff, every_here, every_below)
 
 -- a fact of every record and of what stands outside
 inside_or_out : (P : Ty → Type 0) (t : Bytes) → ((i : ℕ) → i < type_count t → P (type_at t i)) → P no_type → (i : ℕ) → P (type_at t i)
@@ -48,17 +41,17 @@ left_of t P f k a b i h =
     ]
 
 -- `bottom`: row 0 of the groups table holds its own bit, as questions 2 and 4 ask.
-pub secure_table : (g t : Bytes) → Passes t → q10 g t ≡ accepted tt → q36_types g t ≡ accepted tt → q12 t ≡ accepted tt → So (leq g 0 0)
+pub secure_table : (g t : Bytes) → Passes t → q10 g t ≡ accepted tt → q36_types g t ≡ accepted tt → q12 t ≡ accepted tt → IsTrue (leq g 0 0)
     → Table (properties_of g) (type_at t)
 unfolding secure_t size_t
 secure_table g t P q10_yes q36_yes q12_yes bottom =
     record {
       secure =
-          inside_or_out (λ e. So (secure_t (properties_of g) e)) t
+          inside_or_out (λ e. IsTrue (secure_t (properties_of g) e)) t
           (λ i l. nodes_secure g (type_at t i)
           (asked_of_type (ok10 g) (λ s j. ok10_record s j g) t (each_all 10 (type_count t) (ok10 g t) q10_yes) i (standing t P i l))
           (asked_of_type (ok36_type g) (λ s j. ok36_type_record s j g) t (each_all 36 (type_count t) (ok36_type g t) q36_yes) i (standing t P i l)))
           ((and-eq-true_iff _ _).1 (bottom, bottom));
-      small = inside_or_out (λ e. So (fits e)) t (λ i l. le-leb (size_t (type_at t i)) type_limit (every_short t P q12_yes i l)) refl;
+      small = inside_or_out (λ e. IsTrue (fits e)) t (λ i l. le-leb (size_t (type_at t i)) type_limit (every_short t P q12_yes i l)) refl;
       left = λ {f} {k} {s} {t = b} i. left_of t P f k s b i;
     }

@@ -1,8 +1,5 @@
 -- Stripping keeps the length.
-use mathlib.Core.Path.{◌≡◌, refl, ap}
-use mathlib.Core.List.{[], ◌∷◌}
-use Prim.Native.Nat.{ℕ, suc}
-use lib.ListN.{length}
+use Rattle.std.proofs.Common.{◌≡◌, refl, ap, [], ◌∷◌, ℕ, suc, length}
 use Rattle.rules.specs.Answer.{Bytes}
 use Rattle.rules.specs.Strip.{strip_from}
 

@@ -1,17 +1,13 @@
 -- Terms as a prefix code.
-use mathlib.Core.Path.{◌≡◌, refl, ap, sym}
-use mathlib.Core.Bool.{Bool, true, false, not, ◌&&◌, false≢true, and-eq-true_iff}
-use mathlib.Core.List.{List, [], ◌∷◌, ◌++◌, append-nil}
-use Prim.Native.Nat.{ℕ, zero, suc, ◌+◌, ◌*◌, ◌/◌, ◌%◌, ◌≤◌, ◌<◌}
-use native.Mathlib.Omega.{arith}
-use borrow.Author.Tests.{eqb-true, leb-true}
-use lib.Dec.{eqb, leb}
-use lib.ListN.{length, get_or}
+use Rattle.std.proofs.Common.{◌≡◌, refl, ap, sym, Bool, true, false, not, ◌&&◌, List, [], ◌∷◌, ◌++◌, append-nil, ℕ, zero, suc, ◌+◌, ◌*◌, ◌/◌, ◌%◌, ◌≤◌, ◌<◌, arith, eqb-true, leb-true, nat_eq, nat_le, length, get_or}
+use Rattle.std.proofs.Math.Bool.{and-eq-true_iff, false≢true}
 use Rattle.calculus.specs.Terms.{first, second, choose, plus, less, Term, var, unit, lam, pair, inj, app, proj, case, protect, mu, literal, reckon}
 use Rattle.rules.specs.Answer.{Bytes, byte, ◌⇒◌}
 use Rattle.rules.specs.Limits.{script_width}
-use Rattle.rules.specs.Script.{full_record, object_record, encode, size, parse, make, no_term, arity, script_record, Signature, signature_of, ok14}
+use Rattle.rules.specs.Script.{full_record, object_record, encode, size, parse, make, no_term, arity, script_record}
+use Rattle.rules.specs.Script.{Signature, signature_of, ok14}
 use Rattle.rules.proofs.Prefix.{All, joined, total, Shape, Code, Prefix}
+use Rattle.std.proofs.lemmas.Grind.{common_steps}
 
 abbrev pub term_operands : Term → List Term
 term_operands (var n) = []
@@ -44,18 +40,7 @@ term_head (reckon (less i) w a b) = script_record 14 w 0 i
 
 pub term_size_is : (e : Term) → size e ≡ suc (total size (term_operands e))
 unfolding size
-term_size_is (var n) = refl
-term_size_is (unit k) = refl
-term_size_is (lam k i e) = omega arith
-term_size_is (pair k a b) = omega arith
-term_size_is (inj d k i e) = omega arith
-term_size_is (app w f a) = omega arith
-term_size_is (proj d w e) = omega arith
-term_size_is (case w i e a b) = omega arith
-term_size_is (protect m e) = omega arith
-term_size_is (mu w i e) = omega arith
-term_size_is (literal k n) = refl
-term_size_is (reckon o w a b) = omega arith
+term_size_is e = grind arith
 
 pub term_induction : (P : Term → Type 0) → ((e : Term) → All P (term_operands e) → P e) → (e : Term) → P e
 term_induction P f (var n) = f (var n) tt
@@ -75,37 +60,11 @@ abbrev pub term_shape : Shape Term
 term_shape = record { operands = term_operands; size = size; size_is = term_size_is; induction = term_induction }
 
 pub term_head_length : (e : Term) → length (term_head e) ≡ script_width
-term_head_length (var n) = refl
-term_head_length (unit k) = refl
-term_head_length (lam k i e) = refl
-term_head_length (pair k a b) = refl
-term_head_length (inj d k i e) = refl
-term_head_length (app w f a) = refl
-term_head_length (proj d w e) = refl
-term_head_length (case w i e a b) = refl
-term_head_length (protect m e) = refl
-term_head_length (mu w i e) = refl
-term_head_length (literal k n) = refl
-term_head_length (reckon plus w a b) = refl
-term_head_length (reckon (less i) w a b) = refl
+term_head_length e = grind arith
 
 pub term_encode_is : (e : Term) → encode e ≡ term_head e ++ joined encode (term_operands e)
 unfolding encode
-term_encode_is (var n) = refl
-term_encode_is (unit k) = refl
-term_encode_is (lam k i e) = rw (append-nil (encode e))
-term_encode_is (pair k a b) = rw (append-nil (encode b))
-term_encode_is (inj first k i e) = rw (append-nil (encode e))
-term_encode_is (inj second k i e) = rw (append-nil (encode e))
-term_encode_is (app w f a) = rw (append-nil (encode a))
-term_encode_is (proj first w e) = rw (append-nil (encode e))
-term_encode_is (proj second w e) = rw (append-nil (encode e))
-term_encode_is (case w i e a b) = rw (append-nil (encode b))
-term_encode_is (protect m e) = rw (append-nil (encode e))
-term_encode_is (mu w i e) = rw (append-nil (encode e))
-term_encode_is (literal k n) = refl
-term_encode_is (reckon plus w a b) = rw (append-nil (encode b))
-term_encode_is (reckon (less i) w a b) = rw (append-nil (encode b))
+term_encode_is e = grind (arith, common_steps)
 
 abbrev pub term_code : Code term_shape
 term_code =
@@ -113,21 +72,7 @@ term_code =
 
 pub term_head_arity : (e : Term) → arity (byte (term_head e) 0) ≡ length (term_operands e)
 unfolding arity
-term_head_arity (var n) = refl
-term_head_arity (unit k) = refl
-term_head_arity (lam k i e) = refl
-term_head_arity (pair k a b) = refl
-term_head_arity (inj first k i e) = refl
-term_head_arity (inj second k i e) = refl
-term_head_arity (app w f a) = refl
-term_head_arity (proj first w e) = refl
-term_head_arity (proj second w e) = refl
-term_head_arity (case w i e a b) = refl
-term_head_arity (protect m e) = refl
-term_head_arity (mu w i e) = refl
-term_head_arity (literal k n) = refl
-term_head_arity (reckon plus w a b) = refl
-term_head_arity (reckon (less i) w a b) = refl
+term_head_arity e = grind arith
 
 -- a number from its two bytes
 pub two_bytes : (n : ℕ) → n % 256 + 256 * (n / 256) ≡ n
@@ -135,21 +80,7 @@ two_bytes n = omega arith
 
 pub term_parse_node : (e : Term) (s : Bytes) (ts : List Term) → parse s ≡ term_operands e ++ ts → parse (term_head e ++ s) ≡ e ∷ ts
 unfolding parse
-term_parse_node (var n) s ts h = rw (h, two_bytes n)
-term_parse_node (unit k) s ts h = rw h
-term_parse_node (lam k i e) s ts h = rw (h, two_bytes i)
-term_parse_node (pair k a b) s ts h = rw h
-term_parse_node (inj first k i e) s ts h = rw (h, two_bytes i)
-term_parse_node (inj second k i e) s ts h = rw (h, two_bytes i)
-term_parse_node (app w f a) s ts h = rw h
-term_parse_node (proj first w e) s ts h = rw h
-term_parse_node (proj second w e) s ts h = rw h
-term_parse_node (case w i e a b) s ts h = rw (h, two_bytes i)
-term_parse_node (protect m e) s ts h = rw h
-term_parse_node (mu w i e) s ts h = rw (h, two_bytes i)
-term_parse_node (literal k n) s ts h = rw (h, two_bytes n)
-term_parse_node (reckon plus w a b) s ts h = rw h
-term_parse_node (reckon (less i) w a b) s ts h = rw (h, two_bytes i)
+term_parse_node e s ts h = grind arith
 
 -- What question 14 says of a record's fields.
 record Fields (f : Signature) (k r ir z n c ic : ℕ) : Type 0 where
@@ -161,13 +92,12 @@ record Fields (f : Signature) (k r ir z n c ic : ℕ) : Type 0 where
   c_unnamed : f.c ≡ false → c ≡ 0
   ic_unnamed : f.ic ≡ false → ic ≡ 0
 
-unless : (b : Bool) (x : ℕ) → (not b ⇒ eqb x 0) ≡ true → b ≡ false → x ≡ 0
-unless true x h e = absurd (false≢true (sym e))
-unless false x h e = eqb-true x 0 h
+unless : (b : Bool) (x : ℕ) → (not b ⇒ nat_eq x 0) ≡ true → b ≡ false → x ≡ 0
+unless b x h e = grind arith
 
 fields : (f : Signature) (k r ir z n c ic : ℕ)
-    → (leb k 14 && (eqb z 0 && ((not f.r ⇒ eqb r 0) && ((not f.ir ⇒ eqb ir 0)
-    && ((not f.number ⇒ eqb n 0) && ((not f.c ⇒ eqb c 0) && (not f.ic ⇒ eqb ic 0))))))) ≡ true → Fields f k r ir z n c ic
+    → (nat_le k 14 && (nat_eq z 0 && ((not f.r ⇒ nat_eq r 0) && ((not f.ir ⇒ nat_eq ir 0)
+    && ((not f.number ⇒ nat_eq n 0) && ((not f.c ⇒ nat_eq c 0) && (not f.ic ⇒ nat_eq ic 0))))))) ≡ true → Fields f k r ir z n c ic
 fields f k r ir z n c ic h =
     let a = (and-eq-true_iff _ _).0 h in
     let b = (and-eq-true_iff _ _).0 a.1 in
@@ -187,24 +117,16 @@ fields f k r ir z n c ic h =
 
 -- lists of a known length
 no_terms : (ts : List Term) → length ts ≡ 0 → [] ≡ ts
-no_terms [] h = refl
-no_terms (a ∷ ts) h = absurd (omega arith)
+no_terms ts h = grind (arith, common_steps)
 
 one_term : (ts : List Term) → length ts ≡ 1 → get_or ts 0 no_term ∷ [] ≡ ts
-one_term [] h = absurd (omega arith)
-one_term (a ∷ ts) h = ap (λ l. a ∷ l) (no_terms ts (omega arith))
+one_term ts h = grind (arith, common_steps)
 
 two_terms : (ts : List Term) → length ts ≡ 2 → get_or ts 0 no_term ∷ get_or ts 1 no_term ∷ [] ≡ ts
-two_terms [] h = absurd (omega arith)
-two_terms (a ∷ ts) h = ap (λ l. a ∷ l) (one_term ts (omega arith))
+two_terms ts h = grind (arith, common_steps)
 
 three_terms : (ts : List Term) → length ts ≡ 3 → get_or ts 0 no_term ∷ get_or ts 1 no_term ∷ get_or ts 2 no_term ∷ [] ≡ ts
-three_terms [] h = absurd (omega arith)
-three_terms (a ∷ ts) h = ap (λ l. a ∷ l) (two_terms ts (omega arith))
-
-eight : (k : ℕ) {r r' ir ir' z z' lo lo' hi hi' c c' ic ic' : ℕ} → r ≡ r' → ir ≡ ir' → z ≡ z' → lo ≡ lo' → hi ≡ hi' → c ≡ c' → ic ≡ ic'
-    → ◌≡◌ {A = Bytes} (k ∷ r ∷ ir ∷ z ∷ lo ∷ hi ∷ c ∷ ic ∷ []) (k ∷ r' ∷ ir' ∷ z' ∷ lo' ∷ hi' ∷ c' ∷ ic' ∷ [])
-eight k p q t u v x y = cc
+three_terms ts h = grind (arith, common_steps)
 
 abbrev made : ℕ → ℕ → ℕ → ℕ → ℕ → ℕ → List Term → Term
 made k r ir n c ic ts = make k r ir n c ic (get_or ts 0 no_term) (get_or ts 1 no_term) (get_or ts 2 no_term)
@@ -212,22 +134,7 @@ made k r ir n c ic ts = make k r ir n c ic (get_or ts 0 no_term) (get_or ts 1 no
 node_of : (k r ir z lo hi c ic : ℕ) (ts : List Term) → Fields (signature_of k) k r ir z (lo + 256 * hi) c ic → lo < 256 → length ts ≡ arity k
     → (term_head (made k r ir (lo + 256 * hi) c ic ts) ≡ k ∷ r ∷ ir ∷ z ∷ lo ∷ hi ∷ c ∷ ic ∷ []) × (term_operands (made k r ir (lo + 256 * hi) c ic ts) ≡ ts)
 unfolding arity
-node_of zero r ir z lo hi c ic ts F l m = (eight 0 (sym (F.r_unnamed refl)) (sym (F.ir_unnamed refl)) (sym F.zero_is) (omega arith) (omega arith) (sym (F.c_unnamed refl)) (sym (F.ic_unnamed refl)), no_terms ts m)
-node_of (suc zero) r ir z lo hi c ic ts F l m = let n0 = F.number_unnamed refl in (eight 1 refl refl (sym F.zero_is) (omega arith) (omega arith) refl refl, no_terms ts m)
-node_of (suc (suc zero)) r ir z lo hi c ic ts F l m = (eight 2 refl refl (sym F.zero_is) (omega arith) (omega arith) refl refl, one_term ts m)
-node_of (suc (suc (suc zero))) r ir z lo hi c ic ts F l m = let n0 = F.number_unnamed refl in (eight 3 refl refl (sym F.zero_is) (omega arith) (omega arith) refl refl, two_terms ts m)
-node_of (suc (suc (suc (suc zero)))) r ir z lo hi c ic ts F l m = (eight 4 refl refl (sym F.zero_is) (omega arith) (omega arith) refl refl, one_term ts m)
-node_of (suc (suc (suc (suc (suc zero))))) r ir z lo hi c ic ts F l m = (eight 5 refl refl (sym F.zero_is) (omega arith) (omega arith) refl refl, one_term ts m)
-node_of (suc (suc (suc (suc (suc (suc zero)))))) r ir z lo hi c ic ts F l m = let n0 = F.number_unnamed refl in (eight 6 refl (sym (F.ir_unnamed refl)) (sym F.zero_is) (omega arith) (omega arith) (sym (F.c_unnamed refl)) (sym (F.ic_unnamed refl)), two_terms ts m)
-node_of (suc (suc (suc (suc (suc (suc (suc zero))))))) r ir z lo hi c ic ts F l m = let n0 = F.number_unnamed refl in (eight 7 refl (sym (F.ir_unnamed refl)) (sym F.zero_is) (omega arith) (omega arith) (sym (F.c_unnamed refl)) (sym (F.ic_unnamed refl)), one_term ts m)
-node_of (suc (suc (suc (suc (suc (suc (suc (suc zero)))))))) r ir z lo hi c ic ts F l m = let n0 = F.number_unnamed refl in (eight 8 refl (sym (F.ir_unnamed refl)) (sym F.zero_is) (omega arith) (omega arith) (sym (F.c_unnamed refl)) (sym (F.ic_unnamed refl)), one_term ts m)
-node_of (suc (suc (suc (suc (suc (suc (suc (suc (suc zero))))))))) r ir z lo hi c ic ts F l m = (eight 9 refl (sym (F.ir_unnamed refl)) (sym F.zero_is) (omega arith) (omega arith) (sym (F.c_unnamed refl)) (sym (F.ic_unnamed refl)), three_terms ts m)
-node_of (suc (suc (suc (suc (suc (suc (suc (suc (suc (suc zero)))))))))) r ir z lo hi c ic ts F l m = let n0 = F.number_unnamed refl in (eight 10 (sym (F.r_unnamed refl)) refl (sym F.zero_is) (omega arith) (omega arith) (sym (F.c_unnamed refl)) refl, one_term ts m)
-node_of (suc (suc (suc (suc (suc (suc (suc (suc (suc (suc (suc zero))))))))))) r ir z lo hi c ic ts F l m = (eight 11 refl (sym (F.ir_unnamed refl)) (sym F.zero_is) (omega arith) (omega arith) (sym (F.c_unnamed refl)) (sym (F.ic_unnamed refl)), one_term ts m)
-node_of (suc (suc (suc (suc (suc (suc (suc (suc (suc (suc (suc (suc zero)))))))))))) r ir z lo hi c ic ts F l m = (eight 12 refl refl (sym F.zero_is) (omega arith) (omega arith) refl refl, no_terms ts m)
-node_of (suc (suc (suc (suc (suc (suc (suc (suc (suc (suc (suc (suc (suc zero))))))))))))) r ir z lo hi c ic ts F l m = let n0 = F.number_unnamed refl in (eight 13 refl (sym (F.ir_unnamed refl)) (sym F.zero_is) (omega arith) (omega arith) (sym (F.c_unnamed refl)) (sym (F.ic_unnamed refl)), two_terms ts m)
-node_of (suc (suc (suc (suc (suc (suc (suc (suc (suc (suc (suc (suc (suc (suc zero)))))))))))))) r ir z lo hi c ic ts F l m = (eight 14 refl (sym (F.ir_unnamed refl)) (sym F.zero_is) (omega arith) (omega arith) (sym (F.c_unnamed refl)) (sym (F.ic_unnamed refl)), two_terms ts m)
-node_of (suc (suc (suc (suc (suc (suc (suc (suc (suc (suc (suc (suc (suc (suc (suc k))))))))))))))) r ir z lo hi c ic ts F l m = let h = F.known in absurd (omega arith)
+node_of k r ir z lo hi c ic ts n l m = grind (arith, no_terms, one_term, two_terms, three_terms)
 
 -- A record passes question 14, and its bytes are bytes.
 pub record GoodRecord (h : Bytes) : Type 0 where
@@ -237,18 +144,10 @@ pub record GoodRecord (h : Bytes) : Type 0 where
 pub term_node : (h : Bytes) (ts : List Term) → length h ≡ script_width → GoodRecord h → length ts ≡ arity (byte h 0)
     → (e : Term) × (term_head e ≡ h) × (term_operands e ≡ ts)
 unfolding ok14
-term_node [] ts l g m = absurd (omega arith)
-term_node (k ∷ []) ts l g m = absurd (omega arith)
-term_node (k ∷ r ∷ []) ts l g m = absurd (omega arith)
-term_node (k ∷ r ∷ ir ∷ []) ts l g m = absurd (omega arith)
-term_node (k ∷ r ∷ ir ∷ z ∷ []) ts l g m = absurd (omega arith)
-term_node (k ∷ r ∷ ir ∷ z ∷ lo ∷ []) ts l g m = absurd (omega arith)
-term_node (k ∷ r ∷ ir ∷ z ∷ lo ∷ hi ∷ []) ts l g m = absurd (omega arith)
-term_node (k ∷ r ∷ ir ∷ z ∷ lo ∷ hi ∷ c ∷ []) ts l g m = absurd (omega arith)
 term_node (k ∷ r ∷ ir ∷ z ∷ lo ∷ hi ∷ c ∷ ic ∷ []) ts l g m =
     let p = node_of k r ir z lo hi c ic ts (fields (signature_of k) k r ir z (lo + 256 * hi) c ic g.passes) g.low m in
     (made k r ir (lo + 256 * hi) c ic ts, p.0, p.1)
-term_node (k ∷ r ∷ ir ∷ z ∷ lo ∷ hi ∷ c ∷ ic ∷ x ∷ h) ts l g m = absurd (omega arith)
+term_node _ ts l g m = absurd (omega arith)
 
 abbrev pub term_prefix : Prefix term_code
 term_prefix =

@@ -1,16 +1,13 @@
 -- What stands at a place of a types table.
-use mathlib.Core.Path.{◌≡◌, refl, ap, sym, ◌∙◌}
-use mathlib.Core.Bool.{Bool, true}
-use mathlib.Core.List.{[], ◌∷◌, ◌++◌}
-use mathlib.Core.Option.{some}
-use Prim.Native.Nat.{ℕ, suc, ◌+◌, ◌*◌, ◌-◌, ◌≤◌, ◌<◌}
-use native.Mathlib.Omega.{arith}
-use lib.ListN.{length, get_or, drop, length-drop}
+use Rattle.std.proofs.Common.{◌≡◌, refl, ap, sym, ◌∙◌, Bool, true, [], ◌∷◌, ◌++◌, ℕ, suc, ◌+◌, ◌*◌, ◌-◌, ◌≤◌, ◌<◌}
+use Rattle.std.proofs.Common.{arith, length, get_or, drop, length-drop}
+use Rattle.std.proofs.Math.Option.{some}
 use Rattle.calculus.specs.Security.{Property}
-use Rattle.calculus.specs.Types.{one, number, Former, sum, product, function, Parts, Ty, leaf, node, top, size_t}
+use Rattle.calculus.specs.Types.{one, number, Former, Parts, Ty, leaf, node, top, size_t}
 use Rattle.rules.specs.Answer.{Bytes, byte}
 use Rattle.rules.specs.Limits.{type_width}
-use Rattle.rules.specs.Types.{type_count, type_kind, type_r, type_ir, type_c, type_ic, former_kind, encode_type, no_type, parse_types, type_at, type_end}
+use Rattle.rules.specs.Types.{type_count, type_kind, type_r, type_ir, type_c, type_ic, former_kind, encode_type}
+use Rattle.rules.specs.Types.{no_type, parse_types, type_at, type_end}
 use Rattle.rules.proofs.Prefix.{record_at}
 use Rattle.rules.proofs.PrefixLaws.{record_is, round_trip, tree_end}
 use Rattle.rules.proofs.Nodes.{Every, to_nodes, operand_at}
@@ -25,17 +22,11 @@ type_at_is t i e rest h = ap (λ b. get_or (parse_types b) 0 no_type) h ∙ ap (
 -- outside the table
 too_short : (b : Bytes) → length b < 6 → parse_types b ≡ []
 unfolding parse_types
-too_short [] l = refl
-too_short (k ∷ []) l = refl
-too_short (k ∷ r ∷ []) l = refl
-too_short (k ∷ r ∷ ir ∷ []) l = refl
-too_short (k ∷ r ∷ ir ∷ z ∷ []) l = refl
-too_short (k ∷ r ∷ ir ∷ z ∷ c ∷ []) l = refl
-too_short (k ∷ r ∷ ir ∷ z ∷ c ∷ ic ∷ b) l = absurd (omega arith)
+too_short b l = grind arith
 
 pub type_at_outside : (t : Bytes) (i : ℕ) → type_count t ≤ i → type_at t i ≡ no_type
 unfolding type_at
-type_at_outside t i l = ap (λ ts. get_or ts 0 no_type) (too_short (drop (type_width * i) t) (omega (arith, length-drop (type_width * i) t)))
+type_at_outside t i l = grind (arith, too_short, length-drop)
 
 -- The type that record i starts: its bytes stand there, and it ends within the table.
 pub record Standing (t : Bytes) (i : ℕ) : Type 0 where
@@ -59,17 +50,13 @@ stands t i e rest h l =
 pub left_side : (t : Bytes) (i : ℕ) → Standing t i → (f : Former) (k : Property) (a b : Ty) → type_at t i ≡ node f k a b → type_at t (suc i) ≡ a
 left_side t i st f k a b p =
     let z : suc i + 0 ≡ suc i = omega arith in
-    ap (type_at t) (sym z)
-    ∙ type_at_is t (suc i + 0) a _
-    (operand_at type_code t i (node f k a b) st.rest (st.bytes ∙ ap (λ e. encode_type e ++ st.rest) p) [] a (b ∷ []) refl)
+    cc (z, type_at_is t (suc i + 0) a _ (operand_at type_code t i (node f k a b) st.rest (st.bytes ∙ ap (λ e. encode_type e ++ st.rest) p) [] a (b ∷ []) refl))
 
 pub right_side : (t : Bytes) (i : ℕ) → Standing t i → (f : Former) (k : Property) (a b : Ty) → type_at t i ≡ node f k a b
     → type_at t (suc i + size_t a) ≡ b
 right_side t i st f k a b p =
     let z : suc i + (size_t a + 0) ≡ suc i + size_t a = omega arith in
-    ap (type_at t) (sym z)
-    ∙ type_at_is t (suc i + (size_t a + 0)) b _
-    (operand_at type_code t i (node f k a b) st.rest (st.bytes ∙ ap (λ e. encode_type e ++ st.rest) p) (a ∷ []) b [] refl)
+    cc (z, type_at_is t (suc i + (size_t a + 0)) b _ (operand_at type_code t i (node f k a b) st.rest (st.bytes ∙ ap (λ e. encode_type e ++ st.rest) p) (a ∷ []) b [] refl))
 
 -- the record of the type that stands at i
 pub own_record : (t : Bytes) (i : ℕ) → Standing t i → record_at type_width t i ≡ type_head (type_at t i)
@@ -83,8 +70,7 @@ abbrev property : Bytes → Property
 property h = record { r = byte h 1; ir = byte h 2; c = byte h 4; ic = byte h 5 }
 
 top_of_head : (e : Ty) → property (type_head e) ≡ top e
-top_of_head (leaf b k) = refl
-top_of_head (node f k s t) = refl
+top_of_head e = grind arith
 
 module _ (t : Bytes) (i : ℕ) (st : Standing t i) where
   own_property : property (record_at type_width t i) ≡ top (type_at t i)
@@ -111,20 +97,10 @@ asked_of_type ok own t h i st =
 
 -- a kind with two sides, against the type
 former_injective : (f f' : Former) → former_kind f ≡ former_kind f' → f ≡ f'
-former_injective sum sum h = refl
-former_injective sum product h = absurd (omega arith)
-former_injective sum function h = absurd (omega arith)
-former_injective product sum h = absurd (omega arith)
-former_injective product product h = refl
-former_injective product function h = absurd (omega arith)
-former_injective function sum h = absurd (omega arith)
-former_injective function product h = absurd (omega arith)
-former_injective function function h = refl
+former_injective f f' h = grind arith
 
 former_between : (f : Former) → (1 ≤ former_kind f) × (former_kind f ≤ 3)
-former_between sum = (omega arith, omega arith)
-former_between product = (omega arith, omega arith)
-former_between function = (omega arith, omega arith)
+former_between f = grind arith
 
 pub of_kind : (f : Former) (e : Ty) → byte (type_head e) 0 ≡ former_kind f → (p : Parts) × (e ≡ node f p.own p.lhs p.rhs)
 of_kind f (leaf one k) h = absurd (omega (arith, (former_between f).0))

@@ -1,19 +1,16 @@
 -- A types table that passes questions 8, 9 and 11: every record starts a type, which is written out there.
-use mathlib.Core.Path.{◌≡◌, refl, ap, sym, subst, ◌∙◌}
-use mathlib.Core.Bool.{true, not, false≢true, and-eq-true_iff}
-use mathlib.Core.List.{List, [], ◌∷◌, ◌++◌}
-use mathlib.Core.Option.{Option, none, some}
-use Prim.Native.Nat.{ℕ, zero, suc, ◌+◌, ◌*◌, ◌-◌, ◌%◌, ◌≤◌, ◌<◌}
-use native.Mathlib.Omega.{arith}
-use native.Mathlib.Decide.{dec_lt}
-use borrow.Author.Tests.{eqb-true, leb-true}
-use lib.Dec.{eqb, leb}
-use lib.ListN.{length, drop, drop_of_length-le}
+use Rattle.std.proofs.Common.{◌≡◌, refl, ap, sym, subst, ◌∙◌, true, not, List, [], ◌∷◌, ◌++◌, ℕ, zero, suc, ◌+◌, ◌*◌}
+use Rattle.std.proofs.Common.{◌-◌, ◌%◌, ◌≤◌, ◌<◌, arith, eqb-true, leb-true, nat_eq, nat_le, length, drop}
+use Rattle.std.proofs.Common.{drop_of_length-le}
+use Rattle.std.proofs.Math.Bool.{and-eq-true_iff, false≢true}
+use Rattle.std.proofs.Math.Option.{none, some, Option}
+use Rattle.std.proofs.Math.Decide.{dec_lt}
 use Rattle.calculus.specs.Types.{Ty, size_t, type_limit}
-use Rattle.rules.specs.Answer.{Bytes, accepted, is_none}
+use Rattle.rules.specs.Answer.{Bytes, accepted, is_absent}
 use Rattle.rules.specs.Limits.{type_width}
 use Rattle.rules.specs.Groups.{rows}
-use Rattle.rules.specs.Types.{type_count, type_kind, type_zero, sides, encode_type, type_at, type_end, pending, short, ok9, ok11, ok12, q8, q9, q11, q12}
+use Rattle.rules.specs.Types.{type_count, type_kind, type_zero, sides, encode_type, type_at, type_end, pending, short}
+use Rattle.rules.specs.Types.{ok9, ok11, ok12, q8, q9, q11, q12}
 use Rattle.rules.proofs.Search.{each_all}
 use Rattle.rules.proofs.Asked.{ask_true}
 use Rattle.rules.proofs.Prefix.{All, joined, total}
@@ -22,7 +19,7 @@ use Rattle.rules.proofs.PrefixLaws.{size_positive, joined_length, past_trees}
 use Rattle.rules.proofs.WayBack.{Tree, way_back, one_tree, end_bound}
 use Rattle.rules.proofs.TypePlaces.{type_at_is, Standing, stands}
 use Rattle.rules.proofs.Pending.{settle}
-use Rattle.rules.proofs.Nodes.{At, Within, within, node_at, at_size, at_bytes}
+use Rattle.rules.proofs.Nodes.{NodeAt, Within, within, node_at, at_size, at_bytes}
 use Rattle.rules.proofs.TypeCode.{type_shape, type_code, type_prefix}
 use Rattle.rules.proofs.RecordFields.{type_kind_is, type_zero_is}
 
@@ -61,14 +58,14 @@ passes g t q8_yes q9_yes q11_yes =
       ends = each_all 11 (type_count t) (ok11 t) q11_yes;
     }
 
-is_some : (o : Option ℕ) → not (is_none o) ≡ true → (e : ℕ) × (o ≡ some e)
+is_some : (o : Option ℕ) → not (is_absent o) ≡ true → (e : ℕ) × (o ≡ some e)
 is_some none h = absurd (false≢true h)
 is_some (some e) h = (e, refl)
 
 module _ (t : Bytes) (P : Passes t) where
   outermost_end : (i : ℕ) → i < type_count t → pending t i ≡ 0 → (e : ℕ) × (type_end t i ≡ some e)
   unfolding ok11
-  outermost_end i l p = is_some (type_end t i) (rw (ap (λ n. eqb n 0) p) at (P.ends i l))
+  outermost_end i l p = is_some (type_end t i) (rw (ap (λ n. nat_eq n 0) p) at (P.ends i l))
 
   outermost_tree : (i e : ℕ) → i < type_count t → type_end t i ≡ some e → Tree type_code t i e
   unfolding type_end
@@ -113,7 +110,7 @@ record Part (Q : Ty → Type 0) (t : Bytes) (i : ℕ) : Type 0 where
   outer : Ty
   own : Ty
   place : ℕ
-  at : At type_shape outer place own
+  at : NodeAt type_shape outer place own
   known : Q outer
   rest : Bytes
   bytes : drop (type_width * i) t ≡ encode_type own ++ rest
@@ -125,7 +122,7 @@ outer_bytes t ts i h w =
     past_trees type_code t 0 w.before (encode_type w.tree ++ joined encode_type w.after)
     (h ∙ ap (joined encode_type) w.is ∙ joined_append encode_type w.before (w.tree ∷ w.after))
 
-part_in : (Q : Ty → Type 0) (t : Bytes) (i : ℕ) (f : Forest Q t 0) (w : Within size_t f.trees i) (c : Ty) → At type_shape w.tree w.place c
+part_in : (Q : Ty → Type 0) (t : Bytes) (i : ℕ) (f : Forest Q t 0) (w : Within size_t f.trees i) (c : Ty) → NodeAt type_shape w.tree w.place c
     → Part Q t i
 part_in Q t i f w c a =
     let b = total size_t w.before in
@@ -161,8 +158,8 @@ outermost_short : (t : Bytes) → q12 t ≡ accepted tt → (i : ℕ) (e : Ty) �
     → size_t e ≤ type_limit
 unfolding ok12
 outermost_short t q i e l p h =
-    let r : short (type_end t i) i ≡ true = rw (ap (λ n. eqb n 0) p) at (each_all 12 (type_count t) (ok12 t) q i l) in
-    let m : leb (i + size_t e - i) type_limit ≡ true = ap (λ o. short o i) (sym h) ∙ r in
+    let r : short (type_end t i) i ≡ true = rw (ap (λ n. nat_eq n 0) p) at (each_all 12 (type_count t) (ok12 t) q i l) in
+    let m : nat_le (i + size_t e - i) type_limit ≡ true = ap (λ o. short o i) (sym h) ∙ r in
     omega (arith, leb-true (i + size_t e - i) type_limit m)
 
 pub every_short : (t : Bytes) → Passes t → q12 t ≡ accepted tt → (i : ℕ) → i < type_count t → size_t (type_at t i) ≤ type_limit

@@ -1,9 +1,6 @@
 -- What question 16 asks of less than, in the words of the tree: the named type is a sum of two units.
-use mathlib.Core.Path.{◌≡◌, refl, ap, ap₂, sym, ◌∙◌}
-use mathlib.Core.Bool.{true, and-eq-true_iff}
-use Prim.Native.Nat.{ℕ, suc, ◌+◌, ◌<◌}
-use native.Mathlib.Omega.{arith}
-use borrow.Author.Tests.{eqb-true}
+use Rattle.std.proofs.Common.{◌≡◌, refl, ap, ap₂, sym, ◌∙◌, true, ℕ, suc, ◌+◌, ◌<◌, arith, eqb-true}
+use Rattle.std.proofs.Math.Bool.{and-eq-true_iff}
 use Rattle.calculus.specs.Security.{Property}
 use Rattle.calculus.specs.Types.{one, number, sum, product, function, Ty, leaf, node, size_t}
 use Rattle.rules.specs.Answer.{Bytes, byte}
@@ -17,10 +14,8 @@ use Rattle.rules.proofs.TypeTables.{Passes, standing}
 -- a unit by its kind
 unit_of : (e : Ty) → byte (type_head e) 0 ≡ 0 → (k : Property) × (e ≡ leaf one k)
 unit_of (leaf one k) h = (k, refl)
-unit_of (leaf number k) h = absurd (omega arith)
 unit_of (node sum k s t) h = absurd (omega arith)
-unit_of (node product k s t) h = absurd (omega arith)
-unit_of (node function k s t) h = absurd (omega arith)
+unit_of _ h = absurd (omega arith)
 
 pub record UnitSum (e : Ty) : Type 0 where
   pub own : Property

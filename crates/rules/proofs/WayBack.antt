@@ -1,24 +1,21 @@
 -- The way back: where the pending count comes to an end over good records, those records are trees.
-use mathlib.Core.Path.{◌≡◌, refl, ap, ap₂, sym, ◌∙◌}
-use mathlib.Core.List.{List, [], ◌∷◌, ◌++◌, append_assoc, append-nil}
-use mathlib.Core.Option.{some, none-ne-some, some-injective}
-use Prim.Native.Nat.{ℕ, zero, suc, ◌+◌, ◌*◌, ◌≤◌, ◌<◌}
-use native.Mathlib.Omega.{arith}
-use native.Mathlib.Nat.{mul-le-mul_left}
-use lib.ListN.{length, take, drop, length-drop, take-append-drop}
-use lib.Seq.{length-take-le, drop-drop}
+use Rattle.std.proofs.Common.{◌≡◌, refl, ap, ◌∙◌, List, [], ◌∷◌, ◌++◌, append_assoc, append-nil, ℕ, zero, suc, ◌+◌, ◌*◌}
+use Rattle.std.proofs.Common.{◌≤◌, ◌<◌, arith, mul-le-mul_left, length, take, drop, length-drop, take-append-drop}
+use Rattle.std.proofs.Common.{length-take-le, drop-drop}
+use Rattle.std.proofs.Math.Option.{some, none-ne-some, some-injective}
 use Rattle.rules.specs.Answer.{Bytes}
 use Rattle.rules.specs.Types.{end_after}
 use Rattle.rules.proofs.Prefix.{joined, total, Shape, Code, Prefix, record_at}
 use Rattle.rules.proofs.Parts.{joined_append, total_append, record_first}
 use Rattle.rules.proofs.PrefixLaws.{ops}
+use Rattle.std.proofs.lemmas.Grind.{common_steps}
 
 -- the count ends within the records that are left
 pub end_bound : (f : ℕ → ℕ) (left need i e : ℕ) → end_after f left need i ≡ some e → e ≤ i + left
 unfolding end_after
-end_bound f zero zero i e h = omega (arith, some-injective i e h)
-end_bound f zero (suc need) i e h = absurd (none-ne-some e h)
-end_bound f (suc left) zero i e h = omega (arith, some-injective i e h)
+end_bound f zero zero i e h = grind (arith, some-injective)
+end_bound f zero (suc need) i e h = cc
+end_bound f (suc left) zero i e h = grind (arith, some-injective)
 end_bound f (suc left) (suc need) i e h = omega (arith, end_bound f left (need + f i) (suc i) e h)
 
 -- `need` trees stand in s from record i to record e.
@@ -38,23 +35,17 @@ module _ {T : Type 0} {S : Shape T} {C : Code S} (X : Prefix C) (s : Bytes) wher
   front_bytes : (i : ℕ) (d : T) (us rest : List ℕ) → C.head d ≡ record_at C.width s i
       → drop (C.width * suc i) s ≡ joined C.encode (S.operands d) ++ us ++ rest → drop (C.width * i) s ≡ C.encode d ++ us ++ rest
   front_bytes i d us rest h b =
-      let w = C.width in
-      let below = joined C.encode (S.operands d) in
-      let next : w * i + w ≡ w * suc i = omega arith in
-      sym (take-append-drop w (drop (w * i) s))
-      ∙ ap₂ ◌++◌ (sym h) (drop-drop w (w * i) s ∙ ap (λ k. drop k s) next ∙ b)
-      ∙ sym (append_assoc (C.head d) (below ++ us) rest)
-      ∙ ap (λ x. x ++ rest) (sym (append_assoc (C.head d) below us) ∙ ap (λ x. x ++ us) (sym (C.encode_is d)))
+      let next : C.width * i + C.width ≡ C.width * suc i = omega arith in
+      rw (← take-append-drop C.width (drop (C.width * i) s), drop-drop C.width (C.width * i) s, next, b, ← h, C.encode_is d) (simp append_assoc)
 
   made : (i e need n : ℕ) (ts : List T) (d : T) → C.head d ≡ record_at C.width s i → S.operands d ≡ take n ts → length ts ≡ need + n
       → drop (C.width * suc i) s ≡ joined C.encode ts ++ drop (C.width * e) s → e ≡ suc i + total S.size ts → Trees C s (suc need) i e
   made i e need n ts d h o l b z =
-      let split : ts ≡ S.operands d ++ drop n ts = sym (ap (λ x. x ++ drop n ts) o ∙ take-append-drop n ts) in
-      let bytes = ap (joined C.encode) split ∙ joined_append C.encode (S.operands d) (drop n ts) in
+      let split : ts ≡ S.operands d ++ drop n ts = cc (take-append-drop n ts) in
       record {
         trees = d ∷ drop n ts;
         count = omega (arith, length-drop n ts);
-        bytes = front_bytes i d (joined C.encode (drop n ts)) (drop (C.width * e) s) h (b ∙ ap (λ x. x ++ drop (C.width * e) s) bytes);
+        bytes = front_bytes i d (joined C.encode (drop n ts)) (drop (C.width * e) s) h (cc (b, joined_append C.encode (S.operands d) (drop n ts)));
         end = omega (arith, S.size_is d, total_append S.size (S.operands d) (drop n ts), ap (total S.size) split);
       }
 
@@ -62,10 +53,7 @@ module _ {T : Type 0} {S : Shape T} {C : Code S} (X : Prefix C) (s : Bytes) wher
   front_tree : (i need : ℕ) (ts : List T) → C.width * suc i ≤ length s → X.Good (record_at C.width s i) → length ts ≡ need + ops X s i
       → (d : T) × (C.head d ≡ record_at C.width s i) × (S.operands d ≡ take (ops X s i) ts)
   front_tree i need ts l good c =
-      X.node (record_at C.width s i) (take (ops X s i) ts)
-      (length-take-le C.width (drop (C.width * i) s) (omega (arith, length-drop (C.width * i) s)))
-      good
-      (length-take-le (ops X s i) ts (omega arith) ∙ ap X.arity (sym (record_first C.width s i X.wide)))
+      X.node (record_at C.width s i) (take (ops X s i) ts) (grind (arith, common_steps)) good (grind (arith, length-take-le, record_first, X.wide))
 
   in_front : (i e need : ℕ) → C.width * suc i ≤ length s → (i < e → X.Good (record_at C.width s i)) → Trees C s (need + ops X s i) (suc i) e
       → Trees C s (suc need) i e

@@ -1,78 +1,37 @@
 -- What widening does to a table's records: as many, each with its own bytes and two zeros after them.
-use mathlib.Core.Path.{◌≡◌, refl, ap, sym, ◌∙◌}
-use mathlib.Core.List.{[], ◌∷◌, ◌++◌}
-use Prim.Native.Nat.{ℕ, zero, suc, ◌+◌, ◌*◌, ◌-◌, ◌≤◌, ◌<◌}
-use native.Mathlib.Omega.{arith}
-use native.Mathlib.Decide.{dec_lt}
-use lib.ListN.{length, take, drop, drop_of_length-le, get_or-eq_default}
+use Rattle.std.proofs.Common.{◌≡◌, refl, ap, sym, ◌∙◌, [], ◌∷◌, ◌++◌, ℕ, zero, suc, ◌+◌, ◌*◌, ◌-◌, ◌≤◌, ◌<◌, arith}
+use Rattle.std.proofs.Common.{length, take, drop, drop_of_length-le}
+use Rattle.std.proofs.Math.Decide.{dec_lt}
+use Rattle.std.proofs.Math.ListN.{get_or-eq_default}
 use Rattle.rules.specs.Answer.{Bytes, byte, Octets}
 use Rattle.rules.specs.Limits.{type_width, script_width, old_type_width, old_script_width}
 use Rattle.rules.specs.Types.{type_count}
 use Rattle.rules.specs.Script.{records}
-use Rattle.rules.specs.Callers.{old_type_count, old_records, write_callers}
+use Rattle.rules.specs.Callers.{old_records, write_callers}
 use Rattle.rules.specs.Rewriting.{widen_types, widen_script}
 use Rattle.rules.proofs.Callers.{callers_length, callers_byte}
-
--- Record by record.
-pub widen_types_first : (t : Bytes) → old_type_width ≤ length t
-    → widen_types t ≡ take old_type_width t ++ (0 ∷ 0 ∷ widen_types (drop old_type_width t))
-unfolding widen_types
-widen_types_first [] l = absurd (omega arith)
-widen_types_first (k ∷ []) l = absurd (omega arith)
-widen_types_first (k ∷ r ∷ []) l = absurd (omega arith)
-widen_types_first (k ∷ r ∷ ir ∷ []) l = absurd (omega arith)
-widen_types_first (k ∷ r ∷ ir ∷ z ∷ t) l = refl
-
-pub widen_types_cut : (t : Bytes) → length t < old_type_width → widen_types t ≡ []
-unfolding widen_types
-widen_types_cut [] l = refl
-widen_types_cut (k ∷ []) l = refl
-widen_types_cut (k ∷ r ∷ []) l = refl
-widen_types_cut (k ∷ r ∷ ir ∷ []) l = refl
-widen_types_cut (k ∷ r ∷ ir ∷ z ∷ t) l = absurd (omega arith)
+use Rattle.rules.proofs.OldTables.{old_type_count}
+use Rattle.std.proofs.lemmas.Grind.{common_steps}
 
 pub widen_script_first : (s : Bytes) → old_script_width ≤ length s
     → widen_script s ≡ take old_script_width s ++ (0 ∷ 0 ∷ widen_script (drop old_script_width s))
 unfolding widen_script
-widen_script_first [] l = absurd (omega arith)
-widen_script_first (k ∷ []) l = absurd (omega arith)
-widen_script_first (k ∷ r ∷ []) l = absurd (omega arith)
-widen_script_first (k ∷ r ∷ ir ∷ []) l = absurd (omega arith)
-widen_script_first (k ∷ r ∷ ir ∷ z ∷ []) l = absurd (omega arith)
-widen_script_first (k ∷ r ∷ ir ∷ z ∷ lo ∷ []) l = absurd (omega arith)
 widen_script_first (k ∷ r ∷ ir ∷ z ∷ lo ∷ hi ∷ s) l = refl
-
-pub widen_script_cut : (s : Bytes) → length s < old_script_width → widen_script s ≡ []
-unfolding widen_script
-widen_script_cut [] l = refl
-widen_script_cut (k ∷ []) l = refl
-widen_script_cut (k ∷ r ∷ []) l = refl
-widen_script_cut (k ∷ r ∷ ir ∷ []) l = refl
-widen_script_cut (k ∷ r ∷ ir ∷ z ∷ []) l = refl
-widen_script_cut (k ∷ r ∷ ir ∷ z ∷ lo ∷ []) l = refl
-widen_script_cut (k ∷ r ∷ ir ∷ z ∷ lo ∷ hi ∷ s) l = absurd (omega arith)
+widen_script_first _ l = absurd (omega arith)
 
 -- The lengths.
 pub widen_types_length : (t : Bytes) → length (widen_types t) ≡ type_width * old_type_count t
 unfolding widen_types
-widen_types_length [] = refl
-widen_types_length (k ∷ []) = refl
-widen_types_length (k ∷ r ∷ []) = refl
-widen_types_length (k ∷ r ∷ ir ∷ []) = refl
 widen_types_length (k ∷ r ∷ ir ∷ z ∷ t) = omega (arith, widen_types_length t)
+widen_types_length _ = refl
 
 pub widen_types_count : (t : Bytes) → type_count (widen_types t) ≡ old_type_count t
 widen_types_count t = omega (arith, widen_types_length t)
 
 pub widen_script_length : (s : Bytes) → length (widen_script s) ≡ script_width * old_records s
 unfolding widen_script
-widen_script_length [] = refl
-widen_script_length (k ∷ []) = refl
-widen_script_length (k ∷ r ∷ []) = refl
-widen_script_length (k ∷ r ∷ ir ∷ []) = refl
-widen_script_length (k ∷ r ∷ ir ∷ z ∷ []) = refl
-widen_script_length (k ∷ r ∷ ir ∷ z ∷ lo ∷ []) = refl
 widen_script_length (k ∷ r ∷ ir ∷ z ∷ lo ∷ hi ∷ s) = omega (arith, widen_script_length s)
+widen_script_length _ = refl
 
 pub widen_script_records : (s : Bytes) → records (widen_script s) ≡ old_records s
 widen_script_records s = omega (arith, widen_script_length s)
@@ -107,8 +66,7 @@ widen_script_byte (k ∷ r ∷ ir ∷ z ∷ lo ∷ []) i n l m = absurd (omega a
 widen_script_byte (k ∷ r ∷ ir ∷ z ∷ lo ∷ hi ∷ s) (suc i) n l m =
     let p : 8 * suc i + n ≡ suc (suc (suc (suc (suc (suc (suc (suc (8 * i + n)))))))) = omega arith in
     let q : 6 * suc i + n ≡ suc (suc (suc (suc (suc (suc (6 * i + n)))))) = omega arith in
-    ap (byte (k ∷ r ∷ ir ∷ z ∷ lo ∷ hi ∷ 0 ∷ 0 ∷ widen_script s)) p ∙ widen_script_byte s i n (omega arith) m
-    ∙ ap (byte (k ∷ r ∷ ir ∷ z ∷ lo ∷ hi ∷ s)) (sym q)
+    cc (p, widen_script_byte s i n (omega arith) m, q)
 widen_script_byte (k ∷ r ∷ ir ∷ z ∷ lo ∷ hi ∷ s) zero zero l m = refl
 widen_script_byte (k ∷ r ∷ ir ∷ z ∷ lo ∷ hi ∷ s) zero (suc zero) l m = refl
 widen_script_byte (k ∷ r ∷ ir ∷ z ∷ lo ∷ hi ∷ s) zero (suc (suc zero)) l m = refl
@@ -116,20 +74,6 @@ widen_script_byte (k ∷ r ∷ ir ∷ z ∷ lo ∷ hi ∷ s) zero (suc (suc (suc
 widen_script_byte (k ∷ r ∷ ir ∷ z ∷ lo ∷ hi ∷ s) zero (suc (suc (suc (suc zero)))) l m = refl
 widen_script_byte (k ∷ r ∷ ir ∷ z ∷ lo ∷ hi ∷ s) zero (suc (suc (suc (suc (suc zero))))) l m = refl
 widen_script_byte (k ∷ r ∷ ir ∷ z ∷ lo ∷ hi ∷ s) zero (suc (suc (suc (suc (suc (suc n)))))) l m = absurd (omega arith)
-
--- c and ic, and past the last record everything, are 0
-pub widen_types_zero : (t : Bytes) (i n : ℕ) → n < 2 → byte (widen_types t) (type_width * i + (old_type_width + n)) ≡ 0
-unfolding widen_types
-widen_types_zero [] i n m = refl
-widen_types_zero (k ∷ []) i n m = refl
-widen_types_zero (k ∷ r ∷ []) i n m = refl
-widen_types_zero (k ∷ r ∷ ir ∷ []) i n m = refl
-widen_types_zero (k ∷ r ∷ ir ∷ z ∷ t) (suc i) n m =
-    let p : 6 * suc i + (4 + n) ≡ suc (suc (suc (suc (suc (suc (6 * i + (4 + n))))))) = omega arith in
-    ap (byte (k ∷ r ∷ ir ∷ z ∷ 0 ∷ 0 ∷ widen_types t)) p ∙ widen_types_zero t i n m
-widen_types_zero (k ∷ r ∷ ir ∷ z ∷ t) zero zero m = refl
-widen_types_zero (k ∷ r ∷ ir ∷ z ∷ t) zero (suc zero) m = refl
-widen_types_zero (k ∷ r ∷ ir ∷ z ∷ t) zero (suc (suc n)) m = absurd (omega arith)
 
 pub widen_script_zero : (s : Bytes) (i n : ℕ) → n < 2 → byte (widen_script s) (script_width * i + (old_script_width + n)) ≡ 0
 unfolding widen_script
@@ -169,9 +113,7 @@ widen_script_octets (k ∷ r ∷ ir ∷ z ∷ lo ∷ hi ∷ s) o (suc (suc (suc 
 -- nothing is left of a record that is cut short
 none : (t : Bytes) (i : ℕ) → length t < old_type_width → drop (type_width * suc i) (widen_types t) ≡ widen_types (drop (old_type_width * suc i) t)
 unfolding widen_types
-none t i l =
-    drop_of_length-le (widen_types t) {i = type_width * suc i} (omega (arith, ap length (widen_types_cut t l)))
-    ∙ ap widen_types (sym (drop_of_length-le t {i = old_type_width * suc i} (omega arith)))
+none t i l = grind (arith, common_steps)
 
 -- the records from record i on
 pub widen_types_drop : (t : Bytes) (i : ℕ) → drop (type_width * i) (widen_types t) ≡ widen_types (drop (old_type_width * i) t)
@@ -184,8 +126,7 @@ widen_types_drop (k ∷ r ∷ ir ∷ []) (suc i) = none (k ∷ r ∷ ir ∷ []) 
 widen_types_drop (k ∷ r ∷ ir ∷ z ∷ t) (suc i) =
     let p : 6 * suc i ≡ suc (suc (suc (suc (suc (suc (6 * i)))))) = omega arith in
     let q : 4 * suc i ≡ suc (suc (suc (suc (4 * i)))) = omega arith in
-    ap (λ (n : ℕ). drop n (k ∷ r ∷ ir ∷ z ∷ 0 ∷ 0 ∷ widen_types t)) p ∙ widen_types_drop t i
-    ∙ ap (λ (n : ℕ). widen_types (drop n (k ∷ r ∷ ir ∷ z ∷ t))) (sym q)
+    cc (p, widen_types_drop t i, q)
 
 -- With the callers written before it, widening differs in r only.
 pub widened_callers_byte : (t s : Bytes) (i n : ℕ) → n < script_width → (n ≡ 1 → ⊥)

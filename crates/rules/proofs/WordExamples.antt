@@ -1,5 +1,5 @@
 -- Every statement holds by computation.
-use mathlib.Core.Path.{refl}
+use Rattle.std.proofs.Common.{refl}
 use Rattle.rules.specs.WordExamples.{WordExamples}
 use Rattle.rules.specs.Words.{word, words_check}
 use Rattle.rules.specs.Report.{text, our_words, report}

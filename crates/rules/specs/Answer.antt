@@ -1,4 +1,4 @@
--- "The first no gives its number and the place": answers, and the search through rows or records in rising order.
+-- Answers of calls, and the search through rows or records in rising order (manual, 9.1).
 use Rattle.std.specs.Prelude.{Bool, true, false, not, List, ℕ, zero, suc, ◌<◌, get_or}
 use Rattle.std.proofs.Math.Option.{Option, none, some}
 
@@ -24,6 +24,7 @@ abbrev pub ◌>>=◌ : {A B : Type 0} → Answer A → (A → Answer B) → Answ
 ◌>>=◌ (accepted a) f = f a
 ◌>>=◌ (refused q p) f = refused q p
 
+-- the same of an answer that is only yes or no
 abbrev pub ◌>>◌ : {A B : Type 0} → Answer A → Answer B → Answer B
 ◌>>◌ (accepted a) b = b
 ◌>>◌ (refused q p) b = refused q p
@@ -47,24 +48,25 @@ unfoldable pub last_below : (ℕ → Bool) → ℕ → Option ℕ
 last_below test zero = none
 last_below test (suc n) = elim (test n) [ true ↦ some n | false ↦ last_below test n ]
 
-abbrev pub is_none : {A : Type 0} → Option A → Bool
-is_none none = true
-is_none (some a) = false
+-- is there none?
+abbrev pub is_absent : {A : Type 0} → Option A → Bool
+is_absent none = true
+is_absent (some a) = false
 
 -- do all numbers below n pass the test?
 abbrev pub all_below : (ℕ → Bool) → ℕ → Bool
-all_below test n = is_none (first_below (λ i. not (test i)) n)
+all_below test n = is_absent (first_below (λ i. not (test i)) n)
 
 -- a no at a place, if there is one
 abbrev pub refused_at : ℕ → Option ℕ → Answer (Unit {0})
 refused_at q none = accepted tt
 refused_at q (some place) = refused q place
 
--- Question q of each of n rows or records: "all records are tried in rising order before the next question; the place is
--- that row or record".
+-- Question q of each of n rows or records in rising order; the place is the first that is answered no.
 abbrev pub each : ℕ → ℕ → (ℕ → Bool) → Answer (Unit {0})
 each q n ok = refused_at q (first_below (λ i. not (ok i)) n)
 
+-- Does b hold if the first does?
 infixr 25 ◌⇒◌
 abbrev pub ◌⇒◌ : Bool → Bool → Bool
 true ⇒ b = b

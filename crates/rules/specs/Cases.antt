@@ -1,11 +1,11 @@
--- Document 01, 'Cases A to L', in the form of item 10 with c and ic as group 0, each statement a field of one record.
+-- The worked cases A to L (manual, 10): each statement is a field of one record.
 use Rattle.std.specs.Prelude.{◌≡◌, ◌++◌, ◌∷◌, [], ℕ}
 use Rattle.std.proofs.Math.Option.{none}
 use Rattle.rules.specs.Answer.{Bytes, Answer, accepted, refused}
 use Rattle.rules.specs.Groups.{join}
 use Rattle.rules.specs.Types.{type_record}
 use Rattle.rules.specs.Script.{script_record}
-use Rattle.rules.specs.Calls.{groups_check, running, Report, run_report, type_bytes}
+use Rattle.rules.specs.Calls.{groups_check, run_call, Report, run_report, type_bytes}
 use Rattle.rules.specs.Reach.{verdict}
 use Rattle.rules.specs.Report.{text, report}
 
@@ -17,20 +17,21 @@ word w = w ∷ 0 ∷ 0 ∷ 0 ∷ []
 abbrev pub ty : ℕ → ℕ → ℕ → Bytes
 ty kind r ir = type_record kind (record { r = r; ir = ir; c = 0; ic = 0 })
 
--- "Groups 0 ⊑ 1 (words 3, 2)."
+-- groups 0 ⊑ 1: words 3 and 2
 abbrev pub groups : Bytes
 groups = word 3 ++ word 2
 
--- "Types: records 0 to 2 the sum (0,0) of units (0,0); 3 to 5 the function (0,0) from unit to unit, all (0,0)." Case I has other
--- groups in record 3.
+-- Records 0 to 2 are the sum (0,0) of units (0,0), records 3 to 5 a function from unit to unit, all (0,0) but for the
+-- function's groups, which are given.
 abbrev pub types_with : ℕ → ℕ → Bytes
 types_with r ir = ty 1 0 0 ++ ty 0 0 0 ++ ty 0 0 0 ++ ty 3 r ir ++ ty 0 0 0 ++ ty 0 0 0
 
+-- the same with (0,0) as the function's groups
 abbrev pub types : Bytes
 types = types_with 0 0
 
--- "The case term has 7 records: tested first injection of unit, branches first and second injection (0,0), every unit (0,0), type 0."
--- Given are the groups of the tested injection and r of the case.
+-- The case term: a first injection of a unit is tested, and its branches are a first and a second injection (0,0);
+-- every unit is (0,0), and every type 0. Given are the groups of the tested injection and r of the case.
 abbrev pub case_term : ℕ → ℕ → ℕ → Bytes
 case_term r ir w =
     script_record 9 w 0 0
@@ -41,8 +42,8 @@ case_term r ir w =
     ++ script_record 5 0 0 0
     ++ script_record 1 0 0 0
 
--- G: "application of recursion (type 3) of function (type 4) of variable 1 applied to 0, to unit". Given are the outer application's r
--- and the recursion's group, r of its type.
+-- The loop: a recursion of type 3, whose function applies the recursion to its parameter, is applied to a unit. Given
+-- are the outer application's r and the recursion's group.
 abbrev pub loop : ℕ → ℕ → Bytes
 loop w caller =
     script_record 6 w 0 0
@@ -59,11 +60,13 @@ check t s = type_bytes (verdict groups t s)
 
 -- what a run reports with this budget, in two buffers of so many bytes
 abbrev pub ran : ℕ → ℕ → Bytes → Answer Report
-ran budget room s = run_report (running groups types s budget room room)
+ran budget room s = run_report (run_call groups types s budget room room)
 
+-- a run's report
 abbrev pub ends : ℕ → ℕ → ℕ → Answer Report
 ends end steps count = accepted (record { end = end; steps = steps; count = count })
 
+-- The cases by their letters, each with what is asked.
 pub record Cases : Type 0 where
   pub a_refused : check types (case_term 1 1 0) ≡ refused 21 0
   pub a_run : ran 1000 65536 (case_term 1 1 0) ≡ ends 2 0 7

@@ -1,13 +1,13 @@
--- Examples of document 02's item 10: creators and indirect creators, and the rewriting of what was written before them.
+-- Examples of creators and indirect creators, and of the rewriting of forms 1 and 2, which had none.
 use Rattle.std.specs.Prelude.{◌≡◌, [], ◌∷◌, ◌++◌, ℕ, ◌/◌, ◌%◌}
 use Rattle.rules.specs.Answer.{Bytes, Answer, accepted, refused}
 use Rattle.rules.specs.Limits.{type_width, script_width}
 use Rattle.rules.specs.Types.{type_record}
-use Rattle.rules.specs.Comparison.{below, neither}
+use Rattle.rules.specs.Comparison.{strictly_below, neither}
 use Rattle.rules.specs.Script.{full_record, script_record}
 use Rattle.rules.specs.Strip.{strip_script, strip_types}
 use Rattle.rules.specs.Callers.{write_callers, callers_written}
-use Rattle.rules.specs.Calls.{types_check, comparing, work_after, stepping, written_after, type_bytes}
+use Rattle.rules.specs.Calls.{types_check, compare_call, work_after, step_call, written_after, type_bytes}
 use Rattle.rules.specs.Rewriting.{rewriting_types, rewriting_script, rewritten_records, rewritten_after}
 use Rattle.rules.specs.Reach.{verdict}
 use Rattle.rules.specs.Cases.{ty, groups, types_with, types, loop, check}
@@ -17,10 +17,11 @@ use Rattle.rules.specs.Examples.{unit, pair, proj, diamond}
 abbrev pub created : ℕ → ℕ → ℕ → ℕ → ℕ → Bytes
 created kind r ir c ic = type_record kind (record { r = r; ir = ir; c = c; ic = ic })
 
--- a unit's record and a pair's with these creators, readers and indirect readers 0
+-- a unit's record with these creators, readers and indirect readers 0
 abbrev pub unit_by : ℕ → ℕ → Bytes
 unit_by c ic = full_record 1 0 0 0 c ic
 
+-- a pair's record with these creators, readers and indirect readers 0
 abbrev pub pair_by : ℕ → ℕ → Bytes
 pair_by c ic = full_record 3 0 0 0 c ic
 
@@ -36,17 +37,19 @@ recursion_by w = script_record 11 w 0 0 ++ (proj 0 ++ unit 0 0)
 abbrev pub check_over : Bytes → Bytes → Answer Bytes
 check_over t s = type_bytes (verdict diamond t s)
 
--- records in the form before item 10
+-- a type record of forms 1 and 2
 abbrev pub old_type : ℕ → ℕ → ℕ → Bytes
 old_type kind r ir = kind ∷ r ∷ ir ∷ 0 ∷ []
 
+-- a script record of these forms
 abbrev pub old_record : ℕ → ℕ → ℕ → ℕ → Bytes
 old_record k r ir n = k ∷ r ∷ ir ∷ 0 ∷ n % 256 ∷ n / 256 ∷ []
 
--- the tables and the term of cases G to I in that form
+-- the types of cases G to I in these forms
 abbrev pub old_types : ℕ → Bytes
 old_types r = old_type 1 0 0 ++ old_type 0 0 0 ++ old_type 0 0 0 ++ old_type 3 r r ++ old_type 0 0 0 ++ old_type 0 0 0
 
+-- the loop of those cases in these forms
 abbrev pub old_loop : ℕ → ℕ → Bytes
 old_loop w caller =
     old_record 6 w 0 0
@@ -57,6 +60,7 @@ old_loop w caller =
     ++ old_record 0 0 0 0
     ++ old_record 1 0 0 0
 
+-- Each field is one input with its answer, computed.
 pub record CreatorExamples : Type 0 where
   -- 9, and 36 of types: after the whole of 10, before 11
   pub creator_past_rows : types_check groups (ty 0 0 0 ++ created 0 0 0 2 0) ≡ refused 9 1
@@ -65,10 +69,10 @@ pub record CreatorExamples : Type 0 where
   pub readers_first : types_check groups (created 0 0 0 0 1 ++ ty 0 0 1) ≡ refused 10 1
   pub creators_before_end : types_check groups (ty 1 0 0 ++ created 0 0 0 0 1) ≡ refused 36 1
   -- below turns creators round: made by more is below
-  pub fewer_creators : comparing groups (created 0 0 0 1 0 ++ created 0 0 0 0 0) 0 1 ≡ accepted below
-  pub more_creators : comparing groups (created 0 0 0 1 0 ++ created 0 0 0 0 0) 1 0 ≡ accepted neither
-  pub fewer_indirect : comparing groups (created 0 0 0 1 1 ++ created 0 0 0 1 0) 0 1 ≡ accepted below
-  -- 14: kinds 1 to 5 name both, protect ic only
+  pub fewer_creators : compare_call groups (created 0 0 0 1 0 ++ created 0 0 0 0 0) 0 1 ≡ accepted strictly_below
+  pub more_creators : compare_call groups (created 0 0 0 1 0 ++ created 0 0 0 0 0) 1 0 ≡ accepted neither
+  pub fewer_indirect : compare_call groups (created 0 0 0 1 1 ++ created 0 0 0 1 0) 0 1 ≡ accepted strictly_below
+  -- 14: objects name c and ic, a protect ic alone
   pub variable_created : check types (full_record 0 0 0 0 1 0) ≡ refused 14 0
   pub application_created : check types (full_record 6 0 0 0 0 1 ++ unit 0 0 ++ unit 0 0) ≡ refused 14 0
   pub protect_created : check types (full_record 10 0 0 0 1 0 ++ unit 0 0) ≡ refused 14 0
@@ -85,9 +89,9 @@ pub record CreatorExamples : Type 0 where
   pub read_by_2 : check_over types (script_record 7 2 0 0 ++ pair_by 1 1 ++ unit_by 3 3 ++ unit 0 0) ≡ accepted (created 0 0 0 0 0)
   pub read_by_ic : check_over types (script_record 7 3 0 0 ++ pair_by 3 1 ++ unit_by 3 2 ++ unit 0 0) ≡ accepted (created 0 0 0 1 0)
   -- and a step's protect carries just that
-  pub protect_by_2 : written_after (stepping diamond types (script_record 7 2 0 0 ++ pair_by 3 3 ++ unit_by 3 3 ++ unit 0 0) 16) []
+  pub protect_by_2 : written_after (step_call diamond types (script_record 7 2 0 0 ++ pair_by 3 3 ++ unit_by 3 3 ++ unit 0 0) 16) []
       ≡ full_record 10 0 0 0 0 2 ++ unit_by 3 3
-  pub protected : written_after (stepping diamond types (full_record 10 0 0 0 0 2 ++ unit_by 3 1) 8) [] ≡ unit_by 2 0
+  pub protected : written_after (step_call diamond types (full_record 10 0 0 0 0 2 ++ unit_by 3 1) 8) [] ≡ unit_by 2 0
   -- 23: c of the result ⊑ ic of the function ⊓ the group written, none of them another
   pub created_result : check_over (function_by 3 1 1 0) (recursion_by 3) ≡ refused 20 1
   pub created_above : check_over (function_by 3 1 3 0) (recursion_by 3) ≡ refused 23 0
@@ -96,21 +100,21 @@ pub record CreatorExamples : Type 0 where
   pub found_creators : check_over types (script_record 9 0 0 65535 ++ (full_record 4 0 0 0 3 3 ++ unit 0 0) ++ unit_by 3 1 ++ unit_by 1 1)
       ≡ accepted (created 0 0 0 0 0)
   -- unrolled: the function has all four groups of the type's record
-  pub unrolled_created : written_after (stepping diamond (function_by 3 1 1 0) (script_record 11 0 0 0 ++ script_record 0 0 0 0) 40) []
+  pub unrolled_created : written_after (step_call diamond (function_by 3 1 1 0) (script_record 11 0 0 0 ++ script_record 0 0 0 0) 40) []
       ≡ full_record 2 0 0 1 3 1 ++ script_record 6 0 0 0 ++ script_record 11 0 0 0 ++ script_record 0 0 0 0 ++ script_record 0 0 0 0
   -- stripping clears all four groups, and no other byte
   pub object_stripped : strip_script (full_record 4 1 1 65535 1 1) ≡ full_record 4 0 0 65535 0 0
   pub type_stripped : strip_types (created 3 1 1 1 1) ≡ created 3 0 0 0 0
-  -- item 6, of scripts in the form before: r of the type in byte 1 of a recursion, and in no other record: not where the type doesn't
-  -- exist, nor in a record that is cut short
+  -- Writing the callers of form 1: r of the type in byte 1 of a recursion, and in no other record; not where the type
+  -- doesn't exist, nor in a record that is cut short.
   pub caller_written : write_callers (old_types 1) (old_loop 1 0) ≡ old_loop 1 1
   pub caller_replaced : write_callers (old_types 0) (old_loop 1 1) ≡ old_loop 1 0
   pub no_such_caller : write_callers (old_types 1) (old_record 11 0 0 6 ++ old_record 1 0 0 0) ≡ old_record 11 0 0 6 ++ old_record 1 0 0 0
   pub caller_cut_short : write_callers (old_types 1) (old_record 11 0 0 3 ++ (11 ∷ 0 ∷ 0 ∷ 0 ∷ 3 ∷ [])) ≡ old_record 11 1 0 3 ++ (11 ∷ 0 ∷ 0 ∷ 0 ∷ 3 ∷ [])
   pub one_written : callers_written (old_types 0) (old_loop 0 0) ≡ 1
   pub none_written : callers_written (old_types 0) (old_record 11 0 0 6 ++ old_record 9 0 0 0 ++ (11 ∷ 0 ∷ 0 ∷ 0 ∷ 3 ∷ [])) ≡ 0
-  -- the rewriting: c and ic as group 0; the record count; 8 and 13 of the old lengths, the other questions with their places; 27 last;
-  -- later bytes are kept, and all of them on a refusal
+  -- the rewriting: c and ic as group 0; the record count; 8 and 13 of the old lengths, the other questions with their
+  -- places; 27 last; later bytes are kept, and all of them on a refusal
   pub rewritten_types : rewriting_types groups (old_types 1) 36 ≡ accepted (types_with 1 1)
   pub rewritten_script : rewriting_script groups (old_types 1) (old_loop 1 1) 56 ≡ accepted (loop 1 1)
   pub types_counted : rewritten_records type_width (rewriting_types groups (old_types 0) 36) ≡ accepted 6

@@ -1,32 +1,38 @@
--- Further examples: the slips of the pen, and what cases A to L leave open of questions 1 to 25. What the calls give and write is in
--- CallExamples.
+-- Further examples: the slips of the pen, and what cases A to L leave open of questions 1 to 25. What the calls give
+-- and write is in CallExamples.
 use Rattle.std.specs.Prelude.{◌≡◌, true, false, [], ◌∷◌, ◌++◌, ℕ, zero, suc, ◌*◌, ◌/◌, ◌%◌}
 use Rattle.calculus.specs.Types.{one, leaf}
 use Rattle.rules.specs.Answer.{Bytes, accepted, refused}
 use Rattle.rules.specs.Groups.{leq, row, q2}
 use Rattle.rules.specs.Types.{q8}
-use Rattle.rules.specs.Comparison.{same, below, neither}
+use Rattle.rules.specs.Comparison.{same, strictly_below, neither}
 use Rattle.rules.specs.Script.{number, script_record, q13, q18}
-use Rattle.rules.specs.Calls.{zeros, groups_check, types_check, comparing, checking, type_bytes, running, run_report}
+use Rattle.rules.specs.Calls.{zeros, groups_check, types_check, compare_call, check_call, type_bytes, run_call}
+use Rattle.rules.specs.Calls.{run_report}
 use Rattle.rules.specs.Reach.{verdict}
 use Rattle.rules.specs.Cases.{word, ty, groups, types_with, types, loop, check, ran}
 
--- records by name
+-- a variable's record
 abbrev pub var : ℕ → Bytes
 var n = script_record 0 0 0 n
 
+-- a unit's record with these readers
 abbrev pub unit : ℕ → ℕ → Bytes
 unit r ir = script_record 1 r ir 0
 
+-- a pair's record with these readers
 abbrev pub pair : ℕ → ℕ → Bytes
 pair r ir = script_record 3 r ir 0
 
+-- an application's record, made as w
 abbrev pub app : ℕ → Bytes
 app w = script_record 6 w 0 0
 
+-- a first projection's record, made as w
 abbrev pub proj : ℕ → Bytes
 proj w = script_record 7 w 0 0
 
+-- a protect's record with this ir, and 0 as ic
 abbrev pub protect : ℕ → Bytes
 protect m = script_record 10 0 m 0
 
@@ -68,6 +74,7 @@ abbrev pub pairs : ℕ → Bytes
 pairs zero = unit 0 0
 pairs (suc n) = pair 0 0 ++ unit 0 0 ++ pairs n
 
+-- the type of such pairs
 abbrev pub pair_types : ℕ → Bytes
 pair_types zero = ty 0 0 0
 pair_types (suc n) = ty 2 0 0 ++ ty 0 0 0 ++ pair_types n
@@ -77,6 +84,7 @@ abbrev pub protects : ℕ → Bytes
 protects zero = unit 0 0
 protects (suc n) = protect 0 ++ protects n
 
+-- Each field is one input with its answer, computed.
 pub record Examples : Type 0 where
   -- bit h of row g, not bit g of row h
   pub row_and_bit : leq groups 0 1 ≡ true
@@ -111,22 +119,22 @@ pub record Examples : Type 0 where
   pub 63-in-table : types_check groups (pair_types 31) ≡ accepted tt
   pub 65-in-table : types_check groups (ty 0 0 0 ++ pair_types 32) ≡ refused 12 1
   -- parameters are compared the other way round
-  pub contravariant : comparing groups two_functions 0 3 ≡ accepted below
-  pub not_covariant : comparing groups two_functions 3 0 ≡ accepted neither
-  pub first_index : comparing groups two_functions 256 6 ≡ refused 25 0
-  pub second_index : comparing groups two_functions 0 6 ≡ refused 25 1
+  pub contravariant : compare_call groups two_functions 0 3 ≡ accepted strictly_below
+  pub not_covariant : compare_call groups two_functions 3 0 ≡ accepted neither
+  pub first_index : compare_call groups two_functions 256 6 ≡ refused 25 0
+  pub second_index : compare_call groups two_functions 0 6 ≡ refused 25 1
   -- same is equality of the records, wherever they stand; above is neither; a type of another kind is neither
-  pub same_apart : comparing groups two_functions 2 4 ≡ accepted same
-  pub only_below : comparing groups two_functions 2 1 ≡ accepted below
-  pub only_above : comparing groups two_functions 1 2 ≡ accepted neither
-  pub other_kind : comparing groups two_functions 0 1 ≡ accepted neither
+  pub same_apart : compare_call groups two_functions 2 4 ≡ accepted same
+  pub only_below : compare_call groups two_functions 2 1 ≡ accepted strictly_below
+  pub only_above : compare_call groups two_functions 1 2 ≡ accepted neither
+  pub other_kind : compare_call groups two_functions 0 1 ≡ accepted neither
   -- one side below and one the same is below; one below and one above is neither
-  pub one_side_below : comparing groups mixed_pairs 0 3 ≡ accepted below
-  pub sides_mixed : comparing groups mixed_pairs 3 6 ≡ accepted neither
-  pub equal_sides : comparing groups mixed_pairs 3 9 ≡ accepted same
+  pub one_side_below : compare_call groups mixed_pairs 0 3 ≡ accepted strictly_below
+  pub sides_mixed : compare_call groups mixed_pairs 3 6 ≡ accepted neither
+  pub equal_sides : compare_call groups mixed_pairs 3 9 ≡ accepted same
   -- 13 to 18
   pub no_room : ran 9 55 (loop 0 0) ≡ refused 13 0
-  pub no_scratch : run_report (running groups types (loop 0 0) 9 56 55) ≡ refused 13 0
+  pub no_scratch : run_report (run_call groups types (loop 0 0) 9 56 55) ≡ refused 13 0
   pub unnamed_field : check types (script_record 0 1 0 0) ≡ refused 14 0
   pub label_past_rows : check types (app 2 ++ unit 0 0 ++ unit 0 0) ≡ refused 15 0
   pub case_past_rows : check types (protect 0 ++ script_record 9 2 0 1 ++ unit 0 0 ++ unit 0 0 ++ unit 0 0) ≡ refused 15 1
@@ -151,8 +159,8 @@ pub record Examples : Type 0 where
   pub branch_binder : check types (branch 0) ≡ accepted (ty 0 0 0)
   pub one_binder : check types (branch 1) ≡ refused 19 3
   pub tested_unbound : check types tested ≡ refused 19 1
-  -- the order of typing's refusals: 20 before the argument, 22 after it, at a recursion 21 before 23 and both before the body, 24 after both
-  -- operands
+  -- the order of typing's refusals: 20 before the argument, 22 after it, at a recursion 21 before 23 and both before
+  -- the body, 24 after both operands
   pub function_first : check types (app 0 ++ unit 0 0 ++ proj 0 ++ unit 0 0) ≡ refused 20 0
   pub argument_next : check types (app 0 ++ script_record 2 0 0 4 ++ var 0 ++ proj 0 ++ unit 0 0) ≡ refused 20 3
   pub argument_wanted : check types (app 0 ++ script_record 2 0 0 4 ++ var 0 ++ unit 1 1) ≡ refused 22 0
@@ -174,6 +182,6 @@ pub record Examples : Type 0 where
   pub 63-found : check types (pairs 31) ≡ accepted (pair_types 31)
   pub 65-found : check types (pairs 32) ≡ refused 24 0
   -- 1
-  pub short_work : checking 96767 378 groups types (unit 0 0) ≡ refused 1 0
-  pub short_answer : checking 96768 377 groups types (unit 0 0) ≡ refused 1 0
-  pub long_enough : checking 96768 378 groups types (unit 1 0) ≡ accepted (leaf one (record { r = 1; ir = 0; c = 0; ic = 0 }))
+  pub short_work : check_call 96767 378 groups types (unit 0 0) ≡ refused 1 0
+  pub short_answer : check_call 96768 377 groups types (unit 0 0) ≡ refused 1 0
+  pub long_enough : check_call 96768 378 groups types (unit 1 0) ≡ accepted (leaf one (record { r = 1; ir = 0; c = 0; ic = 0 }))

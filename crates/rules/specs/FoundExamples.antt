@@ -1,4 +1,4 @@
--- Examples of document 02's item 3: a case whose number is 65,535 finds its own type.
+-- Examples of a case whose number is 65,535, which finds its own type.
 use Rattle.std.specs.Prelude.{◌≡◌, true, false, [], ◌∷◌, ◌++◌, ℕ, zero, suc}
 use Rattle.calculus.specs.Terms as terms
 use Rattle.rules.specs.Answer.{Bytes, Answer, accepted, refused}
@@ -6,7 +6,7 @@ use Rattle.rules.specs.Groups.{meet}
 use Rattle.rules.specs.Script.{script_record, no_term, q18}
 use Rattle.rules.specs.Step.{exceeds}
 use Rattle.rules.specs.Strip.{strip_script}
-use Rattle.rules.specs.Calls.{type_bytes, work_after, stepping, written_after}
+use Rattle.rules.specs.Calls.{type_bytes, work_after, step_call, written_after}
 use Rattle.rules.specs.Reach.{verdict}
 use Rattle.rules.specs.Cases.{ty, groups, types, check}
 use Rattle.rules.specs.Examples.{var, unit, pair, proj, protect, diamond}
@@ -33,6 +33,7 @@ deep (suc n) = protect 0 ++ deep n
 abbrev pub found_case : terms.Term
 found_case = terms.case 0 65535 (terms.inj terms.first (record { r = 0; ir = 0; c = 0; ic = 0 }) 0 no_term) no_term no_term
 
+-- Each field is one input with its answer, computed.
 pub record FoundExamples : Type 0 where
   -- the join of the branches' groups, raised by ir of the tested operand
   pub found : check types (finds 0 0 0 (unit 1 0) (unit 0 0)) ≡ accepted (ty 0 1 0)
@@ -59,5 +60,5 @@ pub record FoundExamples : Type 0 where
   pub own_fits : exceeds 70000 (around 252 found_case) ≡ false
   pub own_exceeds : exceeds 70000 (around 253 found_case) ≡ true
   -- it steps as any other, and stripping keeps its number
-  pub own_steps : written_after (stepping groups types (finds 1 1 1 (var 0) (unit 1 1)) 16) [] ≡ protect 1 ++ unit 0 0
+  pub own_steps : written_after (step_call groups types (finds 1 1 1 (var 0) (unit 1 1)) 16) [] ≡ protect 1 ++ unit 0 0
   pub own_stripped : strip_script (script_record 9 1 0 65535) ≡ script_record 9 0 0 65535

@@ -1,4 +1,4 @@
--- Document 02, item 14: an amended list, and the order of questions 40, 25, 40, 41 and 42.
+-- Examples of amended lists, and of the order of questions 40, 25, 40, 41 and 42.
 use Rattle.std.specs.Prelude.{◌≡◌, List, [], ◌∷◌, ◌++◌, ℕ, ◌/◌, ◌%◌}
 use Rattle.rules.specs.Answer.{Bytes, Answer, accepted, refused}
 use Rattle.rules.specs.Cases.{ty, groups}
@@ -25,6 +25,7 @@ amended a i = in_force groups units six (numbers a) i
 abbrev pub of_lists : Bytes → Bytes → Answer ℕ
 of_lists l a = in_force groups units l a 65535
 
+-- the check of the six scripts with these entries
 abbrev pub asked : List ℕ → Answer ℕ
 asked a = of_lists six (numbers a)
 
@@ -32,6 +33,7 @@ asked a = of_lists six (numbers a)
 abbrev pub chain : List ℕ
 chain = 4 ∷ 65535 ∷ 1 ∷ 4 ∷ 2 ∷ 65535 ∷ 0 ∷ 1 ∷ []
 
+-- Each field is one input with its answer, computed.
 pub record InForceExamples : Type 0 where
   -- empty lists pass, and have none
   pub empty : in_force groups units [] [] 0 ≡ accepted 65535
@@ -72,7 +74,7 @@ pub record InForceExamples : Type 0 where
   pub replaces_itself : asked (1 ∷ 65535 ∷ 0 ∷ 0 ∷ []) ≡ refused 40 1
   -- 41: replaced already
   pub replaced_again : asked (0 ∷ 65535 ∷ 1 ∷ 0 ∷ 2 ∷ 0 ∷ []) ≡ refused 41 2
-  -- 42: above, not below
+  -- 42: a type that is above and not below is refused
   pub higher_type : asked (3 ∷ 65535 ∷ 5 ∷ 3 ∷ []) ≡ refused 42 1
   -- The lower entry comes before the lower question; at one entry 40 comes before 41, and 41 before 42.
   pub lower_entry : asked (3 ∷ 65535 ∷ 5 ∷ 3 ∷ 3 ∷ 65535 ∷ []) ≡ refused 42 1

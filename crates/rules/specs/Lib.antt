@@ -1,3 +1,4 @@
+-- The rules on bytes: answers and limits, files and their questions, calls, and examples, which are computed.
 pub mod Answer
 pub mod Limits
 pub mod Groups

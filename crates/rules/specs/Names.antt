@@ -1,9 +1,11 @@
--- Document 02, item 1: terms with names, and what a variable means: "the nearest binder of that name".
-use Rattle.std.specs.Prelude.{◌≡◌, cond, List, [], ◌∷◌, ◌++◌, ℕ, suc, ◌-◌, eqb}
+-- Terms with names, and what a variable means in them: the nearest binder of its name (manual, 7.9).
+use Rattle.std.specs.Prelude.{◌≡◌, if◌then◌else◌, List, [], ◌∷◌, ◌++◌, ℕ, suc, ◌-◌, nat_eq}
 use Rattle.calculus.specs.Security.{Property, Reader, Indirect}
-use Rattle.calculus.specs.Terms.{Side, Operation, Term, var, unit, lam, pair, inj, app, proj, case, protect, mu, literal, reckon}
+use Rattle.calculus.specs.Terms.{Side, Operation, Term, var, unit, lam, pair, inj, app, proj, case, protect, mu}
+use Rattle.calculus.specs.Terms.{literal, reckon}
 
--- "A function or recursion binds the first, a case's branches the first and second": a name stands after the number that its record holds.
+-- A term whose binders and variables have names. A name stands after the number that its record holds: a function and a
+-- recursion bind one, a case one in each branch.
 pub data Named : Type 0 where
   named_var : ℕ → Named
   named_unit : Property → Named
@@ -21,11 +23,12 @@ pub data Named : Type 0 where
 
 -- Of the binders over a record, the nearest first, number n is the nearest with name x.
 pub data Nearest (x : ℕ) : List ℕ → ℕ → Type 0 where
-  this_one : {ns : List ℕ} → Nearest x (x ∷ ns) 0
-  further : {y n : ℕ} {ns : List ℕ} → (x ≡ y → ⊥) → Nearest x ns n → Nearest x (y ∷ ns) (suc n)
+  nearest_here : {ns : List ℕ} → Nearest x (x ∷ ns) 0
+  nearest_further : {y n : ℕ} {ns : List ℕ} → (x ≡ y → ⊥) → Nearest x ns n → Nearest x (y ∷ ns) (suc n)
 
--- Under binders of these names, the nearest first, a term with names means a term: each variable has the number of the nearest binder of
--- its name. A branch's name holds in that branch alone, and neither in the tested operand.
+-- Under binders of these names, the nearest first, a term with names means a term: each variable has the number of the
+-- nearest binder of its name. A branch's name holds in that branch alone, neither in the other nor in the tested
+-- operand.
 pub data Means : List ℕ → Named → Term → Type 0 where
   means_var : {ns : List ℕ} {x n : ℕ} → Nearest x ns n → Means ns (named_var x) (var n)
   means_unit : {ns : List ℕ} {k : Property} → Means ns (named_unit k) (unit k)
@@ -45,7 +48,7 @@ pub data Means : List ℕ → Named → Term → Type 0 where
 -- the number of the nearest binder with name x; where none has it, how many there are
 unfoldable pub nearest : ℕ → List ℕ → ℕ
 nearest x [] = 0
-nearest x (y ∷ ns) = cond (eqb x y) 0 (suc (nearest x ns))
+nearest x (y ∷ ns) = if nat_eq x y then 0 else suc (nearest x ns)
 
 -- the term that is meant
 unfoldable pub meant : List ℕ → Named → Term
@@ -64,8 +67,6 @@ meant ns (named_reckon o w a b) = reckon o w (meant ns a) (meant ns b)
 
 -- the names of the binders over each record, in the records' order
 unfoldable pub scopes : List ℕ → Named → List (List ℕ)
-scopes ns (named_var x) = ns ∷ []
-scopes ns (named_unit k) = ns ∷ []
 scopes ns (named_lam k i x e) = ns ∷ scopes (x ∷ ns) e
 scopes ns (named_pair k a b) = ns ∷ (scopes ns a ++ scopes ns b)
 scopes ns (named_inj d k i e) = ns ∷ scopes ns e
@@ -74,20 +75,21 @@ scopes ns (named_proj d w e) = ns ∷ scopes ns e
 scopes ns (named_case w i x y e a b) = ns ∷ (scopes ns e ++ (scopes (x ∷ ns) a ++ scopes (y ∷ ns) b))
 scopes ns (named_protect m e) = ns ∷ scopes ns e
 scopes ns (named_mu w i x e) = ns ∷ scopes (x ∷ ns) e
-scopes ns (named_literal k n) = ns ∷ []
 scopes ns (named_reckon o w a b) = ns ∷ (scopes ns a ++ scopes ns b)
+scopes ns _ = ns ∷ []
 
--- "Names each binder by its count of binders outside it", where n are outside of the term: variable m's binder has m binders inside it.
-unfoldable pub naming : ℕ → Term → Named
-naming n (var m) = named_var (n - suc m)
-naming n (unit k) = named_unit k
-naming n (lam k i e) = named_lam k i n (naming (suc n) e)
-naming n (pair k a b) = named_pair k (naming n a) (naming n b)
-naming n (inj d k i e) = named_inj d k i (naming n e)
-naming n (app w f a) = named_app w (naming n f) (naming n a)
-naming n (proj d w e) = named_proj d w (naming n e)
-naming n (case w i e a b) = named_case w i n n (naming n e) (naming (suc n) a) (naming (suc n) b)
-naming n (protect m e) = named_protect m (naming n e)
-naming n (mu w i e) = named_mu w i n (naming (suc n) e)
-naming n (literal k m) = named_literal k m
-naming n (reckon o w a b) = named_reckon o w (naming n a) (naming n b)
+-- A term with names again: each binder is named by its count of binders outside it, and n of them are outside of the
+-- term. Variable m's binder has m binders inside it.
+unfoldable pub level_names : ℕ → Term → Named
+level_names n (var m) = named_var (n - suc m)
+level_names n (unit k) = named_unit k
+level_names n (lam k i e) = named_lam k i n (level_names (suc n) e)
+level_names n (pair k a b) = named_pair k (level_names n a) (level_names n b)
+level_names n (inj d k i e) = named_inj d k i (level_names n e)
+level_names n (app w f a) = named_app w (level_names n f) (level_names n a)
+level_names n (proj d w e) = named_proj d w (level_names n e)
+level_names n (case w i e a b) = named_case w i n n (level_names n e) (level_names (suc n) a) (level_names (suc n) b)
+level_names n (protect m e) = named_protect m (level_names n e)
+level_names n (mu w i e) = named_mu w i n (level_names (suc n) e)
+level_names n (literal k m) = named_literal k m
+level_names n (reckon o w a b) = named_reckon o w (level_names n a) (level_names n b)

@@ -1,20 +1,22 @@
--- Item 11's examples: the packet, where each refusal stands among the others, and what each of the five buffers holds afterwards.
+-- Examples of packets: where each refusal stands among the others, and what each of the five buffers holds afterwards.
 use Rattle.std.specs.Prelude.{◌≡◌, [], ◌∷◌, ◌++◌, ℕ, zero, suc}
 use Rattle.rules.specs.Answer.{Bytes, Answer, refused}
 use Rattle.rules.specs.Limits.{work_length}
 use Rattle.rules.specs.Script.{script_record}
 use Rattle.rules.specs.Run.{Ran}
 use Rattle.rules.specs.Calls.{Report, first_after, scratch_after}
-use Rattle.rules.specs.Packet.{before_typing, desk_run, Packet, issuing, packet_report, desk_work_after, packet_page_after}
+use Rattle.rules.specs.Packet.{before_typing, desk_run, Packet, packet_call, packet_report, desk_work_after}
+use Rattle.rules.specs.Packet.{packet_page_after}
 use Rattle.rules.specs.Cases.{groups, types, ends}
 use Rattle.rules.specs.Examples.{var, unit, pair, app, protect, two_functions}
 use Rattle.rules.specs.CallExamples.{recursion, shown}
 use Rattle.rules.specs.CreatorExamples.{unit_by}
 
--- functions of a unit (0,0): one that gives it back and that only readers above r may call, and one that calls itself for ever
+-- A function of a unit (0,0) that gives it back, and that only readers above r may call.
 abbrev pub back : ℕ → Bytes
 back r = script_record 2 r r 4 ++ var 0
 
+-- A function of a unit (0,0) that calls itself for ever.
 abbrev pub endless : Bytes
 endless = script_record 11 0 0 3 ++ script_record 2 0 0 4 ++ app 0 ++ var 1 ++ var 0
 
@@ -27,17 +29,20 @@ wrapped (suc n) = protect 0 ++ wrapped n
 abbrev pub untyped : Bytes
 untyped = app 0 ++ unit 0 0 ++ unit 0 0
 
--- The answer for a script and an entry; by the group, the budget and the profile; by the lengths of the run's buffers and of the sheet's.
+-- the packet for group 0, by the lengths of the run's buffers and of the sheet's
 abbrev pub by_rooms : ℕ → ℕ → ℕ → ℕ → Bytes → Bytes → Answer Packet
-by_rooms budget first scratch room script entry = issuing groups types script entry 0 budget 0 work_length first scratch room
+by_rooms budget first scratch room script entry = packet_call groups types script entry 0 budget 0 work_length first scratch room
 
+-- the packet by group, budget and profile, with buffers that are long enough
 abbrev pub by_desk : ℕ → ℕ → ℕ → Bytes → Bytes → Answer Packet
-by_desk group budget profile script entry = issuing groups types script entry group budget profile work_length 65536 65536 49152
+by_desk group budget profile script entry = packet_call groups types script entry group budget profile work_length 65536 65536 49152
 
+-- what it reports
 abbrev pub answered : Answer Packet → Answer Report
 answered x = packet_report x
 
--- what is left, for a desk of group 0 without a profile, in run buffers of 32 bytes: room for an application of four records
+-- what is left, for a desk of group 0 without a profile, in run buffers of 32 bytes: room for an application of four
+-- records
 abbrev pub run_of : ℕ → Bytes → Bytes → Answer Ran
 run_of profile script entry = desk_run groups types script entry 0 1000 profile work_length 32 32
 
@@ -45,12 +50,15 @@ run_of profile script entry = desk_run groups types script entry 0 1000 profile 
 abbrev pub work_left : ℕ → Bytes → Bytes
 work_left profile script = desk_work_after (before_typing groups types script profile work_length) (9 ∷ 9 ∷ [])
 
+-- seven bytes that a buffer held before
 abbrev pub nines : Bytes
 nines = 9 ∷ 9 ∷ 9 ∷ 9 ∷ 9 ∷ 9 ∷ 9 ∷ []
 
+-- sixteen of them
 abbrev pub sixteen : Bytes
 sixteen = 9 ∷ 9 ∷ 9 ∷ 9 ∷ 9 ∷ 9 ∷ 9 ∷ 9 ∷ 9 ∷ 9 ∷ 9 ∷ 9 ∷ 9 ∷ 9 ∷ 9 ∷ 9 ∷ []
 
+-- Each field is one packet with what it reports or leaves, computed.
 pub record PacketExamples : Type 0 where
   -- a packet: the run's end and steps, and the sheet's records
   pub packet : answered (by_desk 0 1000 0 (back 0) (unit 0 0)) ≡ ends 0 2 1
@@ -65,9 +73,9 @@ pub record PacketExamples : Type 0 where
   pub no_page_spent : packet_page_after (by_rooms 1 32 32 0 (back 0) (unit 0 0)) nines ≡ nines
   pub no_page_too_big : packet_page_after (by_rooms 1000 96 96 49152 endless (unit 0 0)) nines ≡ nines
   -- 1 of the work buffer, before 2; the longest that is too short
-  pub short_work : answered (issuing groups types (back 0) (unit 0 0) 0 1000 0 96767 32 32 6) ≡ refused 1 0
-  pub work_first : answered (issuing [] types (back 0) (unit 0 0) 0 1000 0 0 32 32 6) ≡ refused 1 0
-  pub groups_next : answered (issuing [] types (back 0) [] 0 1000 0 work_length 32 32 6) ≡ refused 2 0
+  pub short_work : answered (packet_call groups types (back 0) (unit 0 0) 0 1000 0 96767 32 32 6) ≡ refused 1 0
+  pub work_first : answered (packet_call [] types (back 0) (unit 0 0) 0 1000 0 0 32 32 6) ≡ refused 1 0
+  pub groups_next : answered (packet_call [] types (back 0) [] 0 1000 0 work_length 32 32 6) ≡ refused 2 0
   -- the script's questions before the entry's, its typing too; an entry's refusal looks like a script's
   pub script_first : answered (by_desk 0 1000 0 (var 0) []) ≡ refused 19 0
   pub typing_first : answered (by_desk 0 1000 0 untyped []) ≡ refused 20 0
@@ -96,7 +104,7 @@ pub record PacketExamples : Type 0 where
   pub other_entry : answered (by_desk 0 1000 0 (back 0) (pair 0 0 ++ unit 0 0 ++ unit 0 0)) ≡ refused 38 0
   pub entry_above : answered (by_desk 0 1000 0 (back 0) (unit 1 1)) ≡ refused 38 0
   -- the left side is what is compared: from unit (1,1) to unit (0,0)
-  pub left_side : answered (issuing groups two_functions (script_record 2 0 0 1 ++ unit 0 0) (unit 1 1) 0 1000 0 work_length 65536 65536 6) ≡ ends 0 2 1
+  pub left_side : answered (packet_call groups two_functions (script_record 2 0 0 1 ++ unit 0 0) (unit 1 1) 0 1000 0 work_length 65536 65536 6) ≡ ends 0 2 1
   -- 13 and 18 of the application, after 38; each buffer has to hold it
   pub other_before_13 : answered (by_rooms 1000 31 31 6 (back 0) (unit 1 1)) ≡ refused 38 0
   pub short_first : answered (by_rooms 1000 31 32 6 (back 0) (unit 0 0)) ≡ refused 13 0

@@ -1,25 +1,29 @@
--- Item 9's examples: what a preview gives, what a move takes, and the number of steps.
+-- Examples of what a preview gives, what a move takes, and the number of steps.
 use Rattle.std.specs.Prelude.{◌≡◌, [], ◌∷◌, ◌++◌, ℕ}
 use Rattle.rules.specs.Answer.{Bytes, Answer, accepted, refused}
 use Rattle.rules.specs.Calls.{StepReport, step_report, written_after}
-use Rattle.rules.specs.Preview.{Preview, previewing, moving, moved_steps}
+use Rattle.rules.specs.Preview.{Preview, preview_call, move_call, moved_steps}
 use Rattle.rules.specs.Cases.{groups, types, case_term, loop}
 use Rattle.rules.specs.Examples.{var, unit, pair, proj, protect}
 use Rattle.rules.specs.CreatorExamples.{unit_by}
 
+-- a preview with this end, count and number of steps
 abbrev pub preview : ℕ → ℕ → ℕ → Preview
 preview end count steps = record { end = end; count = count; steps = steps }
 
+-- the preview of a step in a buffer of so many bytes
 abbrev pub previewed : ℕ → Bytes → ℕ → Answer Preview
-previewed room s steps = previewing groups types s room steps
+previewed room s steps = preview_call groups types s room steps
 
--- what a move reports, and the number of steps after it
+-- what a move reports
 abbrev pub reported : ℕ → Bytes → Preview → Answer StepReport
-reported room s v = step_report s (moving groups types s room v)
+reported room s v = step_report s (move_call groups types s room v)
 
+-- the number of steps after it
 abbrev pub counted : ℕ → Bytes → Preview → Answer ℕ
-counted room s v = moved_steps v (moving groups types s room v)
+counted room s v = moved_steps v (move_call groups types s room v)
 
+-- a step's end and record count
 abbrev pub ended : ℕ → ℕ → Answer StepReport
 ended end count = accepted (record { end = end; count = count })
 
@@ -27,6 +31,7 @@ ended end count = accepted (record { end = end; count = count })
 abbrev pub small : Bytes
 small = protect 0 ++ unit 0 0
 
+-- Each field is one call with its answer, computed.
 pub record PreviewExamples : Type 0 where
   -- a preview: the end, the count after the step or the script's own, and the caller's number
   pub value_shown : previewed 24 (pair 0 0 ++ unit 0 0 ++ unit 0 0) 7 ≡ accepted (preview 0 3 7)
@@ -38,16 +43,16 @@ pub record PreviewExamples : Type 0 where
   pub refused_shown : previewed 8 (var 0) 7 ≡ refused 19 0
   -- a move with its own preview
   pub made : reported 8 small (preview 1 1 7) ≡ ended 1 1
-  pub written : written_after (moving groups types small 9 (preview 1 1 7)) (9 ∷ 9 ∷ 9 ∷ 9 ∷ 9 ∷ 9 ∷ 9 ∷ 9 ∷ 9 ∷ []) ≡ unit 0 0 ++ (9 ∷ [])
+  pub written : written_after (move_call groups types small 9 (preview 1 1 7)) (9 ∷ 9 ∷ 9 ∷ 9 ∷ 9 ∷ 9 ∷ 9 ∷ 9 ∷ 9 ∷ []) ≡ unit 0 0 ++ (9 ∷ [])
   pub answered_value : reported 8 (unit 0 0) (preview 0 1 7) ≡ ended 0 1
   pub answered_too_big : reported 7 small (preview 4 2 7) ≡ ended 4 2
-  pub unwritten : written_after (moving groups types small 7 (preview 4 2 7)) (9 ∷ 9 ∷ []) ≡ 9 ∷ 9 ∷ []
+  pub unwritten : written_after (move_call groups types small 7 (preview 4 2 7)) (9 ∷ 9 ∷ []) ≡ 9 ∷ 9 ∷ []
   -- 35 of another end or another count, both as wide as they come
   pub other_end : reported 8 small (preview 4 1 7) ≡ refused 35 0
   pub other_count : reported 8 small (preview 1 2 7) ≡ refused 35 0
   pub wide_end : reported 8 small (preview 257 1 7) ≡ refused 35 0
   pub wide_count : reported 8 small (preview 1 4294967297 7) ≡ refused 35 0
-  pub refused_unwritten : written_after (moving groups types small 8 (preview 1 2 7)) (9 ∷ 9 ∷ []) ≡ 9 ∷ 9 ∷ []
+  pub refused_unwritten : written_after (move_call groups types small 8 (preview 1 2 7)) (9 ∷ 9 ∷ []) ≡ 9 ∷ 9 ∷ []
   -- it comes after 19, and after 36
   pub after_19 : reported 8 (var 0) (preview 5 9 7) ≡ refused 19 0
   pub after_36 : reported 8 (unit_by 0 1) (preview 5 9 7) ≡ refused 36 0

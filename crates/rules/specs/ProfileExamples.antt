@@ -9,9 +9,11 @@ use Rattle.rules.specs.Cases.{groups, types, case_term}
 use Rattle.rules.specs.Examples.{var, unit, pair, app}
 use Rattle.rules.specs.CallExamples.{recursion}
 
+-- the profile check with buffers that are long enough
 abbrev pub profile_verdict : Bytes → Answer Ty
 profile_verdict s = profile_checking work_length answer_length groups types s
 
+-- Each field is one script with its answer, computed.
 pub record ProfileExamples : Type 0 where
   pub without : type_records (profile_verdict (case_term 1 1 1)) ≡ accepted 3
   pub alone : type_records (profile_verdict (recursion 0)) ≡ refused 39 0

@@ -1,6 +1,5 @@
--- Document 02, item 10: "Two calls rewrite a types table of 4-byte records (2 to 12, 27) and a script of 6-byte records over such a table
--- (2 to 19, 27) with c and ic as group 0, answer the record count and keep the bytes past it."
--- To its questions an old table is the new one with c and ic as group 0, but for 8 and 13, which ask its own length. Places are indexes of
+-- Rewriting types and scripts of earlier forms: c and ic, which they haven't, become group 0 (manual, 7.12 and 9.13).
+-- To its questions an old file is the widened one, but for 8 and 13, which ask its own length. Places are indexes of
 -- records, so they are the same.
 use Rattle.std.specs.Prelude.{[], ◌∷◌, ℕ, ◌/◌, length}
 use Rattle.rules.specs.Answer.{Bytes, Answer, accepted, refused, ◌>>◌}
@@ -9,23 +8,16 @@ use Rattle.rules.specs.Types.{q8_of}
 use Rattle.rules.specs.Script.{q13_of}
 use Rattle.rules.specs.Calls.{groups_check, types_check, script_check, q27, filled_after}
 
--- kind, r, ir, 0, and then c and ic; what is cut short is no record
+-- A widened types table: kind, r, ir and 0 of each record, and then c and ic as group 0. What is cut short is no
+-- record.
 unfoldable pub widen_types : Bytes → Bytes
-widen_types [] = []
-widen_types (k ∷ []) = []
-widen_types (k ∷ r ∷ []) = []
-widen_types (k ∷ r ∷ ir ∷ []) = []
 widen_types (k ∷ r ∷ ir ∷ z ∷ t) = k ∷ r ∷ ir ∷ z ∷ 0 ∷ 0 ∷ widen_types t
+widen_types _ = []
 
--- kind, r, ir, 0, the number, and then c and ic
+-- A widened script: kind, r, ir, 0 and the number of each record, and then c and ic as group 0.
 unfoldable pub widen_script : Bytes → Bytes
-widen_script [] = []
-widen_script (k ∷ []) = []
-widen_script (k ∷ r ∷ []) = []
-widen_script (k ∷ r ∷ ir ∷ []) = []
-widen_script (k ∷ r ∷ ir ∷ z ∷ []) = []
-widen_script (k ∷ r ∷ ir ∷ z ∷ lo ∷ []) = []
 widen_script (k ∷ r ∷ ir ∷ z ∷ lo ∷ hi ∷ s) = k ∷ r ∷ ir ∷ z ∷ lo ∷ hi ∷ 0 ∷ 0 ∷ widen_script s
+widen_script _ = []
 
 -- questions 2 to 12 of an old types table
 unfoldable pub old_types_check : Bytes → Bytes → Answer (Unit {0})
@@ -43,7 +35,8 @@ old_script_check g t s = do
   q13_of old_script_width [] s
   script_check [] g (widen_types t) (widen_script s)
 
--- the new bytes, with the length of the buffer that they are to fill
+-- Rewriting a types table: its questions, then 27 of the widened table with the length of its buffer; the answer is its
+-- bytes.
 unfoldable pub rewriting_types : Bytes → Bytes → ℕ → Answer Bytes
 unfolding old_types_check widen_types
 rewriting_types g t room = do
@@ -51,6 +44,8 @@ rewriting_types g t room = do
   q27 (widen_types t) room
   accepted (widen_types t)
 
+-- Rewriting a script: the questions of both, then 27 of the widened script with the length of its buffer; the answer is
+-- its bytes.
 unfoldable pub rewriting_script : Bytes → Bytes → Bytes → ℕ → Answer Bytes
 unfolding old_script_check widen_script
 rewriting_script g t s room = do
@@ -58,11 +53,11 @@ rewriting_script g t s room = do
   q27 (widen_script s) room
   accepted (widen_script s)
 
--- "answer the record count"
+-- what a rewriting call reports: the record count
 unfoldable pub rewritten_records : ℕ → Answer Bytes → Answer ℕ
 rewritten_records width (accepted b) = accepted (length b / width)
 rewritten_records width (refused q p) = refused q p
 
--- "and keep the bytes past it"
+-- its buffer: the new bytes in front, later bytes kept; kept on a refusal
 abbrev pub rewritten_after : Answer Bytes → Bytes → Bytes
 rewritten_after x old = filled_after x old

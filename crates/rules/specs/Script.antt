@@ -1,36 +1,45 @@
--- Document 01, 'Scripts', with item 10's creators and item 13's numbers: questions 13 to 19 and 36.
-use Rattle.std.specs.Prelude.{Bool, true, false, cond, not, ◌&&◌, ◌||◌, List, [], ◌∷◌, ◌++◌, ℕ, suc, ◌+◌, ◌*◌, ◌-◌, ◌/◌, ◌%◌, max, eqb, leb, ltb, length, get_or, take, drop}
+-- The script: its records, its term, and questions 13 to 19 and 36 (manual, 4).
+use Rattle.std.specs.Prelude.{Bool, true, false, if◌then◌else◌, not, ◌&&◌, ◌||◌, List, [], ◌∷◌, ◌++◌, ℕ, suc, ◌+◌, ◌*◌}
+use Rattle.std.specs.Prelude.{◌-◌, ◌/◌, ◌%◌, max, nat_eq, nat_le, nat_lt, length, get_or, take, drop}
 use Rattle.std.proofs.Math.Option.{Option, none, some}
 use Rattle.calculus.specs.Security.{Property}
-use Rattle.calculus.specs.Terms.{first, second, plus, less, Term, var, unit, lam, pair, inj, app, proj, case, protect, mu, literal, reckon}
+use Rattle.calculus.specs.Terms.{first, second, plus, less, Term, var, unit, lam, pair, inj, app, proj, case, protect}
+use Rattle.calculus.specs.Terms.{mu, literal, reckon}
 use Rattle.calculus.specs.Typing.{finds_own}
 use Rattle.rules.specs.Answer.{Bytes, byte, Answer, accepted, refused, ◌>>◌, ask, each, first_from, all_below, ◌⇒◌}
 use Rattle.rules.specs.Limits.{script_width, script_limit, depth_limit}
 use Rattle.rules.specs.Groups.{rows, leq}
 use Rattle.rules.specs.Types.{type_count, type_kind, end_after}
 
--- "Records .., no header: kind, r, ir, 0, a 16-bit little-endian number." Item 10: "script records [grow] to 8, in bytes 6 and 7".
+-- The number of records: 8 bytes each, without a header, which hold kind, r, ir, 0, a number of 16 bits, c and ic.
 abbrev pub records : Bytes → ℕ
 records s = length s / script_width
 
+-- record i's kind
 abbrev pub kind : Bytes → ℕ → ℕ
 kind s i = byte s (script_width * i)
 
+-- record i's r
 abbrev pub r : Bytes → ℕ → ℕ
 r s i = byte s (script_width * i + 1)
 
+-- record i's ir
 abbrev pub ir : Bytes → ℕ → ℕ
 ir s i = byte s (script_width * i + 2)
 
+-- record i's byte 3, which has to be 0
 abbrev pub zero_byte : Bytes → ℕ → ℕ
 zero_byte s i = byte s (script_width * i + 3)
 
+-- record i's number, its lowest byte first
 abbrev pub number : Bytes → ℕ → ℕ
 number s i = byte s (script_width * i + 4) + 256 * byte s (script_width * i + 5)
 
+-- record i's c
 abbrev pub c : Bytes → ℕ → ℕ
 c s i = byte s (script_width * i + 6)
 
+-- record i's ic
 abbrev pub ic : Bytes → ℕ → ℕ
 ic s i = byte s (script_width * i + 7)
 
@@ -46,7 +55,7 @@ pub record Signature : Type 0 where
   -- whether the number names a type
   pub typed : Bool
 
--- Item 10: "Kinds 1 to 5 use both, protect uses ic." Item 13's literal has "its groups" too. So an object, which names r and ir, names c, and what names ir names ic.
+-- An object names all four groups and a protect ir and ic: so what names r and ir names c, and what names ir names ic.
 abbrev pub signature : ℕ → Bool → Bool → Bool → Bool → Signature
 signature o r ir n t = record { operands = o; r = r; ir = ir; c = r && ir; ic = ir; number = n; typed = t }
 
@@ -71,6 +80,7 @@ signatures =
     ∷ signature 2 true false true true  -- 14 less than
     ∷ []
 
+-- a kind's line of the table; a kind past its end names nothing
 unfoldable pub signature_of : ℕ → Signature
 unfolding signatures
 signature_of k = get_or signatures k (signature 0 false false false false)
@@ -92,7 +102,7 @@ script_record k r ir n = full_record k r ir n 0 0
 abbrev pub object_record : ℕ → Property → ℕ → Bytes
 object_record kind k n = full_record kind k.r k.ir n k.c k.ic
 
--- A term as records: "each is followed by its operands in order. Unnamed fields are 0."
+-- A term as records: each is followed by its operands in order, and unnamed fields are 0.
 unfoldable pub encode : Term → Bytes
 encode (var n) = script_record 0 0 0 n
 encode (unit k) = object_record 1 k 0
@@ -110,6 +120,7 @@ encode (literal k n) = object_record 12 k n
 encode (reckon plus w a b) = script_record 13 w 0 0 ++ (encode a ++ encode b)
 encode (reckon (less i) w a b) = script_record 14 w 0 i ++ (encode a ++ encode b)
 
+-- what stands in where no term is
 abbrev pub no_term : Term
 no_term = var 0
 
@@ -139,17 +150,10 @@ make kind r ir n c ic a b d =
 -- the term that starts at the first record, and those that start after its end
 unfoldable pub parse : Bytes → List Term
 unfolding arity
-parse [] = []
-parse (k ∷ []) = []
-parse (k ∷ r ∷ []) = []
-parse (k ∷ r ∷ ir ∷ []) = []
-parse (k ∷ r ∷ ir ∷ z ∷ []) = []
-parse (k ∷ r ∷ ir ∷ z ∷ lo ∷ []) = []
-parse (k ∷ r ∷ ir ∷ z ∷ lo ∷ hi ∷ []) = []
-parse (k ∷ r ∷ ir ∷ z ∷ lo ∷ hi ∷ c ∷ []) = []
 parse (k ∷ r ∷ ir ∷ z ∷ lo ∷ hi ∷ c ∷ ic ∷ s) =
     let ts = parse s in
     make k r ir (lo + 256 * hi) c ic (get_or ts 0 no_term) (get_or ts 1 no_term) (get_or ts 2 no_term) ∷ drop (arity k) ts
+parse _ = []
 
 -- the term of a script
 unfoldable pub term : Bytes → Term
@@ -171,11 +175,11 @@ size (mu w i e) = 1 + size e
 size (literal k n) = 1
 size (reckon o w a b) = 1 + (size a + size b)
 
--- Item 3: the operands of a case that finds its own type "have its own depth plus two".
+-- How much deeper than a case its operands are: by two where it finds its own type, else by one (manual, 4.6).
 abbrev pub weight : ℕ → ℕ
-weight i = cond (finds_own i) 2 1
+weight i = if finds_own i then 2 else 1
 
--- the depth of a term's deepest record: "the outermost record has depth 1"
+-- The depth of a term's deepest record; the outermost record has depth 1.
 unfoldable pub depth : Term → ℕ
 depth (var n) = 1
 depth (unit k) = 1
@@ -190,110 +194,112 @@ depth (mu w i e) = 1 + depth e
 depth (literal k n) = 1
 depth (reckon o w a b) = 1 + max (depth a) (depth b)
 
--- A number for each record, in the records' order: n at the node, `deeper n` at an operand, and `bound n` at one that a
--- binder stands over; a case with number i passes on `wide i n` in the place of n. "Kinds 2 and 11 bind one in their operand, a
--- case one in each branch (operands 2 and 3)."
-unfoldable pub counts : (ℕ → ℕ → ℕ) → (ℕ → ℕ) → (ℕ → ℕ) → ℕ → Term → List ℕ
-counts wide deeper bound n (var m) = n ∷ []
-counts wide deeper bound n (unit k) = n ∷ []
-counts wide deeper bound n (lam k i e) = n ∷ counts wide deeper bound (bound n) e
-counts wide deeper bound n (pair k a b) = n ∷ (counts wide deeper bound (deeper n) a ++ counts wide deeper bound (deeper n) b)
-counts wide deeper bound n (inj d k i e) = n ∷ counts wide deeper bound (deeper n) e
-counts wide deeper bound n (app w f a) = n ∷ (counts wide deeper bound (deeper n) f ++ counts wide deeper bound (deeper n) a)
-counts wide deeper bound n (proj d w e) = n ∷ counts wide deeper bound (deeper n) e
-counts wide deeper bound n (case w i e a b) =
-    n ∷ (counts wide deeper bound (deeper (wide i n)) e
-    ++ (counts wide deeper bound (bound (wide i n)) a ++ counts wide deeper bound (bound (wide i n)) b))
-counts wide deeper bound n (protect m e) = n ∷ counts wide deeper bound (deeper n) e
-counts wide deeper bound n (mu w i e) = n ∷ counts wide deeper bound (bound n) e
-counts wide deeper bound n (literal k m) = n ∷ []
-counts wide deeper bound n (reckon o w a b) = n ∷ (counts wide deeper bound (deeper n) a ++ counts wide deeper bound (deeper n) b)
+-- The depth of each record of a term that stands at depth n, in the records' order.
+unfoldable pub depths_from : ℕ → Term → List ℕ
+depths_from n (lam k i e) = n ∷ depths_from (suc n) e
+depths_from n (pair k a b) = n ∷ (depths_from (suc n) a ++ depths_from (suc n) b)
+depths_from n (inj d k i e) = n ∷ depths_from (suc n) e
+depths_from n (app w f a) = n ∷ (depths_from (suc n) f ++ depths_from (suc n) a)
+depths_from n (proj d w e) = n ∷ depths_from (suc n) e
+depths_from n (case w i e a b) =
+    n ∷ (depths_from (n + weight i) e ++ (depths_from (n + weight i) a ++ depths_from (n + weight i) b))
+depths_from n (protect m e) = n ∷ depths_from (suc n) e
+depths_from n (mu w i e) = n ∷ depths_from (suc n) e
+depths_from n (reckon o w a b) = n ∷ (depths_from (suc n) a ++ depths_from (suc n) b)
+depths_from n _ = n ∷ []
 
-abbrev one_more : ℕ → ℕ
-one_more n = suc n
-
-abbrev no_more : ℕ → ℕ
-no_more n = n
-
--- one deeper still, where the case finds its own type
-abbrev pub widened : ℕ → ℕ → ℕ
-widened i n = cond (finds_own i) (suc n) n
-
-abbrev pub unwidened : ℕ → ℕ → ℕ
-unwidened i n = n
-
--- the depth of each record
+-- the depth of each record of a script's term
 abbrev pub depths : Term → List ℕ
-depths e = counts widened one_more one_more 1 e
+depths e = depths_from 1 e
 
--- the count of binders over each record
+-- The count of binders over each record of a term under n binders, in the records' order: a function and a recursion
+-- bind one variable in their operand, a case one in each branch (operands 2 and 3).
+unfoldable pub binders_from : ℕ → Term → List ℕ
+binders_from n (lam k i e) = n ∷ binders_from (suc n) e
+binders_from n (pair k a b) = n ∷ (binders_from n a ++ binders_from n b)
+binders_from n (inj d k i e) = n ∷ binders_from n e
+binders_from n (app w f a) = n ∷ (binders_from n f ++ binders_from n a)
+binders_from n (proj d w e) = n ∷ binders_from n e
+binders_from n (case w i e a b) = n ∷ (binders_from n e ++ (binders_from (suc n) a ++ binders_from (suc n) b))
+binders_from n (protect m e) = n ∷ binders_from n e
+binders_from n (mu w i e) = n ∷ binders_from (suc n) e
+binders_from n (reckon o w a b) = n ∷ (binders_from n a ++ binders_from n b)
+binders_from n _ = n ∷ []
+
+-- the count of binders over each record of a script's term
 abbrev pub binders : Term → List ℕ
-binders e = counts unwidened no_more one_more 0 e
+binders e = binders_from 0 e
 
--- 13. Script: whole records, 1 to 8,192, and in a run within both buffers? (0) `rooms` are the lengths of a run's buffers, `width` that
--- of the records: item 10's rewriting asks it of the form before.
+-- 13. Is the script whole records, 1 to 8,192 of them, and, in a run, no longer than either run buffer? Place: 0.
+-- `rooms` are the lengths of the run buffers; `width` is 8, and 6 where rewriting asks it of earlier forms.
 abbrev pub q13_of : ℕ → List ℕ → Bytes → Answer (Unit {0})
 q13_of width rooms s =
     ask 13 0
-    (eqb (length s % width) 0
-    && (leb 1 (length s / width) && (leb (length s / width) script_limit && all_below (λ i. leb (length s) (get_or rooms i 0)) (length rooms))))
+    (nat_eq (length s % width) 0
+    && (nat_le 1 (length s / width) && (nat_le (length s / width) script_limit && all_below (λ i. nat_le (length s) (get_or rooms i 0)) (length rooms))))
 
+-- 13, of a script of records of 8 bytes
 abbrev pub q13 : List ℕ → Bytes → Answer (Unit {0})
 q13 rooms s = q13_of script_width rooms s
 
--- 14. Kind at most 14, unnamed fields 0?
+-- 14. Is the kind at most 14, byte 3 equal to 0, and every unnamed field 0? Place: the record.
 unfoldable pub ok14 : Bytes → ℕ → Bool
 unfolding signature_of
 ok14 s i =
     let f = signature_of (kind s i) in
-    leb (kind s i) 14
-    && (eqb (zero_byte s i) 0
-    && ((not f.r ⇒ eqb (r s i) 0)
-    && ((not f.ir ⇒ eqb (ir s i) 0)
-    && ((not f.number ⇒ eqb (number s i) 0) && ((not f.c ⇒ eqb (c s i) 0) && (not f.ic ⇒ eqb (ic s i) 0))))))
+    nat_le (kind s i) 14
+    && (nat_eq (zero_byte s i) 0
+    && ((not f.r ⇒ nat_eq (r s i) 0)
+    && ((not f.ir ⇒ nat_eq (ir s i) 0)
+    && ((not f.number ⇒ nat_eq (number s i) 0) && ((not f.c ⇒ nat_eq (c s i) 0) && (not f.ic ⇒ nat_eq (ic s i) 0))))))
 
+-- 14, of each record
 abbrev pub q14 : Bytes → Answer (Unit {0})
 q14 s = each 14 (records s) (ok14 s)
 
--- "for kinds 1 to 5", and item 13: "15 and 36 take a literal like kind 1"
+-- kinds 1 to 5 and 12: what carries a property of its own
 abbrev pub is_object : ℕ → Bool
-is_object kind = (leb 1 kind && leb kind 5) || eqb kind 12
+is_object kind = (nat_le 1 kind && nat_le kind 5) || nat_eq kind 12
 
--- 15. Named groups in table, and for kinds 1 to 5 ir ⊑ r?
+-- 15. Are the named groups in the table, and for objects (kinds 1 to 5 and 12) is ir ⊑ r? Place: the record.
 unfoldable pub ok15 : Bytes → Bytes → ℕ → Bool
 unfolding signature_of
 ok15 g s i =
     let f = signature_of (kind s i) in
-    (f.r ⇒ ltb (r s i) (rows g))
-    && ((f.ir ⇒ ltb (ir s i) (rows g))
-    && ((f.c ⇒ ltb (c s i) (rows g)) && ((f.ic ⇒ ltb (ic s i) (rows g)) && (is_object (kind s i) ⇒ leq g (ir s i) (r s i)))))
+    (f.r ⇒ nat_lt (r s i) (rows g))
+    && ((f.ir ⇒ nat_lt (ir s i) (rows g))
+    && ((f.c ⇒ nat_lt (c s i) (rows g)) && ((f.ic ⇒ nat_lt (ic s i) (rows g)) && (is_object (kind s i) ⇒ leq g (ir s i) (r s i)))))
 
+-- 15, of each record
 abbrev pub q15 : Bytes → Bytes → Answer (Unit {0})
 q15 g s = each 15 (records s) (ok15 g s)
 
--- 36. "and, for kinds 1 to 5, after 15 when ic ⊑ c fails at that record"
+-- 36. Of an object (kinds 1 to 5 and 12): is ic ⊑ c? Place: the record. Of scripts it is asked between 15 and 16.
 unfoldable pub ok36_object : Bytes → Bytes → ℕ → Bool
 ok36_object g s i = is_object (kind s i) ⇒ leq g (ic s i) (c s i)
 
+-- 36, of each record
 abbrev pub q36_objects : Bytes → Bytes → Answer (Unit {0})
 q36_objects g s = each 36 (records s) (ok36_object g s)
 
 -- is record i a case that finds its own type?
 abbrev pub own_at : Bytes → ℕ → Bool
-own_at s i = eqb (kind s i) 9 && finds_own (number s i)
+own_at s i = nat_eq (kind s i) 9 && finds_own (number s i)
 
--- is type n "a sum of two units"?
+-- is type n a sum of two units?
 abbrev pub sum_of_units : Bytes → ℕ → Bool
-sum_of_units t n = eqb (type_kind t n) 1 && (eqb (type_kind t (n + 1)) 0 && eqb (type_kind t (n + 2)) 0)
+sum_of_units t n = nat_eq (type_kind t n) 1 && (nat_eq (type_kind t (n + 1)) 0 && nat_eq (type_kind t (n + 2)) 0)
 
--- 16. Does a named type exist, a sum for 4 and 5, a function for 11, a sum of two units for 14? A case's number 65,535 names none.
+-- 16. Does the named type exist (a case with number 65,535 names none), and is it a sum for kinds 4 and 5, a function
+-- for 11, and a sum of two units for 14? Place: the record.
 unfoldable pub ok16 : Bytes → Bytes → ℕ → Bool
 unfolding signature_of
 ok16 t s i =
-    ((signature_of (kind s i)).typed ⇒ own_at s i || ltb (number s i) (type_count t))
-    && ((eqb (kind s i) 4 || eqb (kind s i) 5 ⇒ eqb (type_kind t (number s i)) 1)
-    && ((eqb (kind s i) 11 ⇒ eqb (type_kind t (number s i)) 3) && (eqb (kind s i) 14 ⇒ sum_of_units t (number s i))))
+    ((signature_of (kind s i)).typed ⇒ own_at s i || nat_lt (number s i) (type_count t))
+    && ((nat_eq (kind s i) 4 || nat_eq (kind s i) 5 ⇒ nat_eq (type_kind t (number s i)) 1)
+    && ((nat_eq (kind s i) 11 ⇒ nat_eq (type_kind t (number s i)) 3) && (nat_eq (kind s i) 14 ⇒ sum_of_units t (number s i))))
 
+-- 16, of each record
 abbrev pub q16 : Bytes → Bytes → Answer (Unit {0})
 q16 t s = each 16 (records s) (ok16 t s)
 
@@ -305,36 +311,41 @@ term_end s i = end_after (λ j. arity (kind s j)) (records s - i) 1 i
 -- a term's end against the record count
 abbrev pub exactly : ℕ → Option ℕ → Answer (Unit {0})
 exactly n none = refused 17 n
-exactly n (some e) = ask 17 e (eqb e n)
+exactly n (some e) = ask 17 e (nat_eq e n)
 
--- 17. Exactly one whole term? (the record count if cut short, else the first record left over)
+-- 17. Is the script exactly one whole term? Place: the record count if it is cut short, else the first record that is
+-- left over.
 abbrev pub q17 : Bytes → Answer (Unit {0})
 q17 s = exactly (records s) (term_end s 0)
 
--- 18. Depth at most 256? (first deeper record) `ds` are the depths of the records.
+-- 18. Is the record's depth at most 256? Place: the record. `ds` are the depths of the records.
 unfoldable pub ok18 : List ℕ → ℕ → Bool
-ok18 ds i = leb (get_or ds i 0) depth_limit
+ok18 ds i = nat_le (get_or ds i 0) depth_limit
 
+-- 18, of each record
 abbrev pub q18 : Bytes → Answer (Unit {0})
 q18 s = each 18 (records s) (ok18 (depths (term s)))
 
--- 19. Variable's number below its count of binders? `bs` are those counts.
+-- 19. Is a variable's number below the count of binders over it? Place: the record. `bs` are those counts.
 unfoldable pub ok19 : List ℕ → Bytes → ℕ → Bool
-ok19 bs s i = eqb (kind s i) 0 ⇒ ltb (number s i) (get_or bs i 0)
+ok19 bs s i = nat_eq (kind s i) 0 ⇒ nat_lt (number s i) (get_or bs i 0)
 
+-- 19, of each record
 abbrev pub q19 : Bytes → Answer (Unit {0})
 q19 s = each 19 (records s) (ok19 (binders (term s)) s)
 
+-- the bytes from record i to before record e, if there is such an end
 abbrev pub slice : Bytes → ℕ → Option ℕ → Bytes
 slice s i none = []
 slice s i (some e) = take (script_width * (e - i)) (drop (script_width * i) s)
 
+-- a part, where the questions were answered yes, and else the empty part
 abbrev pub part_if : Answer (Unit {0}) → Bytes → Bytes
 part_if (accepted u) part = part
 part_if (refused q p) part = []
 
--- "The look-up of a subterm hands back that part of the caller's script, from its record to the end of its last operand. It
--- gives the empty part when question 13, 14 or 17 is answered no or the index is past the end."
+-- The look-up of a subterm: the part of the script from record i to the end of the term that starts there. It is empty
+-- where 13, 14 or 17 is answered no of the whole script, or the index is past the end (manual, 4.8).
 unfoldable pub subterm : Bytes → ℕ → Bytes
 unfolding first_from ok14 term_end
 subterm s i =

@@ -1,4 +1,4 @@
--- Document 02, item 7: a studio's own words, and the order of questions 32 to 34.
+-- Examples of a studio's own words, and of the order of questions 32 to 34.
 use Rattle.std.specs.Prelude.{◌≡◌, [], ◌∷◌, ◌++◌, ℕ, suc, ◌*◌, take, drop}
 use Rattle.std.proofs.Math.Option.{none, some}
 use Prim.Native.String.{String}
@@ -14,13 +14,15 @@ use Rattle.rules.specs.Cases.{groups, types, case_term}
 abbrev pub put : ℕ → Bytes → Bytes → Bytes
 put i b w = take (word_width * i) w ++ b ++ drop (word_width * suc i) w
 
--- ours, with another record i or another word i
+-- the check of our words with another record i
 abbrev pub with_record : ℕ → Bytes → Answer (Unit {0})
 with_record i b = words_check (put i b our_words)
 
+-- the check of our words with another word i
 abbrev pub with_word : ℕ → String → Answer (Unit {0})
 with_word i s = with_record i (word_record s)
 
+-- Each field is one table with its answer, computed.
 pub record WordExamples : Type 0 where
   -- ours pass their own test, and a missing file means them
   pub ours_pass : words_check our_words ≡ accepted tt

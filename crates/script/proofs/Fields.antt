@@ -1,5 +1,5 @@
 -- Questions 14 and 15 of one record, from the fields that the code has read.
-use Rattle.std.proofs.Common.{rules, ◌≡◌, refl, ℕ, Bool, true, false, not, ◌&&◌, ◌||◌, eqb, leb, ltb}
+use Rattle.std.proofs.Common.{rules, ◌≡◌, refl, ℕ, Bool, true, false, not, ◌&&◌, ◌||◌, nat_eq, nat_le, nat_lt}
 use Rattle.std.proofs.Math.Bool.{and_assoc}
 use Rattle.calculus.specs.Security.{Property}
 use Rattle.rules.specs.Answer.{Bytes, ◌⇒◌}
@@ -12,7 +12,7 @@ use Rattle.records.specs.Labels.{property_at}
 use Rattle.answer.proofs.Implications.{not_or_implies}
 
 -- each kind's number is at most the last
-pub known : (k : Kind) → leb (kind_number k) kinds.less ≡ true
+pub known : (k : Kind) → nat_le (kind_number k) kinds.less ≡ true
 known k = search rules
 
 or_implies : (a b : Bool) → (a || b) ≡ (not a ⇒ b)
@@ -20,12 +20,12 @@ or_implies true b = refl
 or_implies false b = refl
 
 module _ (s : Bytes) (i : ℕ) {k : ℕ} {f : Signature} {p : Property} (kind_is : k ≡ kind s i) (line_is : f ≡ signature_of k) (property_is : p ≡ property_at s i) where
-  pub ok14_is : {z n : ℕ} → leb k kinds.less ≡ true → z ≡ zero_byte s i → n ≡ number s i
-      → (((((eqb z 0 && (f.r || eqb p.r 0)) && (f.ir || eqb p.ir 0)) && (f.number || eqb n 0)) && (f.c || eqb p.c 0)) && (f.ic || eqb p.ic 0)) ≡ ok14 s i
+  pub ok14_is : {z n : ℕ} → nat_le k kinds.less ≡ true → z ≡ zero_byte s i → n ≡ number s i
+      → (((((nat_eq z 0 && (f.r || nat_eq p.r 0)) && (f.ir || nat_eq p.ir 0)) && (f.number || nat_eq n 0)) && (f.c || nat_eq p.c 0)) && (f.ic || nat_eq p.ic 0)) ≡ ok14 s i
   unfolding ok14
   ok14_is known ez en = rw (line_is, property_is, ez, en, kind_is) (simp (or_implies, and_assoc, rw kind_is at known))
 
   pub ok15_is : (g : Bytes) {n : ℕ} {w : Bool} → n ≡ rows g → w ≡ leq g p.ir p.r
-      → (((((f.r ⇒ ltb p.r n) && (f.ir ⇒ ltb p.ir n)) && (f.c ⇒ ltb p.c n)) && (f.ic ⇒ ltb p.ic n)) && (not (is_object k) || w)) ≡ ok15 g s i
+      → (((((f.r ⇒ nat_lt p.r n) && (f.ir ⇒ nat_lt p.ir n)) && (f.c ⇒ nat_lt p.c n)) && (f.ic ⇒ nat_lt p.ic n)) && (not (is_object k) || w)) ≡ ok15 g s i
   unfolding ok15
   ok15_is g en ew = rw (ew, line_is, property_is, kind_is, en) (simp (not_or_implies, and_assoc))

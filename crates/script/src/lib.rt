@@ -1,35 +1,39 @@
-// Questions 13 to 17, 36 and 39 of a script, one function each.
+// The check of a script: a function for each of its questions 13 to 17, 36 and 39.
 
 #![tactic(auto)]
 
-ghost use Rattle.std.specs.Prelude.{◌≡◌, ◌&&◌, ◌<◌, eqb, ltb};
-ghost use Rattle.rules.specs.Script.{records, kind, is_object, ok14, ok15, ok36_object, ok16, sum_of_units, q13_of, q13, q14, q15, q36_objects, q16, q17};
+ghost use Rattle.std.specs.Prelude.{◌≡◌, ◌&&◌, ◌<◌, nat_eq, nat_lt};
+ghost use Rattle.rules.specs.Script.{records, kind, is_object, ok14, ok15, ok36_object, ok16, sum_of_units};
+ghost use Rattle.rules.specs.Script.{q13_of, q13, q14, q15, q36_objects, q16, q17};
 ghost use Rattle.rules.specs.Profile.{ok39, q39};
 ghost use Rattle.rules.specs.Types.{type_count, type_kind};
-ghost use Rattle.answer.specs.Said.{said};
+ghost use Rattle.answer.specs.Said.{answer_of};
 
 use answer::{Checked, Question};
 use records::{Kind, SCRIPT_WIDTH};
 use types::TYPE_WIDTH;
 
+/// The most records of a script.
 pub const SCRIPT_LIMIT: usize = 8192;
 
-// The longest script.
+/// The bytes of the longest script.
 pub const SCRIPT_LENGTH: usize = SCRIPT_LIMIT * SCRIPT_WIDTH;
 
-// 13. Whole records, 1 to 8,192, and within the buffers of these lengths? A run has two, other calls none. Records of an earlier form
-// have another width.
+/// Whole records of `width` bytes, 1 to 8,192, and no longer than any of the buffers of these lengths? Question 13,
+/// `ScriptLength`. A run has two buffers, other calls none. Records of an earlier form have another width.
 pub fn question_13_of(script: &[u8], width: usize, buffers: &[usize]) -> Checked
     requires { 0 < width }
-    ensures { said result ≡ q13_of width buffers.now script.now }
+    ensures { answer_of result ≡ q13_of width buffers.now script.now }
 {
     let whole = answer::whole(script.len(), width, SCRIPT_LIMIT);
     let fits = buffers.iter().all(|room| script.len() <= *room);
     answer::ask(Question::ScriptLength, 0, whole & fits)
 }
 
+/// Whole records of 8 bytes, 1 to 8,192, and no longer than any of the buffers of these lengths? Question 13,
+/// `ScriptLength`.
 pub fn question_13(script: &[u8], buffers: &[usize]) -> Checked
-    ensures { said result ≡ q13 buffers.now script.now }
+    ensures { answer_of result ≡ q13 buffers.now script.now }
 {
     question_13_of(script, SCRIPT_WIDTH, buffers)
 }
@@ -53,9 +57,9 @@ fn fields_right(script: &[u8], i: usize) -> bool
         & (named.ic | (p.ic.0 == 0))
 }
 
-// 14. Kind at most 14, unnamed fields 0?
+/// A kind that there is, and 0 in every field that the kind does not name? Question 14, `Fields`, of every record.
 pub fn question_14(script: &[u8]) -> Checked
-    ensures { said result ≡ q14 script.now }
+    ensures { answer_of result ≡ q14 script.now }
 {
     answer::each(
         Question::Fields,
@@ -91,9 +95,9 @@ fn groups_right(groups: &[u8], script: &[u8], i: usize) -> bool
         & (!kind.is_object() | p.ir.within(groups, p.r))
 }
 
-// 15. Named groups in table, and for kinds 1 to 5 and 12 ir ⊑ r?
+/// Every named group in the table, and ir ⊑ r in an object's record? Question 15, `Groups`, of every record.
 pub fn question_15(groups: &[u8], script: &[u8]) -> Checked
-    ensures { said result ≡ q15 groups.now script.now }
+    ensures { answer_of result ≡ q15 groups.now script.now }
 {
     answer::each(
         Question::Groups,
@@ -112,9 +116,9 @@ fn creators_right(groups: &[u8], script: &[u8], i: usize) -> bool
     !is_object(script, i) | p.ic.within(groups, p.c)
 }
 
-// 36. For kinds 1 to 5 and 12, ic ⊑ c?
+/// ic ⊑ c in an object's record? Question 36, `Creators`, of every record.
 pub fn question_36(groups: &[u8], script: &[u8]) -> Checked
-    ensures { said result ≡ q36_objects groups.now script.now }
+    ensures { answer_of result ≡ q36_objects groups.now script.now }
 {
     answer::each(
         Question::Creators,
@@ -125,15 +129,16 @@ pub fn question_36(groups: &[u8], script: &[u8]) -> Checked
 
 // Is n a type of the table?
 fn exists(types: &[u8], n: usize) -> bool
-    ensures { result ≡ ltb n (type_count types.now) }
+    ensures { result ≡ nat_lt n (type_count types.now) }
 {
     n < types::type_count(types)
 }
 
-// Is the kind of type record i 0? Past the table's end it is read as 0; where a table has whole types, a sum's sides are there.
+// Is the kind of type record i 0? Past the table's end it is read as 0; where a table has whole types, a sum's sides
+// are there.
 fn reads_unit(types: &[u8], i: usize) -> bool
     requires { i < 65538 }
-    ensures { result ≡ eqb (type_kind types.now i) 0 }
+    ensures { result ≡ nat_eq (type_kind types.now i) 0 }
 {
     types
         .get(TYPE_WIDTH * i)
@@ -143,13 +148,14 @@ fn reads_unit(types: &[u8], i: usize) -> bool
 // Is n a type of the table, and a sum of two units?
 fn is_sum_of_units(types: &[u8], n: usize) -> bool
     requires { n < 65536 }
-    ensures { result ≡ (ltb n (type_count types.now) && sum_of_units types.now n) }
+    ensures { result ≡ (nat_lt n (type_count types.now) && sum_of_units types.now n) }
 {
     types::is_of_kind(types, n, types::Kind::Sum)
         && (reads_unit(types, n + 1) && reads_unit(types, n + 2))
 }
 
-// Does the type that record i names exist, a sum for 4 and 5, a function for 11, a sum of two units for 14? A case that finds its own type names none.
+// Does the type that record i names exist, a sum for 4 and 5, a function for 11, a sum of two units for 14? A case
+// that finds its own type names none.
 #[tactic(auto, unfolding(rules::specs::Script::ok16, rules::specs::Script::signature_of, rules::specs::Script::signatures))]
 fn type_right(types: &[u8], script: &[u8], i: usize) -> bool
     requires { i < records script.now }
@@ -170,9 +176,10 @@ fn type_right(types: &[u8], script: &[u8], i: usize) -> bool
     }
 }
 
-// 16. Does a named type exist, a sum for 4 and 5, a function for 11, a sum of two units for 14?
+/// Does a named type exist: a sum for an injection, a function for a recursion, a sum of two units for a comparison?
+/// Question 16, `NamedTypes`, of every record. A case that finds its own type names none.
 pub fn question_16(types: &[u8], script: &[u8]) -> Checked
-    ensures { said result ≡ q16 types.now script.now }
+    ensures { answer_of result ≡ q16 types.now script.now }
 {
     answer::each(
         Question::NamedTypes,
@@ -181,9 +188,10 @@ pub fn question_16(types: &[u8], script: &[u8]) -> Checked
     )
 }
 
-// 17. Exactly one whole term? The place is where the first one ends, or the script where it is cut short.
+/// Exactly one whole term? Question 17, `OneTerm`, refused where the first one ends, or at the record count where it
+/// is cut short.
 pub fn question_17(script: &[u8]) -> Checked
-    ensures { said result ≡ q17 script.now }
+    ensures { answer_of result ≡ q17 script.now }
 {
     let count = records::record_count(script);
     let end = records::term_end(script, 0);
@@ -199,9 +207,9 @@ fn no_recursion(script: &[u8], i: usize) -> bool
     records::kind_at(script, i) != Some(Kind::Recursion)
 }
 
-// 39. No recursion? The profile of the scripts that always finish.
+/// No recursion? Question 39, `Profile`, of every record: the profile of the scripts that always finish.
 pub fn question_39(script: &[u8]) -> Checked
-    ensures { said result ≡ q39 script.now }
+    ensures { answer_of result ≡ q39 script.now }
 {
     answer::each(
         Question::Profile,

@@ -1,14 +1,16 @@
 -- The questions in order, and the answer from what was asked.
-use Rattle.std.proofs.Common.{◌≡◌, sym, ap, ◌∙◌, true, false, [], ℕ, ◌*◌, ◌/◌, ◌≤◌, ◌<◌, arith, le-leb, ltb-true, leb, ltb, length}
+use Rattle.std.proofs.Common.{◌≡◌, sym, ap, ◌∙◌, true, false, [], ℕ, ◌*◌, ◌/◌, ◌≤◌, ◌<◌, arith, le-leb, ltb-true}
+use Rattle.std.proofs.Common.{nat_le, nat_lt, length}
 use Rattle.calculus.specs.Terms.{is_value}
 use Rattle.rules.specs.Answer.{Bytes, Octets, Answer, accepted, refused, ask, ◌>>◌}
 use Rattle.rules.specs.Limits.{sheet_width, group_limit}
 use Rattle.rules.specs.Groups.{rows, q2}
 use Rattle.rules.specs.Script.{encode, term}
 use Rattle.rules.specs.Sheet.{sheet}
-use Rattle.rules.specs.Calls.{groups_check, types_check, script_check, q25, q26, q27, sheeting, sheet_records, sheet_after}
+use Rattle.rules.specs.Calls.{groups_check, types_check, script_check, q25, q26, q27, sheet_call, sheet_records}
+use Rattle.rules.specs.Calls.{sheet_after}
 use Rattle.rules.proofs.Asked.{ask_true, and_then, regroup, few_rows}
-use Rattle.demands.proofs.Checked.{script_passed}
+use Rattle.promises.proofs.Checked.{script_passed}
 use Rattle.memory.specs.Splice.{splice}
 use Rattle.memory.proofs.Laws.{splice_front}
 use Rattle.sheet.specs.Value.{lines}
@@ -24,7 +26,7 @@ all_of : (g t s : Bytes) (group : ℕ) → before_26 g t s group ≡ accepted tt
 unfolding before_26
 all_of g t s group e =
     let a = and_then (script_check [] g t s) (q25 0 group (rows g)) e in
-    (a.0, ltb-true group (rows g) (ask_true 25 0 (ltb group (rows g)) a.1))
+    (a.0, ltb-true group (rows g) (ask_true 25 0 (nat_lt group (rows g)) a.1))
 
 -- the questions after 25, and the sheet
 abbrev pub from_26 : Bytes → Bytes → ℕ → ℕ → Answer Bytes
@@ -33,8 +35,8 @@ from_26 g s group room = do
   q27 (sheet g group (term s)) room
   accepted (sheet g group (term s))
 
-sheeting_is : (g t s : Bytes) (group room : ℕ) → sheeting g t s group room ≡ ◌>>◌ (before_26 g t s group) (from_26 g s group room)
-unfolding sheeting before_26 script_check is_value sheet term
+sheeting_is : (g t s : Bytes) (group room : ℕ) → sheet_call g t s group room ≡ ◌>>◌ (before_26 g t s group) (from_26 g s group room)
+unfolding sheet_call before_26 script_check is_value sheet term
 sheeting_is g t s group room = sym (regroup (script_check [] g t s) (q25 0 group (rows g)) (from_26 g s group room))
 
 -- the answer and the buffer, from the call's
@@ -54,7 +56,7 @@ the_sheet o b old new n e l h =
 
 module _ (g t s : Bytes) (group : ℕ) (old : Bytes) where
   abbrev call : Answer Bytes
-  call = sheeting g t s group (length old)
+  call = sheet_call g t s group (length old)
 
   pub stopped : {q p : ℕ} → refused q p ≡ before_26 g t s group → Paged call old (refused q p) old
   stopped {q} {p} e =
@@ -67,7 +69,7 @@ module _ (g t s : Bytes) (group : ℕ) (old : Bytes) where
     pub no_value : is_value (term s) ≡ false → Paged call old (refused 26 0) old
     no_value v = no_sheet call old 26 0 (after_25 ∙ rw v)
 
-    pub room_asked : {n q p : ℕ} → is_value (term s) ≡ true → n ≡ lines g group (term s) → refused q p ≡ ask 27 0 (leb (sheet_width * n) (length old))
+    pub room_asked : {n q p : ℕ} → is_value (term s) ≡ true → n ≡ lines g group (term s) → refused q p ≡ ask 27 0 (nat_le (sheet_width * n) (length old))
         → Paged call old (refused q p) old
     room_asked {n} {q} {p} v c e =
         let l : sheet_width * n ≡ length (sheet g group (term s)) = omega (arith, c, sheet_length g group (term s)) in

@@ -1,8 +1,10 @@
 -- A value's sheet from its object's record and, where it is open, the sheets of its parts.
-use Rattle.std.proofs.Common.{◌≡◌, refl, sym, ap, subst, ◌∙◌, Bool, true, false, cond, [], ◌++◌, ℕ, ◌+◌, ◌*◌, ◌≤◌, ◌<◌, arith, length, length-append}
+use Rattle.std.proofs.Common.{◌≡◌, refl, sym, ap, subst, ◌∙◌, Bool, true, false, cond, [], ◌++◌, ℕ, ◌+◌, ◌*◌, ◌≤◌, ◌<◌}
+use Rattle.std.proofs.Common.{arith, length, length-append}
 use Rattle.std.proofs.Math.Bool.{false≢true, and-eq-true_iff}
 use Rattle.calculus.specs.Security.{Property}
-use Rattle.calculus.specs.Terms.{first, second, choose, Term, var, unit, lam, pair, inj, app, proj, case, protect, mu, literal, reckon, is_value}
+use Rattle.calculus.specs.Terms.{first, second, choose, Term, var, unit, lam, pair, inj, app, proj, case, protect, mu}
+use Rattle.calculus.specs.Terms.{literal, reckon, is_value}
 use Rattle.rules.specs.Answer.{Bytes}
 use Rattle.rules.specs.Limits.{sheet_width}
 use Rattle.rules.specs.Groups.{leq}
@@ -18,13 +20,14 @@ use Rattle.records.proofs.Stands.{kind_of, there, at_first, at_second}
 use Rattle.memory.specs.Written.{Room, Written}
 use Rattle.memory.specs.declared.Writer.{Writer}
 use Rattle.memory.proofs.Placed.{then, room_first, room_next}
-use Rattle.sheet.specs.Shown.{line, shown_kind}
+use Rattle.sheet.specs.Shown.{shown_line, shown_kind}
 use Rattle.sheet.specs.Value.{lines, SheetRoom}
-use Rattle.sheet.proofs.Values.{View, other, a_unit, a_function, a_literal, a_pair, injection, view, own, Pairs, pairs, first_part, no_such_parts}
+use Rattle.sheet.proofs.Values.{View, other, a_unit, a_function, a_literal, a_pair, injection, view, own, Pairs, pairs}
+use Rattle.sheet.proofs.Values.{first_part, no_such_parts}
 
 -- the line of the object at record i for a reader group
 abbrev pub shown : Bytes → ℕ → Bytes → ℕ → Bytes
-shown g group s i = line (leq g (r s i) group) s i
+shown g group s i = shown_line (leq g (r s i) group) s i
 
 -- a closed object's record is all of its sheet
 with_parts : (told : Bool) (k r ir : ℕ) (parts : Bytes) (n : ℕ) → length parts ≡ sheet_width * n
@@ -38,24 +41,18 @@ without_parts false k r ir n = refl
 
 pub sheet_length : (g : Bytes) (group : ℕ) (e : Term) → length (sheet g group e) ≡ sheet_width * lines g group e
 unfolding sheet lines
-sheet_length g group (var n) = refl
 sheet_length g group (unit k) = without_parts (leq g k.r group) 0 k.r k.ir 0
 sheet_length g group (lam k i e) = without_parts (leq g k.r group) 4 k.r k.ir 0
 sheet_length g group (pair k a b) =
     with_parts (leq g k.r group) 3 k.r k.ir (sheet g group a ++ sheet g group b) (lines g group a + lines g group b)
     (omega (arith, length-append (sheet g group a) (sheet g group b), sheet_length g group a, sheet_length g group b))
 sheet_length g group (inj d k i e) = with_parts (leq g k.r group) (choose d 1 2) k.r k.ir (sheet g group e) (lines g group e) (sheet_length g group e)
-sheet_length g group (app w f a) = refl
-sheet_length g group (proj d w e) = refl
-sheet_length g group (case w i e a b) = refl
-sheet_length g group (protect m e) = refl
-sheet_length g group (mu w i e) = refl
 sheet_length g group (literal k n) = without_parts (leq g k.r group) 6 k.r k.ir n
-sheet_length g group (reckon o w a b) = refl
+sheet_length g group _ = refl
 
 -- what the object's record tells stands in the script
 pub shown_at : (g : Bytes) (group : ℕ) (s : Bytes) (i : ℕ) (e : Term) → At s i e → shown g group s i ≡ shown g group (term_head e) 0
-unfolding shown_kind line
+unfolding shown_kind shown_line
 shown_at g group s i e w =
     rw (← kind_is s i, ← r_is s i, ← ir_is s i, ← number_is s i) refl
     ∙ ap (λ (b : Bytes). shown g group b 0) (record_is term_code s i e w.rest w.stands)
@@ -66,7 +63,7 @@ module _ (g : Bytes) (group : ℕ) where
 
   -- a literal's number is read back from its record
   literal_sheet : (k : Property) (n : ℕ) → shown g group (term_head (literal k n)) 0 ≡ sheet g group (literal k n)
-  unfolding sheet line shown_kind
+  unfolding sheet shown_line shown_kind
   literal_sheet k n = ap (λ (m : ℕ). sheet_record g group 6 k m) (two_bytes n)
 
   -- the object's record is all of its sheet
@@ -75,7 +72,7 @@ module _ (g : Bytes) (group : ℕ) where
 
   -- of a unit, a function and a literal
   pub without : {e : Term} → View e → is_value e ≡ true → (kinds.function < kind_of e → kinds.second_injection < kind_of e) → Alone e
-  unfolding sheet line shown_kind
+  unfolding sheet shown_line shown_kind
   without (other n k) v l = absurd (false≢true (sym n ∙ v))
   without a_unit v l = refl
   without a_function v l = refl
@@ -85,7 +82,7 @@ module _ (g : Bytes) (group : ℕ) where
 
   -- and of a closed object of any kind
   pub closed : {e : Term} → View e → is_value e ≡ true → leq g (own e) group ≡ false → Alone e
-  unfolding sheet line shown_kind
+  unfolding sheet shown_line shown_kind
   closed (other n k) v h = absurd (false≢true (sym n ∙ v))
   closed a_unit v h = refl
   closed a_function v h = refl
@@ -96,7 +93,7 @@ module _ (g : Bytes) (group : ℕ) where
   -- the sheet of an open pair or injection goes on with its parts
   pub sheet_injection : {e : Term} → View e → Open e → kinds.function < kind_of e → kind_of e ≤ kinds.second_injection → (kind_of e ≡ kinds.pair → ⊥)
       → shown g group (term_head e) 0 ++ sheet g group (first_operand e) ≡ sheet g group e
-  unfolding sheet line shown_kind
+  unfolding sheet shown_line shown_kind
   sheet_injection {e} (other v k) o l m h = no_such_parts (kind_of e) k l m
   sheet_injection a_unit o l m h = absurd (omega arith)
   sheet_injection a_function o l m h = absurd (omega arith)
@@ -107,33 +104,25 @@ module _ (g : Bytes) (group : ℕ) where
 
   pub sheet_pair : {e : Term} → View e → Open e → kind_of e ≡ kinds.pair
       → shown g group (term_head e) 0 ++ (sheet g group (first_operand e) ++ sheet g group (second_operand e)) ≡ sheet g group e
-  unfolding sheet line shown_kind
+  unfolding sheet shown_line shown_kind
   sheet_pair {e} (other v k) o h = no_such_parts (kind_of e) k (omega arith) (omega arith)
-  sheet_pair a_unit o h = absurd (omega arith)
-  sheet_pair a_function o h = absurd (omega arith)
-  sheet_pair a_literal o h = absurd (omega arith)
   sheet_pair a_pair o h = rw o
   sheet_pair (injection p q) o h = absurd (omega arith)
+  sheet_pair _ o h = absurd (omega arith)
 
   -- a value takes a line of the sheet
   pub a_line : {e : Term} → View e → is_value e ≡ true → 1 ≤ lines g group e
   unfolding lines
   a_line (other n k) v = absurd (false≢true (sym n ∙ v))
-  a_line a_unit v = omega arith
-  a_line a_function v = omega arith
-  a_line a_literal v = omega arith
-  a_line a_pair v = omega arith
-  a_line (injection p q) v = omega arith
+  a_line _ v = omega arith
 
 -- the parts of a value are values
 pub first_value : {e : Term} → View e → is_value e ≡ true → kinds.function < kind_of e → kind_of e ≤ kinds.second_injection → is_value (first_operand e) ≡ true
 unfolding is_value
 first_value (other n k) v l m = absurd (false≢true (sym n ∙ v))
-first_value a_unit v l m = absurd (omega arith)
-first_value a_function v l m = absurd (omega arith)
-first_value a_literal v l m = absurd (omega arith)
 first_value a_pair v l m = ((and-eq-true_iff _ _).0 v).0
 first_value (injection p q) v l m = v
+first_value _ v l m = absurd (omega arith)
 
 pub second_value : {e : Term} → is_value e ≡ true → Pairs e → is_value (second_operand e) ≡ true
 second_value {e} v p = ((and-eq-true_iff (is_value (first_operand e)) (is_value (second_operand e))).0 (sym p.value ∙ v)).1

@@ -1,9 +1,11 @@
 -- What a look finds at a term's record and at its operands.
-use Rattle.std.proofs.Common.{◌≡◌, ℕ, ◌+◌, ◌≤◌, ◌<◌, Bool, true, false, cond, ◌&&◌, Option, Some, None, ◌⊎◌, inl, inr, refl, sym, ap, ◌∙◌, true≢false, arith}
+use Rattle.std.proofs.Common.{◌≡◌, ℕ, ◌+◌, ◌≤◌, ◌<◌, Bool, true, false, cond, ◌&&◌, Option, Some, None, ◌⊎◌, inl, inr}
+use Rattle.std.proofs.Common.{refl, sym, ap, ◌∙◌, true≢false, arith}
 use Rattle.std.proofs.Math.Bool.{false≢true}
 use Rattle.std.proofs.lemmas.Bool.Decides.{nat_tests}
 use Rattle.calculus.specs.Security.{Property}
-use Rattle.calculus.specs.Terms.{Side, first, second, choose, plus, less, Term, var, unit, lam, pair, inj, app, proj, case, protect, mu, literal, reckon, is_value}
+use Rattle.calculus.specs.Terms.{Side, first, second, choose, plus, less, Term, var, unit, lam, pair, inj, app, proj}
+use Rattle.calculus.specs.Terms.{case, protect, mu, literal, reckon, is_value}
 use Rattle.rules.specs.Answer.{Bytes}
 use Rattle.rules.specs.Groups.{leq}
 use Rattle.rules.specs.Script.{kind, size, r, is_object}
@@ -17,7 +19,7 @@ use Rattle.records.specs.declared.Kind.TheVariants as the
 use Rattle.records.specs.Place.{At}
 use Rattle.records.specs.Operands.{first_operand, second_operand}
 use Rattle.records.proofs.Stands.{kind_of, stands_kind, operands}
-use Rattle.sheet.specs.Value.{lines, lines_if, looked}
+use Rattle.sheet.specs.Value.{lines, lines_if, value_found}
 use Rattle.sheet.specs.declared.Reached.{Reached}
 
 -- the kind that is read is the term's
@@ -70,50 +72,41 @@ module _ (g : Bytes) (group : ℕ) where
   -- no more sheet records than records
   lines_at_most : (e : Term) → lines g group e ≤ size e
   unfolding lines size
-  lines_at_most (var n) = omega arith
-  lines_at_most (unit k) = omega arith
-  lines_at_most (lam k i e) = omega arith
   lines_at_most (pair k a b) = at_most (leq g k.r group) (lines g group a + lines g group b) (size a + size b) (omega (arith, lines_at_most a, lines_at_most b))
   lines_at_most (inj d k i e) = at_most (leq g k.r group) (lines g group e) (size e) (lines_at_most e)
-  lines_at_most (app w f a) = omega arith
-  lines_at_most (proj d w e) = omega arith
-  lines_at_most (case w i e a b) = omega arith
-  lines_at_most (protect m e) = omega arith
-  lines_at_most (mu w i e) = omega arith
-  lines_at_most (literal k n) = omega arith
-  lines_at_most (reckon o w a b) = omega arith
+  lines_at_most _ = omega arith
 
   pub lines_size : (shown : Bool) (e : Term) → lines_if g group shown e ≤ size e
   lines_size true e = lines_at_most e
   lines_size false e = omega arith
 
   module _ (shown : Bool) where
-    pub looked_no : (e : Term) (i n : ℕ) → is_value e ≡ false → None ≡ looked g group shown e i n
-    unfolding looked
+    pub looked_no : (e : Term) (i n : ℕ) → is_value e ≡ false → None ≡ value_found g group shown e i n
+    unfolding value_found
     looked_no e i n h = rw h
 
     pub looked_yes : (e : Term) (i n : ℕ) (x : Reached) → is_value e ≡ true → x.next ≡ i + size e → x.line ≡ n + lines_if g group shown e
-        → Some x ≡ looked g group shown e i n
-    unfolding looked
+        → Some x ≡ value_found g group shown e i n
+    unfolding value_found
     looked_yes e i n x h p q = rw (h, ← p, ← q)
 
     -- a value was found
-    pub record Found (e : Term) (i n : ℕ) (x : Reached) : Type 0 where
+    pub record ValueLines (e : Term) (i n : ℕ) (x : Reached) : Type 0 where
       pub value : is_value e ≡ true
       pub end : x.next ≡ i + size e
       pub count : x.line ≡ n + lines_if g group shown e
 
-    pub found : (e : Term) (i n : ℕ) (x : Reached) → Some x ≡ looked g group shown e i n → Found e i n x
-    unfolding looked
+    pub found : (e : Term) (i n : ℕ) (x : Reached) → Some x ≡ value_found g group shown e i n → ValueLines e i n x
+    unfolding value_found
     found e i n x h = go (is_value e) refl h
       where
-        go : (b : Bool) → is_value e ≡ b → Some x ≡ cond b (Some (record { next = i + size e; line = n + lines_if g group shown e })) None → Found e i n x
+        go : (b : Bool) → is_value e ≡ b → Some x ≡ cond b (Some (record { next = i + size e; line = n + lines_if g group shown e })) None → ValueLines e i n x
         go true v p = record { value = v; end = cc; count = cc }
         go false v p = absurd (cc)
 
     -- no value was found
-    pub lost : (e : Term) (i n : ℕ) → None ≡ looked g group shown e i n → is_value e ≡ false
-    unfolding looked
+    pub lost : (e : Term) (i n : ℕ) → None ≡ value_found g group shown e i n → is_value e ≡ false
+    unfolding value_found
     lost e i n h = go (is_value e) refl h
       where
         go : (b : Bool) → is_value e ≡ b → ◌≡◌ {A = Option Reached} None (cond b (Some (record { next = i + size e; line = n + lines_if g group shown e })) None) → is_value e ≡ false
@@ -143,11 +136,9 @@ pub no_parts : (g : Bytes) (group : ℕ) (shown : Bool) {e : Term} → View e �
     → (is_value e ≡ true) × (lines_if g group shown e ≡ cond shown 1 0)
 unfolding is_value lines
 no_parts g group shown (other v k) o h = absurd (true≢false (sym o ∙ k))
-no_parts g group shown a_unit o h = (refl, refl)
-no_parts g group shown a_function o h = (refl, refl)
-no_parts g group shown a_literal o h = (refl, refl)
 no_parts g group shown a_pair o h = absurd (omega (arith, h (omega arith)))
 no_parts g group shown (injection p q) o h = absurd (omega (arith, h (omega arith)))
+no_parts g group shown _ o h = (refl, refl)
 
 -- an injection: its part is the operand
 pub record Injects (e : Term) : Type 0 where
@@ -187,9 +178,6 @@ both_or_none false a b = refl
 pub pairs : {e : Term} → View e → kind_of e ≡ kinds.pair → Pairs e
 unfolding is_value lines size
 pairs {e} (other v k) h = no_such_parts (kind_of e) k (omega arith) (omega arith)
-pairs a_unit h = absurd (omega arith)
-pairs a_function h = absurd (omega arith)
-pairs a_literal h = absurd (omega arith)
 pairs (a_pair {k} {a} {b}) h = record { two = omega arith; value = refl; sized = refl; counted = counts }
   where
     counts : (g : Bytes) (group : ℕ) (shown : Bool)
@@ -198,29 +186,29 @@ pairs (a_pair {k} {a} {b}) h = record { two = omega arith; value = refl; sized =
     counts g group true = both_or_none (leq g k.r group) (lines g group a) (lines g group b)
     counts g group false = refl
 pairs (injection p q) h = absurd (omega arith)
+pairs _ h = absurd (omega arith)
 
 -- a pair and an injection have a first operand, and are no values unless it is one
 pub first_part : {e : Term} → View e → kinds.function < kind_of e → kind_of e ≤ kinds.second_injection → (1 ≤ operands e) × (is_value (first_operand e) ≡ false → is_value e ≡ false)
 unfolding is_value
 first_part {e} (other v k) l m = no_such_parts (kind_of e) k l m
-first_part a_unit l m = absurd (omega arith)
-first_part a_function l m = absurd (omega arith)
-first_part a_literal l m = absurd (omega arith)
 first_part a_pair l m = (omega arith, λ v. rw v)
 first_part (injection p q) l m = (omega arith, λ v. v)
+first_part _ l m = absurd (omega arith)
 
--- The look's answers, from the operands': `own_line` is the count with the object's record, `inside` whether its parts are shown.
+-- The look's answers, from the operands': `own_line` is the count with the object's record, `inside` whether its parts
+-- are shown.
 module _ (g : Bytes) (group : ℕ) (shown inside : Bool) (e : Term) (i n own_line : ℕ) (counts : own_line ≡ n + cond shown 1 0) (shows : inside ≡ (shown && leq g (own e) group)) where
-  pub look_injection : Injects e → looked g group inside (first_operand e) (i + 1) own_line ≡ looked g group shown e i n
-  unfolding looked
+  pub look_injection : Injects e → value_found g group inside (first_operand e) (i + 1) own_line ≡ value_found g group shown e i n
+  unfolding value_found
   look_injection p =
       let a : i + 1 + size (first_operand e) ≡ i + size e = omega (arith, p.sized) in
       let c = p.counted g group shown ∙ ap (λ (b : Bool). cond shown 1 0 + lines_if g group b (first_operand e)) (sym shows) in
       let b : own_line + lines_if g group inside (first_operand e) ≡ n + lines_if g group shown e = omega (arith, c, counts) in
       rw (p.value, a, b)
 
-  pub look_pair : (x : Reached) → Pairs e → Found g group inside (first_operand e) (i + 1) own_line x → looked g group inside (second_operand e) x.next x.line ≡ looked g group shown e i n
-  unfolding looked
+  pub look_pair : (x : Reached) → Pairs e → ValueLines g group inside (first_operand e) (i + 1) own_line x → value_found g group inside (second_operand e) x.next x.line ≡ value_found g group shown e i n
+  unfolding value_found
   look_pair x p f =
       let a : x.next + size (second_operand e) ≡ i + size e = omega (arith, p.sized, f.end) in
       let c = p.counted g group shown ∙ ap (λ (b : Bool). cond shown 1 0 + (lines_if g group b (first_operand e) + lines_if g group b (second_operand e))) (sym shows) in

@@ -1,5 +1,5 @@
 -- An object's record on the sheet, from its record in the script.
-use Rattle.std.specs.Prelude.{Bool, cond, ℕ, eqb}
+use Rattle.std.specs.Prelude.{Bool, if◌then◌else◌, ℕ, nat_eq}
 use Rattle.rules.specs.Answer.{Bytes}
 use Rattle.rules.specs.Script.{kind, r, ir, number}
 use Rattle.rules.specs.Sheet.{shown_record}
@@ -21,19 +21,23 @@ shown_number Number = 6
 -- the sheet's kinds: 6 a literal, 4 a function, 3 a pair, 1 and 2 a first and a second injection, 0 a unit
 unfoldable pub shown_kind : ℕ → ℕ
 shown_kind kind =
-    cond (eqb kind kinds.literal) 6
-    (cond (eqb kind kinds.function) 4
-    (cond (eqb kind kinds.pair) 3 (cond (eqb kind kinds.first_injection) 1 (cond (eqb kind kinds.second_injection) 2 0))))
+    if nat_eq kind kinds.literal then 6
+    else (if nat_eq kind kinds.function then 4
+    else (if nat_eq kind kinds.pair then 3
+    else (if nat_eq kind kinds.first_injection then 1
+    else (if nat_eq kind kinds.second_injection then 2 else 0))))
 
 -- the number that is shown of an object of this kind: a literal's, and 0 of all else
 abbrev pub literal_number : ℕ → ℕ → ℕ
-literal_number kind n = cond (eqb kind kinds.literal) n 0
+literal_number kind n = if nat_eq kind kinds.literal then n else 0
 
 -- the line of the object at record i, told or closed
-unfoldable pub line : Bool → Bytes → ℕ → Bytes
+unfoldable pub shown_line : Bool → Bytes → ℕ → Bytes
 unfolding shown_kind
-line told s i =
-    cond told (shown_record (shown_kind (kind s i)) (r s i) (ir s i) (literal_number (kind s i) (number s i))) (shown_record 5 0 0 0)
+shown_line told s i =
+    if told then shown_record (shown_kind (kind s i)) (r s i) (ir s i) (literal_number (kind s i) (number s i))
+    else shown_record 5 0 0 0
 
+-- a line as a sheet record
 abbrev pub bytes_of : Line → Bytes
 bytes_of line = shown_record (shown_number line.kind) line.r.0 line.ir.0 line.number

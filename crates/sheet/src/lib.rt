@@ -2,19 +2,19 @@
 
 #![tactic(auto)]
 
-ghost use Rattle.std.specs.Prelude.{◌≡◌, true, cond, ◌+◌, ◌*◌, ◌/◌, ◌^◌, ◌≤◌, ◌<◌, length};
+ghost use Rattle.std.specs.Prelude.{◌≡◌, true, if◌then◌else◌, ◌+◌, ◌*◌, ◌/◌, ◌^◌, ◌≤◌, ◌<◌, length};
 ghost use Rattle.calculus.specs.Terms.{Term, is_value};
 ghost use Rattle.rules.specs.Limits.{sheet_width};
 ghost use Rattle.rules.specs.Groups.{leq};
 ghost use Rattle.rules.specs.Script.{records, kind, r, number, size};
 ghost use Rattle.rules.specs.Sheet.{sheet};
-ghost use Rattle.rules.specs.Calls.{sheeting, sheet_records, sheet_after};
-ghost use Rattle.answer.specs.Said.{said};
+ghost use Rattle.rules.specs.Calls.{sheet_call, sheet_records, sheet_after};
+ghost use Rattle.answer.specs.Said.{answer_of};
 ghost use Rattle.records.specs.Numbers.{kind_number};
 ghost use Rattle.records.specs.Place.{At, Here};
 ghost use Rattle.memory.specs.Written.{Room, Written};
-ghost use Rattle.sheet.specs.Shown.{shown_number, shown_kind, literal_number, line, bytes_of};
-ghost use Rattle.sheet.specs.Value.{looked, SheetRoom};
+ghost use Rattle.sheet.specs.Shown.{shown_number, shown_kind, literal_number, shown_line, bytes_of};
+ghost use Rattle.sheet.specs.Value.{value_found, SheetRoom, SheetWritten};
 ghost use Rattle.sheet.specs.Before.{before_26};
 
 use answer::{Checked, Question, Refusal};
@@ -22,21 +22,30 @@ use lattice::{Group, Indirect, Reader};
 use memory::Writer;
 use records::Kind;
 
+/// The bytes of a sheet record.
 pub const SHEET_WIDTH: usize = 6;
 
-// The kinds of sheet records, in the order of their numbers.
+/// The kinds of sheet records, in the order of their numbers, from 0 on.
 #[derive(Clone, Copy, Debug, PartialEq, Eq)]
 pub enum Shown {
+    /// A unit.
     Unit,
+    /// An injection of the first side. Its part follows.
     First,
+    /// An injection of the second side. Its part follows.
     Second,
+    /// A pair. Its two parts follow.
     Pair,
+    /// A function. Nothing inside it is shown.
     Function,
+    /// An object that is closed to the group. Nothing of it is told.
     Closed,
+    /// A literal.
     Number,
 }
 
 impl Shown {
+    /// The first byte of a sheet record of this kind.
     pub fn number(self) -> u8
         ensures { result ≡ shown_number self }
     {
@@ -71,14 +80,14 @@ fn is_open(groups: &[u8], value: &[u8], i: usize, group: Reader) -> bool
 // The count with an object's own record, if it is shown.
 fn counted(shown: bool, count: usize) -> usize
     requires { count + 1 < 2 ^ 64 }
-    ensures { result ≡ count + cond shown 1 0 }
+    ensures { result ≡ count + (if shown then 1 else 0) }
 {
     count + usize::from(shown)
 }
 
-// Is the term at record i a value, where does it end, and how many records has the sheet by then? `count` are before it. All of the
-// value is looked at, but nothing inside a closed object is `shown` and counted. Calls are as deep as the value, which question 18
-// bounds.
+// Is the term at record i a value, where does it end, and how many records has the sheet by then? `count` are before
+// it. All of the value is looked at, but nothing inside a closed object is `shown` and counted. Calls are as deep as
+// the value, which question 18, whether the term is within the limit of depth, bounds.
 fn look(
     groups: &[u8],
     value: &[u8],
@@ -87,9 +96,9 @@ fn look(
     shown: bool,
     count: usize,
 ) -> Option<Reached>
-    requires { Here value.now i × (count ≤ i) }
-    ensures { (e : Term) → At value.now i e
-        → result ≡ looked groups.now group.0 shown e i count }
+    requires here { Here value.now i }
+    requires before { count ≤ i }
+    ensures { (e : Term) → At value.now i e → result ≡ value_found groups.now group.0 shown e i count }
 {
     let own = counted(shown, count);
     let inside = shown & is_open(groups, value, i, group);
@@ -144,7 +153,7 @@ fn literal_number(value: &[u8], i: usize) -> u16
 // The sheet record of the object at record i: its kind, its groups and a literal's number are told, or it is closed.
 fn line_of(value: &[u8], i: usize, told: bool) -> Line
     requires { Here value.now i }
-    ensures { bytes_of result ≡ line told value.now i }
+    ensures { bytes_of result ≡ shown_line told value.now i }
 {
     if told {
         let kind = shown_kind(records::kind_of(value, i));
@@ -176,11 +185,12 @@ fn put(line: Line, out: &mut Writer)
     out.put(&bytes);
 }
 
-// Writes the sheet of the value at record i: the object and, where it is open, its parts. The answer is the record after the value.
+// Writes the sheet of the value at record i: the object and, where it is open, its parts. The answer is the record
+// after the value.
 fn write(groups: &[u8], value: &[u8], i: usize, group: Reader, out: &mut Writer) -> usize
     requires { SheetRoom groups.now group.0 value.now i out.old }
     ensures { (e : Term) → At value.now i e → is_value e ≡ true
-        → (result ≡ i + size e) × Written (sheet groups.now group.0 e) out.old out.new }
+        → SheetWritten groups.now group.0 i e out.old result out.new }
 {
     let open = is_open(groups, value, i, group);
     put(line_of(value, i, open), out);
@@ -198,9 +208,10 @@ fn write(groups: &[u8], value: &[u8], i: usize, group: Reader, out: &mut Writer)
     }
 }
 
-// Questions 2 to 19 and 25, in order. The group is compared as it comes, before it is narrowed.
+// The questions of the two tables and the script (2 to 19), and then whether the group is in the groups table (25). The
+// group is compared as it comes, before it is narrowed.
 fn asked(groups: &[u8], types: &[u8], value: &[u8], group: u64) -> Checked
-    ensures { said result ≡ before_26 groups.now types.now value.now group }
+    ensures { answer_of result ≡ before_26 groups.now types.now value.now group }
 {
     let a19 = syntax::script_check(groups, types, value, &[]);
     let Ok(()) = a19 else {
@@ -213,8 +224,12 @@ fn asked(groups: &[u8], types: &[u8], value: &[u8], group: u64) -> Checked
     )
 }
 
-// The sheet of a value for a reader group, written to the front of `sheet`: questions 2 to 19, 25, 26 and 27. The answer is its record
-// count, which is known before the first record is written, so that a refusal writes nothing.
+/// The sheet of the value in `value` for the reader group `group`, written to the front of `sheet`. The answer is the
+/// count of its records, of `SHEET_WIDTH` bytes each.
+///
+/// Refuses, in this order, what the questions of the two tables and the script refuse (2 to 19), at their places; and
+/// at place 0 a group that isn't in the groups table (25), a term that is no value (26), and a `sheet` that is too
+/// short (27). Bytes of `sheet` behind the written records stay as they were, and all of them where it refuses.
 pub fn page(
     groups: &[u8],
     types: &[u8],
@@ -222,15 +237,13 @@ pub fn page(
     group: u64,
     sheet: &mut [u8],
 ) -> Result<usize, Refusal>
-    ensures { (said result
-        ≡ sheet_records (sheeting groups.now types.now value.now group
-        (length sheet.old)))
-        × (sheet.new ≡ sheet_after
-        (sheeting groups.now types.now value.now group (length sheet.old))
-        sheet.old) }
+    ensures answer { answer_of result ≡ sheet_records (sheet_call groups.now types.now value.now group (length sheet.old)) }
+    ensures sheet { sheet.new
+        ≡ sheet_after (sheet_call groups.now types.now value.now group (length sheet.old)) sheet.old }
 {
     asked(groups, types, value, group)?;
     let reader = Reader(group as u8);
+    // The records are counted before the first one is written, so that a refusal writes nothing.
     let end = look(groups, value, 0, reader, true, 0).ok_or(Refusal {
         question: Question::Value,
         place: 0,

@@ -1,26 +1,29 @@
 -- A node from its operands, as a walk passes them one after the other, counted.
-use Rattle.std.proofs.Common.{◌≡◌, refl, sym, ap, ◌∙◌, Bool, true, false, cond, List, [], ◌∷◌, ◌++◌, ℕ, suc, ◌+◌, ◌*◌, ◌≤◌, ◌<◌, max, arith, eqb, length}
-use Rattle.calculus.specs.Terms.{Term, var, subst}
+use Rattle.std.proofs.Common.{◌≡◌, refl, sym, ap, ◌∙◌, Bool, true, false, cond, List, [], ◌∷◌, ◌++◌, ℕ, suc, ◌+◌, ◌*◌}
+use Rattle.std.proofs.Common.{◌≤◌, ◌<◌, max, arith, nat_eq, length}
+use Rattle.calculus.specs.Terms.{Term, var, substitute}
 use Rattle.rules.specs.Answer.{Bytes}
 use Rattle.rules.specs.Script.{size, depth, kind, number}
 use Rattle.rules.proofs.Prefix.{total}
 use Rattle.rules.proofs.Parts.{total_append}
 use Rattle.rules.proofs.TermCode.{term_operands, term_size_is}
 use Rattle.records.specs.Place.{At}
-use Rattle.records.specs.Weight.{weight_of}
 use Rattle.records.specs.Kinds as kinds
 use Rattle.records.proofs.Passing.{Passed, Ahead, started, passed_more, operand_here, split_at, whole}
 use Rattle.records.proofs.Stands.{kind_of, stands_kind}
 use Rattle.records.specs.Binders.{binds}
+use Rattle.records.proofs.WeightOf.{weight_of}
 use Rattle.substitution.specs.Substituted.{value_limit, Sizes, Measured}
 use Rattle.substitution.specs.declared.Extent.{Extent}
 use Rattle.substitution.specs.declared.Size.{Size}
-use Rattle.substitution.proofs.Nodes.{greatest, greatest_append, View, variable, node, view, under, under_append, subst_var, subst_size, subst_depth, operand_size, operand_depth, greatest_records, under_bound}
+use Rattle.substitution.proofs.Nodes.{greatest, greatest_append, View, variable, node, view, under, under_append}
+use Rattle.substitution.proofs.Nodes.{subst_var, subst_size, subst_depth, operand_size, operand_depth, greatest_records}
+use Rattle.substitution.proofs.Nodes.{under_bound}
 use Rattle.substitution.proofs.Reading.{variable_at}
 
 -- the operands passed, with v for the node's variable n, and one more
 pub under_more : (k n : ℕ) (v : Term) (before : List Term) (j : ℕ) (d : Term) (level : ℕ) → length before ≡ j → level ≡ n + binds k j
-    → under k n v 0 (before ++ d ∷ []) ≡ under k n v 0 before ++ subst level v d ∷ []
+    → under k n v 0 (before ++ d ∷ []) ≡ under k n v 0 before ++ substitute level v d ∷ []
 under_more k n v before j d level c h =
     let z : 0 + length before ≡ j = omega arith in
     under_append k n v 0 before (d ∷ []) ∙ rw (z, h)
@@ -43,8 +46,8 @@ module _ {i n : ℕ} {e v : Term} {j next sum below : ℕ} (p : Counted i n e v 
       let s = under (kind_of e) n v 0 q.before in
       record {
         passed = passed_more q a x.next m.next;
-        sum_is = omega (arith, p.sum_is, m.records, ap (total size) u, total_append size s (subst level v a.operand ∷ []));
-        below_is = omega (arith, p.below_is, m.deep, ap (greatest depth) u, greatest_append depth s (subst level v a.operand ∷ []));
+        sum_is = omega (arith, p.sum_is, m.records, ap (total size) u, total_append size s (substitute level v a.operand ∷ []));
+        below_is = omega (arith, p.below_is, m.deep, ap (greatest depth) u, greatest_append depth s (substitute level v a.operand ∷ []));
       }
 
   pub counted_bound : size v ≤ value_limit → (sum ≤ value_limit * size e) × (below < 2 * sum)
@@ -83,7 +86,7 @@ operand_sizes q p a level l = record {
 
 -- a variable
 pub measured_variable : (s : Bytes) (i n : ℕ) (e v : Term) → At s i e → kind s i ≡ kinds.variable → (records deep : ℕ) → records ≡ size v → deep ≡ depth v → (x : Extent)
-    → x.next ≡ i + 1 → x.size.records ≡ cond (eqb (number s i) n) records 1 → x.size.depth ≡ cond (eqb (number s i) n) deep 1 → Measured i n e v x
+    → x.next ≡ i + 1 → x.size.records ≡ cond (nat_eq (number s i) n) records 1 → x.size.depth ≡ cond (nat_eq (number s i) n) deep 1 → Measured i n e v x
 unfolding size depth
 measured_variable s i n e v a k records deep hr hd x e1 e2 e3 = go e (view e) a
   where
@@ -93,11 +96,11 @@ measured_variable s i n e v a k records deep hr hd x e1 e2 e3 = go e (view e) a
 
     go : (e : Term) → View e → At s i e → Measured i n e v x
     go e (variable m) a =
-        let y = by (eqb m n) m in
+        let y = by (nat_eq m n) m in
         let z = variable_at a in
         record {
           next = e1;
-          records = e2 ∙ ap (λ l. cond (eqb l n) records 1) z ∙ y.0 ∙ ap size (sym (subst_var n v m));
-          deep = e3 ∙ ap (λ l. cond (eqb l n) deep 1) z ∙ y.1 ∙ ap depth (sym (subst_var n v m));
+          records = e2 ∙ ap (λ l. cond (nat_eq l n) records 1) z ∙ y.0 ∙ ap size (sym (subst_var n v m));
+          deep = e3 ∙ ap (λ l. cond (nat_eq l n) deep 1) z ∙ y.1 ∙ ap depth (sym (subst_var n v m));
         }
     go e (node h) a = absurd (h (sym (stands_kind _ _ _ a) ∙ k))

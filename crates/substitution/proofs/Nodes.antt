@@ -1,6 +1,8 @@
 -- Substitution, records and depth of a node by its operands, whatever its kind.
-use Rattle.std.proofs.Common.{◌≡◌, refl, ap, ap₂, ◌∙◌, Bool, true, false, cond, List, [], ◌∷◌, ◌++◌, ℕ, suc, ◌+◌, ◌*◌, ◌≤◌, max, arith, add-one, add-zero, eqb, length}
-use Rattle.calculus.specs.Terms.{first, second, plus, less, Term, var, unit, lam, pair, inj, app, proj, case, protect, mu, literal, reckon, subst}
+use Rattle.std.proofs.Common.{◌≡◌, refl, ap, ap₂, ◌∙◌, Bool, true, false, cond, List, [], ◌∷◌, ◌++◌, ℕ, suc, ◌+◌, ◌*◌}
+use Rattle.std.proofs.Common.{◌≤◌, max, arith, add-one, add-zero, nat_eq, length}
+use Rattle.calculus.specs.Terms.{first, second, plus, less, Term, var, unit, lam, pair, inj, app, proj, case, protect}
+use Rattle.calculus.specs.Terms.{mu, literal, reckon, substitute}
 use Rattle.rules.specs.Script.{encode, size, depth}
 use Rattle.rules.proofs.Prefix.{All, joined, total}
 use Rattle.rules.proofs.Parts.{all_of, total_append}
@@ -9,7 +11,7 @@ use Rattle.records.specs.Kinds as kinds
 use Rattle.records.proofs.Stands.{kind_of}
 use Rattle.records.proofs.Weights.{weights}
 use Rattle.records.specs.Binders.{binds}
-use Rattle.records.specs.Weight.{weight_of}
+use Rattle.records.proofs.WeightOf.{weight_of}
 use Rattle.substitution.specs.Substituted.{value_limit}
 
 abbrev pub greatest : {T : Type 0} → (T → ℕ) → List T → ℕ
@@ -24,16 +26,8 @@ pub term_depth_is : (e : Term) → depth e ≡ weight_of e + greatest depth (ter
 unfolding depth
 term_depth_is (var n) = refl
 term_depth_is (unit k) = refl
-term_depth_is (lam k i e) = omega arith
-term_depth_is (pair k a b) = omega arith
-term_depth_is (inj d k i e) = omega arith
-term_depth_is (app w f a) = omega arith
-term_depth_is (proj d w e) = omega arith
-term_depth_is (case w i e a b) = omega arith
-term_depth_is (protect m e) = omega arith
-term_depth_is (mu w i e) = omega arith
 term_depth_is (literal k n) = refl
-term_depth_is (reckon o w a b) = omega arith
+term_depth_is _ = omega arith
 
 -- a variable, or a node of another kind
 pub data View : Term → Type 0 where
@@ -63,52 +57,47 @@ view (reckon (less i) w a b) = node (positive 13)
 -- operands from the j-th on of a node of kind k, with v for the node's variable n
 abbrev pub under : ℕ → ℕ → Term → ℕ → List Term → List Term
 under k n v j [] = []
-under k n v j (e ∷ es) = subst (n + binds k j) v e ∷ under k n v (suc j) es
+under k n v j (e ∷ es) = substitute (n + binds k j) v e ∷ under k n v (suc j) es
 
 pub under_append : (k n : ℕ) (v : Term) (j : ℕ) (xs ys : List Term) → under k n v j (xs ++ ys) ≡ under k n v j xs ++ under k n v (j + length xs) ys
 under_append k n v j [] ys = let z : j + 0 ≡ j = omega arith in rw z
 under_append k n v j (x ∷ xs) ys =
     let z : suc j + length xs ≡ j + suc (length xs) = omega arith in
-    ap (λ es. subst (n + binds k j) v x ∷ es) (under_append k n v (suc j) xs ys ∙ rw z)
+    ap (λ es. substitute (n + binds k j) v x ∷ es) (under_append k n v (suc j) xs ys ∙ rw z)
 
 -- Substitution keeps a node's record and goes to its operands.
 pub record Node (n : ℕ) (v e : Term) : Type 0 where
-  pub head : term_head (subst n v e) ≡ term_head e
-  pub weight : weight_of (subst n v e) ≡ weight_of e
-  pub operands : term_operands (subst n v e) ≡ under (kind_of e) n v 0 (term_operands e)
+  pub head : term_head (substitute n v e) ≡ term_head e
+  pub weight : weight_of (substitute n v e) ≡ weight_of e
+  pub operands : term_operands (substitute n v e) ≡ under (kind_of e) n v 0 (term_operands e)
 
 pub subst_node : (n : ℕ) (v e : Term) → (kind_of e ≡ kinds.variable → ⊥) → Node n v e
-unfolding subst binds
+unfolding substitute binds
 subst_node n v (var m) h = absurd (h refl)
 subst_node n v (unit k) h = record { head = refl; weight = refl; operands = refl }
 subst_node n v (lam k i e) h = record { head = refl; weight = refl; operands = rw (add-one n) }
-subst_node n v (pair k a b) h = record { head = refl; weight = refl; operands = rw (add-zero n) }
 subst_node n v (inj first k i e) h = record { head = refl; weight = refl; operands = rw (add-zero n) }
-subst_node n v (inj second k i e) h = record { head = refl; weight = refl; operands = rw (add-zero n) }
-subst_node n v (app w f a) h = record { head = refl; weight = refl; operands = rw (add-zero n) }
 subst_node n v (proj first w e) h = record { head = refl; weight = refl; operands = rw (add-zero n) }
-subst_node n v (proj second w e) h = record { head = refl; weight = refl; operands = rw (add-zero n) }
 subst_node n v (case w i e a b) h = record { head = refl; weight = refl; operands = rw (add-zero n, add-one n) }
-subst_node n v (protect m e) h = record { head = refl; weight = refl; operands = rw (add-zero n) }
 subst_node n v (mu w i e) h = record { head = refl; weight = refl; operands = rw (add-one n) }
 subst_node n v (literal k m) h = record { head = refl; weight = refl; operands = refl }
 subst_node n v (reckon plus w a b) h = record { head = refl; weight = refl; operands = rw (add-zero n) }
-subst_node n v (reckon (less i) w a b) h = record { head = refl; weight = refl; operands = rw (add-zero n) }
+subst_node n v _ h = record { head = refl; weight = refl; operands = rw (add-zero n) }
 
-pub subst_var : (n : ℕ) (v : Term) (m : ℕ) → subst n v (var m) ≡ cond (eqb m n) v (var m)
-unfolding subst
+pub subst_var : (n : ℕ) (v : Term) (m : ℕ) → substitute n v (var m) ≡ cond (nat_eq m n) v (var m)
+unfolding substitute
 subst_var n v m = refl
 
 module _ (n : ℕ) (v e : Term) (h : kind_of e ≡ kinds.variable → ⊥) where
-  pub subst_size : size (subst n v e) ≡ suc (total size (under (kind_of e) n v 0 (term_operands e)))
-  subst_size = term_size_is (subst n v e) ∙ ap (λ es. suc (total size es)) (subst_node n v e h).operands
+  pub subst_size : size (substitute n v e) ≡ suc (total size (under (kind_of e) n v 0 (term_operands e)))
+  subst_size = term_size_is (substitute n v e) ∙ ap (λ es. suc (total size es)) (subst_node n v e h).operands
 
-  pub subst_depth : depth (subst n v e) ≡ weight_of e + greatest depth (under (kind_of e) n v 0 (term_operands e))
-  subst_depth = term_depth_is (subst n v e) ∙ ap₂ (λ m es. m + greatest depth es) (subst_node n v e h).weight (subst_node n v e h).operands
+  pub subst_depth : depth (substitute n v e) ≡ weight_of e + greatest depth (under (kind_of e) n v 0 (term_operands e))
+  subst_depth = term_depth_is (substitute n v e) ∙ ap₂ (λ m es. m + greatest depth es) (subst_node n v e h).weight (subst_node n v e h).operands
 
-  pub subst_encode : encode (subst n v e) ≡ term_head e ++ joined encode (under (kind_of e) n v 0 (term_operands e))
+  pub subst_encode : encode (substitute n v e) ≡ term_head e ++ joined encode (under (kind_of e) n v 0 (term_operands e))
   subst_encode =
-      term_encode_is (subst n v e) ∙ ap (λ b. b ++ joined encode (term_operands (subst n v e))) (subst_node n v e h).head
+      term_encode_is (substitute n v e) ∙ ap (λ b. b ++ joined encode (term_operands (substitute n v e))) (subst_node n v e h).head
       ∙ ap (λ es. term_head e ++ joined encode es) (subst_node n v e h).operands
 
 -- an operand's part of its node
@@ -133,7 +122,7 @@ greatest_records es = greatest_total es (all_of _ depth_size es)
 -- A value puts at most its own records in the place of each record.
 module _ (v : Term) (small : size v ≤ value_limit) where
   Bound : Term → Type 0
-  Bound e = (n : ℕ) → size (subst n v e) ≤ value_limit * size e
+  Bound e = (n : ℕ) → size (substitute n v e) ≤ value_limit * size e
 
   bound_under : (es : List Term) → All Bound es → (k n j : ℕ) → total size (under k n v j es) ≤ value_limit * total size es
   unfolding Bound
@@ -145,12 +134,12 @@ module _ (v : Term) (small : size v ≤ value_limit) where
   bound_var true m = small
   bound_var false m = omega arith
 
-  bound_view : (e : Term) → View e → All Bound (term_operands e) → (n : ℕ) → size (subst n v e) ≤ value_limit * size e
-  bound_view e (variable m) h n = rw (subst_var n v m) (bound_var (eqb m n) m)
+  bound_view : (e : Term) → View e → All Bound (term_operands e) → (n : ℕ) → size (substitute n v e) ≤ value_limit * size e
+  bound_view e (variable m) h n = rw (subst_var n v m) (bound_var (nat_eq m n) m)
   bound_view e (node k) h n =
       omega (arith, subst_size n v e k, term_size_is e, bound_under (term_operands e) h (kind_of e) n 0)
 
-  pub subst_bound : (e : Term) (n : ℕ) → size (subst n v e) ≤ value_limit * size e
+  pub subst_bound : (e : Term) (n : ℕ) → size (substitute n v e) ≤ value_limit * size e
   unfolding Bound
   subst_bound = term_induction Bound λ e h. bound_view e (view e) h
 
@@ -161,7 +150,7 @@ module _ (v : Term) (small : size v ≤ value_limit) where
 -- A value of one record changes neither the records nor the depth.
 module _ (v : Term) (one : size v ≡ 1) (low : depth v ≡ 1) where
   Same : Term → Type 0
-  Same e = (n : ℕ) → (size (subst n v e) ≡ size e) × (depth (subst n v e) ≡ depth e)
+  Same e = (n : ℕ) → (size (substitute n v e) ≡ size e) × (depth (substitute n v e) ≡ depth e)
 
   same_under : (es : List Term) → All Same es → (k n j : ℕ)
       → (total size (under k n v j es) ≡ total size es) × (greatest depth (under k n v j es) ≡ greatest depth es)
@@ -177,12 +166,12 @@ module _ (v : Term) (one : size v ≡ 1) (low : depth v ≡ 1) where
   same_var true m = (one, low)
   same_var false m = (refl, refl)
 
-  same_view : (e : Term) → View e → All Same (term_operands e) → (n : ℕ) → (size (subst n v e) ≡ size e) × (depth (subst n v e) ≡ depth e)
-  same_view e (variable m) h n = rw (subst_var n v m) (same_var (eqb m n) m)
+  same_view : (e : Term) → View e → All Same (term_operands e) → (n : ℕ) → (size (substitute n v e) ≡ size e) × (depth (substitute n v e) ≡ depth e)
+  same_view e (variable m) h n = rw (subst_var n v m) (same_var (nat_eq m n) m)
   same_view e (node k) h n =
       let a = same_under (term_operands e) h (kind_of e) n 0 in
       (omega (arith, subst_size n v e k, term_size_is e, a.0), omega (arith, subst_depth n v e k, term_depth_is e, a.1))
 
-  pub subst_same : (e : Term) (n : ℕ) → (size (subst n v e) ≡ size e) × (depth (subst n v e) ≡ depth e)
+  pub subst_same : (e : Term) (n : ℕ) → (size (substitute n v e) ≡ size e) × (depth (substitute n v e) ≡ depth e)
   unfolding Same
   subst_same = term_induction Same λ e h. same_view e (view e) h

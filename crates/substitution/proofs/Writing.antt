@@ -1,8 +1,7 @@
 -- A node from its operands, as a walk passes them one after the other, written.
-use Rattle.std.proofs.Common.{◌≡◌, refl, sym, ap, ◌∙◌, List, [], ◌∷◌, ◌++◌, append_assoc, append-nil, ℕ, suc, ◌+◌, ◌≤◌, arith, length}
-use Rattle.std.proofs.Common.{subst as transport}
-use borrow.Author.Tests.{eq-eqb, ne_eqb}
-use Rattle.calculus.specs.Terms.{Term, subst}
+use Rattle.std.proofs.Common.{◌≡◌, refl, sym, ap, ◌∙◌, List, [], ◌∷◌, ◌++◌, append_assoc, append-nil, ℕ, suc, ◌+◌, ◌≤◌}
+use Rattle.std.proofs.Common.{arith, length, subst as transport, eq-eqb, ne_eqb}
+use Rattle.calculus.specs.Terms.{Term, substitute}
 use Rattle.rules.specs.Answer.{Bytes}
 use Rattle.rules.specs.Script.{encode, size, kind, number}
 use Rattle.rules.proofs.Prefix.{joined, total}
@@ -17,7 +16,8 @@ use Rattle.records.proofs.Passing.{Passed, Ahead, started, split_at, operand_her
 use Rattle.records.proofs.Stands.{kind_of, stands_kind}
 use Rattle.records.specs.Binders.{binds}
 use Rattle.substitution.specs.Substituted.{Substitution, Substituted}
-use Rattle.substitution.proofs.Nodes.{View, variable, node, view, under, under_append, subst_var, subst_encode, operand_depth}
+use Rattle.substitution.proofs.Nodes.{View, variable, node, view, under, under_append, subst_var, subst_encode}
+use Rattle.substitution.proofs.Nodes.{operand_depth}
 use Rattle.substitution.proofs.Reading.{variable_at}
 use Rattle.substitution.proofs.Counting.{under_more}
 
@@ -34,7 +34,7 @@ module _ {i n : ℕ} {e v : Term} {w : Writer} {j next : ℕ} {w' : Writer} (p :
       → Substituted next level a.operand v w' next' w'' → Copied i n e v w (j + 1) next' w''
   copied_more a level h {next'} {w''} m =
       let q = p.passed in
-      let d = subst level v a.operand in
+      let d = substitute level v a.operand in
       let us = under (kind_of e) n v 0 q.before in
       let u = under_more (kind_of e) n v q.before j a.operand level q.count h in
       let b : joined encode us ++ encode d ≡ joined encode (under (kind_of e) n v 0 (q.before ++ a.operand ∷ [])) =
@@ -56,19 +56,19 @@ module _ {i n : ℕ} {e v : Term} {w : Writer} {j next : ℕ} {w' : Writer} (p :
 -- a node's record and the operands passed, and what follows them: the next operand, and those after it
 abbrev apart : (n : ℕ) (e v : Term) (before : List Term) (d : Term) (later : List Term) (j level : ℕ) → (kind_of e ≡ kinds.variable → ⊥)
     → term_operands e ≡ before ++ d ∷ later → length before ≡ j → level ≡ n + binds (kind_of e) j
-    → encode (subst n v e)
-    ≡ (term_head e ++ joined encode (under (kind_of e) n v 0 before)) ++ (encode (subst level v d) ++ joined encode (under (kind_of e) n v (suc j) later))
+    → encode (substitute n v e)
+    ≡ (term_head e ++ joined encode (under (kind_of e) n v 0 before)) ++ (encode (substitute level v d) ++ joined encode (under (kind_of e) n v (suc j) later))
 apart n e v before d later j level h s c l =
     let k = kind_of e in
     let us = under k n v 0 before in
     let z : 0 + length before ≡ j = omega arith in
-    let u : under k n v 0 (before ++ d ∷ later) ≡ us ++ (subst level v d ∷ under k n v (suc j) later) =
+    let u : under k n v 0 (before ++ d ∷ later) ≡ us ++ (substitute level v d ∷ under k n v (suc j) later) =
     under_append k n v 0 before (d ∷ later) ∙ rw (z, l) in
     subst_encode n v e h
     ∙ ap (λ es. term_head e ++ joined encode (under k n v 0 es)) s
     ∙ ap (λ es. term_head e ++ joined encode es) u
-    ∙ ap (λ (b : Bytes). term_head e ++ b) (joined_append encode us (subst level v d ∷ under k n v (suc j) later))
-    ∙ sym (append_assoc (term_head e) (joined encode us) (encode (subst level v d) ++ joined encode (under k n v (suc j) later)))
+    ∙ ap (λ (b : Bytes). term_head e ++ b) (joined_append encode us (substitute level v d ∷ under k n v (suc j) later))
+    ∙ sym (append_assoc (term_head e) (joined encode us) (encode (substitute level v d) ++ joined encode (under k n v (suc j) later)))
 
 -- what writing an operand is given
 abbrev pub operand_given : {s : Bytes} {i : ℕ} {f m b : Bytes} {n : ℕ} {w₀ : Writer} (q : Substitution s i f m b n w₀) {w : Writer} {j next : ℕ} {w' : Writer}
@@ -84,25 +84,25 @@ operand_given {n = n} {w₀ = w₀} q {j = j} {w' = w'} p a level r h l g =
       value = q.value;
       pieces = q.pieces;
       shallow = omega (arith, operand_depth q.tree o.before a.operand a.later (split_at o a), q.shallow);
-      room = room_first (encode (subst level q.value a.operand)) rest w'
-          (room_next (encode (subst level q.value a.operand) ++ rest) (then r p.wrote) (transport (λ (y : Bytes). Room y w₀) b q.room));
+      room = room_first (encode (substitute level q.value a.operand)) rest w'
+          (room_next (encode (substitute level q.value a.operand) ++ rest) (then r p.wrote) (transport (λ (y : Bytes). Room y w₀) b q.room));
     }
 
 -- a variable: the one that the value is put for, or another
 module _ {s : Bytes} {i : ℕ} {e : Term} (a : At s i e) (k : kind s i ≡ 0) (n : ℕ) (v : Term) where
-  pub variable_here : number s i ≡ n → (subst n v e ≡ v) × (size e ≡ 1)
+  pub variable_here : number s i ≡ n → (substitute n v e ≡ v) × (size e ≡ 1)
   unfolding size
   variable_here h = go e (view e) a
     where
-      go : (e : Term) → View e → At s i e → (subst n v e ≡ v) × (size e ≡ 1)
+      go : (e : Term) → View e → At s i e → (substitute n v e ≡ v) × (size e ≡ 1)
       go e (variable m) a = (subst_var n v m ∙ rw (eq-eqb m n (sym (variable_at a) ∙ h)), refl)
       go e (node g) a = absurd (g (sym (stands_kind _ _ _ a) ∙ k))
 
-  pub variable_else : (number s i ≡ n → ⊥) → (subst n v e ≡ e) × (encode e ≡ term_head e) × (size e ≡ 1)
+  pub variable_else : (number s i ≡ n → ⊥) → (substitute n v e ≡ e) × (encode e ≡ term_head e) × (size e ≡ 1)
   unfolding size encode
   variable_else h = go e (view e) a
     where
-      go : (e : Term) → View e → At s i e → (subst n v e ≡ e) × (encode e ≡ term_head e) × (size e ≡ 1)
+      go : (e : Term) → View e → At s i e → (substitute n v e ≡ e) × (encode e ≡ term_head e) × (size e ≡ 1)
       go e (variable m) a = (subst_var n v m ∙ rw (ne_eqb m n (λ z. h (variable_at a ∙ z))), refl, refl)
       go e (node g) a = absurd (g (sym (stands_kind _ _ _ a) ∙ k))
 

@@ -1,6 +1,7 @@
--- A closed value put for a variable of a term that stands in a script: what counting and writing it are given, and what they tell.
+-- A closed value put for a variable of a term that stands in a script: what counting and writing it are given, and what
+-- they tell.
 use Rattle.std.specs.Prelude.{◌≡◌, ◌++◌, ℕ, ◌+◌, ◌*◌, ◌≤◌, take, drop}
-use Rattle.calculus.specs.Terms.{Term, subst}
+use Rattle.calculus.specs.Terms.{Term, substitute}
 use Rattle.rules.specs.Answer.{Bytes}
 use Rattle.rules.specs.Limits.{script_width, script_limit, depth_limit}
 use Rattle.rules.specs.Script.{encode, size, depth}
@@ -14,8 +15,8 @@ use Rattle.substitution.specs.declared.Size.{Size}
 abbrev pub value_limit : ℕ
 value_limit = 2 * script_limit
 
--- The term at record i, within the limits. n binders have been passed on the way to it, so that n + depth is at most the depth of
--- the whole: calls are never deeper than that.
+-- The term at record i, within the limits. n binders have been passed on the way to it, so that n + depth is at most
+-- the depth of the whole: calls are never deeper than that.
 pub record Sizes (s : Bytes) (i n : ℕ) (m : Size) : Type 0 where
   pub tree : Term
   pub at : At s i tree
@@ -29,11 +30,11 @@ pub record Sizes (s : Bytes) (i n : ℕ) (m : Size) : Type 0 where
 -- the record after e, and the records and the depth of e with v for its variable n
 pub record Measured (i n : ℕ) (e v : Term) (x : Extent) : Type 0 where
   pub next : x.next ≡ i + size e
-  pub records : x.size.records ≡ size (subst n v e)
-  pub deep : x.size.depth ≡ depth (subst n v e)
+  pub records : x.size.records ≡ size (substitute n v e)
+  pub deep : x.size.depth ≡ depth (substitute n v e)
 
 -- a term stands at record i, within the limits
-pub record Within (s : Bytes) (i : ℕ) : Type 0 where
+pub record TermWithinLimits (s : Bytes) (i : ℕ) : Type 0 where
   pub tree : Term
   pub at : At s i tree
   pub shallow : depth tree ≤ depth_limit
@@ -56,9 +57,9 @@ pub record Substitution (s : Bytes) (i : ℕ) (front mid back : Bytes) (n : ℕ)
   pub value : Term
   pub pieces : front ++ (mid ++ back) ≡ encode value
   pub shallow : n + depth tree ≤ depth_limit
-  pub room : Room (encode (subst n value tree)) out
+  pub room : Room (encode (substitute n value tree)) out
 
 -- the record after e, and e with v for its variable n is written
 pub record Substituted (i n : ℕ) (e v : Term) (out : Writer) (next : ℕ) (out' : Writer) : Type 0 where
   pub next_is : next ≡ i + size e
-  pub wrote : Written (encode (subst n v e)) out out'
+  pub wrote : Written (encode (substitute n v e)) out out'

@@ -2,29 +2,32 @@
 
 #![tactic(auto)]
 
-ghost use Rattle.std.specs.Prelude.{◌≡◌, ◌&&◌, eqb};
+ghost use Rattle.std.specs.Prelude.{◌≡◌, ◌&&◌, nat_eq};
 ghost use Rattle.calculus.specs.Types.{Ty, top};
 ghost use Rattle.calculus.specs.Subtyping.{subtype, below, above};
 ghost use Rattle.rules.specs.Groups.{properties_of};
 ghost use Rattle.rules.specs.Comparison.{equal_properties};
 ghost use Rattle.lattice.specs.Said.{said_property};
-ghost use Rattle.types.specs.Held.{Held, Starts, kind_of};
-ghost use Rattle.subtyping.specs.Compared.{compared};
+ghost use Rattle.types.specs.Held.{Held, Starts, kind_of_type};
+ghost use Rattle.subtyping.specs.Compared.{relation_of};
 
 use types::Kind;
 
-// What a walk over two related types finds: whether they are the same, and the records that each of them has.
+/// What a walk over two related types finds.
 #[derive(Clone, Copy, Debug, PartialEq, Eq)]
 pub struct Related {
+    /// Are they the same?
     pub same: bool,
+    /// How many records each of them has: related types have as many.
     pub records: usize,
 }
 
 // Are the first records of one kind, and is the first one's property at or below the other's?
 fn first_below(groups: &[u8], lower: &[u8], upper: &[u8]) -> bool
-    requires { Starts lower.now × Starts upper.now }
+    requires first { Starts lower.now }
+    requires second { Starts upper.now }
     ensures { (s t : Ty) → Held lower.now s → Held upper.now t
-        → result ≡ (eqb (kind_of s) (kind_of t) && (properties_of groups.now).le (top s) (top t)) }
+        → result ≡ (nat_eq (kind_of_type s) (kind_of_type t) && (properties_of groups.now).le (top s) (top t)) }
 {
     types::of_one_kind(lower, upper)
         && types::property(lower).at_or_below(groups, types::property(upper))
@@ -32,20 +35,23 @@ fn first_below(groups: &[u8], lower: &[u8], upper: &[u8]) -> bool
 
 // Have the first records, of one kind, the same property?
 fn first_same(lower: &[u8], upper: &[u8]) -> bool
-    requires { Starts lower.now × Starts upper.now }
+    requires first { Starts lower.now }
+    requires second { Starts upper.now }
     ensures { (s t : Ty) → Held lower.now s → Held upper.now t
         → result ≡ equal_properties (top s) (top t) }
 {
     types::property(lower) == types::property(upper)
 }
 
-// Is the type of `lower` at or below that of `upper`, and is it the same? A function's left sides are walked the other way round.
-// Related types have as many records, so what the walk of the left sides counts says where both right sides start.
+/// Is the type that `lower` starts with at or below that of `upper`, and is it the same? `None` where it isn't at or
+/// below. A function's left sides are walked the other way round. Related types have as many records, so what the
+/// walk of the left sides counts says where both right sides start.
 #[cycle(at_or_above_at_or_below)]
 pub fn at_or_below(groups: &[u8], lower: &[u8], upper: &[u8]) -> Option<Related>
-    requires { Starts lower.now × Starts upper.now }
+    requires first { Starts lower.now }
+    requires second { Starts upper.now }
     ensures { (s t : Ty) → Held lower.now s → Held upper.now t
-        → result ≡ compared (properties_of groups.now) below s t }
+        → result ≡ relation_of (properties_of groups.now) below s t }
 {
     if !first_below(groups, lower, upper) {
         return None;
@@ -71,12 +77,14 @@ pub fn at_or_below(groups: &[u8], lower: &[u8], upper: &[u8]) -> Option<Related>
     })
 }
 
-// Is the type of `upper` at or above that of `lower`, and is it the same?
+/// Is the type that `upper` starts with at or above that of `lower`, and is it the same? `None` where it isn't at or
+/// above.
 #[cycle(at_or_above_at_or_below)]
 pub fn at_or_above(groups: &[u8], upper: &[u8], lower: &[u8]) -> Option<Related>
-    requires { Starts upper.now × Starts lower.now }
+    requires first { Starts upper.now }
+    requires second { Starts lower.now }
     ensures { (s t : Ty) → Held upper.now s → Held lower.now t
-        → result ≡ compared (properties_of groups.now) above s t }
+        → result ≡ relation_of (properties_of groups.now) above s t }
 {
     if !first_below(groups, lower, upper) {
         return None;
@@ -102,9 +110,10 @@ pub fn at_or_above(groups: &[u8], upper: &[u8], lower: &[u8]) -> Option<Related>
     })
 }
 
-// Is the type of `lower` at or below that of `upper`, be it the same or not?
+/// Is the type that `lower` starts with at or below that of `upper`, be it the same or not?
 pub fn is_subtype(groups: &[u8], lower: &[u8], upper: &[u8]) -> bool
-    requires { Starts lower.now × Starts upper.now }
+    requires first { Starts lower.now }
+    requires second { Starts upper.now }
     ensures { (s t : Ty) → Held lower.now s → Held upper.now t
         → result ≡ subtype (properties_of groups.now) below s t }
 {

@@ -1,4 +1,4 @@
-// Questions 2 to 19 in order, with 36 after 10 and after 15, and the subterm look-up.
+// The check of a script over its tables, in the order of its questions, and the look-up of a part.
 
 #![tactic(auto)]
 
@@ -6,15 +6,15 @@ ghost use Rattle.std.specs.Prelude.{◌≡◌, []};
 ghost use Rattle.rules.specs.Answer.{accepted};
 ghost use Rattle.rules.specs.Script.{q13, subterm};
 ghost use Rattle.rules.specs.Calls.{form_check, own_check, script_check};
-ghost use Rattle.answer.specs.Said.{said};
+ghost use Rattle.answer.specs.Said.{answer_of};
 ghost use Rattle.syntax.specs.Check.{shape_check};
 
 use answer::Checked;
 
-// Questions 13, 14 and 17: is the script a whole term?
+/// Is the script one whole term of records of known kinds? Questions 13 (of no buffer), 14 and 17, in order.
 #[tactic(auto, using(answer::proofs::Passed::then_asked, answer::proofs::Passed::stopped), unfolding(crate::specs::Check::shape_check))]
 pub fn shape_check(script: &[u8]) -> Checked
-    ensures { said result ≡ shape_check script.now }
+    ensures { answer_of result ≡ shape_check script.now }
 {
     let whole = script::question_13(script, &[]);
     let Ok(()) = whole else {
@@ -27,11 +27,11 @@ pub fn shape_check(script: &[u8]) -> Checked
     script::question_17(script)
 }
 
-// Questions 14 to 18, in order, with 36 after 15.
+/// The form of a script over tables that pass: questions 14 to 18, in order, with 36 directly after 15.
 #[tactic(auto, using(answer::proofs::Passed::then_asked, answer::proofs::Passed::stopped), unfolding(rules::specs::Calls::form_check))]
 pub fn form_check(groups: &[u8], types: &[u8], script: &[u8]) -> Checked
     requires { q13 [] script.now ≡ accepted tt }
-    ensures { said result ≡ form_check groups.now types.now script.now }
+    ensures { answer_of result ≡ form_check groups.now types.now script.now }
 {
     let a14 = script::question_14(script);
     let Ok(()) = a14 else {
@@ -56,11 +56,11 @@ pub fn form_check(groups: &[u8], types: &[u8], script: &[u8]) -> Checked
     scope::question_18(script)
 }
 
-// Questions 13 to 19, a script's own, over tables that have passed. In a run `buffers` are the lengths of its two; elsewhere there are
-// none.
+/// The check of a script over tables that pass: questions 13 to 19, in order, with 36 directly after 15. `buffers`
+/// are the lengths of what a run lends to write to, two of them; elsewhere there are none.
 #[tactic(auto, using(answer::proofs::Passed::then_asked, answer::proofs::Passed::stopped, script::proofs::Rooms::alone), unfolding(rules::specs::Calls::own_check))]
 pub fn own_check(groups: &[u8], types: &[u8], script: &[u8], buffers: &[usize]) -> Checked
-    ensures { said result ≡ own_check buffers.now groups.now types.now script.now }
+    ensures { answer_of result ≡ own_check buffers.now groups.now types.now script.now }
 {
     let fits = script::question_13(script, buffers);
     let Ok(()) = fits else {
@@ -73,10 +73,11 @@ pub fn own_check(groups: &[u8], types: &[u8], script: &[u8], buffers: &[usize]) 
     scope::question_19(script)
 }
 
-// Questions 2 to 19, in order.
+/// The check of a script and its tables, of any bytes: questions 2 to 19, in order, with 36 directly after 10 and
+/// after 15. The first refusal is passed on.
 #[tactic(auto, using(answer::proofs::Passed::then_asked, answer::proofs::Passed::stopped), unfolding(rules::specs::Calls::script_check))]
 pub fn script_check(groups: &[u8], types: &[u8], script: &[u8], buffers: &[usize]) -> Checked
-    ensures { said result ≡ script_check buffers.now groups.now types.now script.now }
+    ensures { answer_of result ≡ script_check buffers.now groups.now types.now script.now }
 {
     let tables = types_table::types_check(groups, types);
     let Ok(()) = tables else {
@@ -85,8 +86,8 @@ pub fn script_check(groups: &[u8], types: &[u8], script: &[u8], buffers: &[usize
     own_check(groups, types, script, buffers)
 }
 
-// The part of the script from its record `index` to the end of that record's last operand; the empty part where question 13,
-// 14 or 17 is answered no or the index is past the end. It has no recursion: 8,192 levels are possible.
+/// The part of a script from record `index` to the end of that record's last operand; the empty part where question
+/// 13, 14 or 17 is answered no or the index is past the end. It has no recursion: 8,192 levels are possible.
 #[tactic(auto, using(records::proofs::Ends::end_inside, crate::proofs::Parts::shaped), unfolding(rules::specs::Script::subterm, crate::specs::Check::shape_check))]
 pub fn subterm(script: &[u8], index: usize) -> &[u8]
     ensures { result.now ≡ subterm script.now index }

@@ -1,51 +1,16 @@
 -- A lemma a rule: where its operands end in reducible values, so does the whole.
-use Rattle.std.proofs.Common.{◌≡◌, refl, [], ℕ, zero}
-use Rattle.std.proofs.Math.Bool.{So, false≢true}
+use Rattle.std.proofs.Common.{◌≡◌, refl, [], ℕ, zero, IsTrue}
+use Rattle.std.proofs.Math.Bool.{false≢true}
 use Rattle.std.proofs.Math.Option.{Option, none, some}
 use Rattle.calculus.specs.Security.{Property, Reader, Indirect, Security, Laws}
 use Rattle.calculus.specs.Types.{one, number, sum, product, function, Ty, leaf, node, raise_t, secure_t, exists}
 use Rattle.calculus.specs.Subtyping.{below}
-use Rattle.calculus.specs.Terms.{
-  Side,
-  first,
-  second,
-  choose,
-  Operation,
-  Term,
-  unit,
-  lam,
-  pair,
-  inj,
-  app,
-  proj,
-  case,
-  protect,
-  literal,
-  reckon,
-  is_value,
-  subst,
-  raise_value,
-}
-use Rattle.calculus.specs.Numbers.{Literal, literal_of, of_both, compared, reckoned, Reckons, a_number, a_flag}
-use Rattle.calculus.specs.Reduction.{
-  c_app,
-  c_proj,
-  c_case,
-  c_reckon,
-  c_protect,
-  hole,
-  app_left,
-  app_right,
-  in_proj,
-  in_inj,
-  pair_left,
-  pair_right,
-  in_protect,
-  in_case,
-  reckon_left,
-  reckon_right,
-  plug,
-}
+use Rattle.calculus.specs.Terms.{Side, first, second, choose, Operation, Term, unit, lam, pair, inj, app, proj, case}
+use Rattle.calculus.specs.Terms.{protect, literal, reckon, is_value, substitute, raise_value}
+use Rattle.calculus.specs.Numbers.{Literal, literal_of, of_both, less_side, reckon_result, Reckons, a_number, a_flag}
+use Rattle.calculus.specs.Reduction.{c_app, c_proj, c_case, c_reckon, c_protect, hole, app_left, app_right, in_proj}
+use Rattle.calculus.specs.Reduction.{in_inj, pair_left, pair_right, in_protect, in_case, reckon_left, reckon_right}
+use Rattle.calculus.specs.Reduction.{plug}
 use Rattle.calculus.specs.Typing.{HasType, t_app, t_proj, t_reckon, Table}
 use Rattle.calculus.proofs.Sides.{choose_both}
 use Rattle.calculus.proofs.Booleans.{both, and_left, and_right}
@@ -59,49 +24,38 @@ use Rattle.calculus.proofs.Progress.{canonical_numbers}
 use Rattle.calculus.proofs.Numbers.{literal_some}
 use Rattle.calculus.proofs.Values.{raised_stands, reckoned_stands}
 use Rattle.termination.proofs.Reaching.{Reaches, here, reaches_then, reaches_plug, reaches_contraction, reaches_typed}
-use Rattle.termination.proofs.Reducibility.{
-  Ends,
-  PairOf,
-  pair_of,
-  InjectionOf,
-  first_of,
-  second_of,
-  Argument,
-  FunctionOf,
-  function_of,
-  Reducible,
-  reducible_raised,
-}
+use Rattle.termination.proofs.Reducibility.{ReachesValue, PairOf, pair_of, InjectionOf, first_of, second_of, Argument}
+use Rattle.termination.proofs.Reducibility.{FunctionOf, function_of, Reducible, reducible_raised}
 
 -- What a typed redex says of its parts.
 module _ {S : Security} {tab : ℕ → Ty} where
-  app_permitted : {w : Reader} {k : Property} {i : ℕ} {e v : Term} {t : Ty} → Inferred S tab [] (app w (lam k i e) v) t → So (S.permits k w)
+  app_permitted : {w : Reader} {k : Property} {i : ℕ} {e v : Term} {t : Ty} → Inferred S tab [] (app w (lam k i e) v) t → IsTrue (S.permits k w)
   app_permitted (i_app (i_lam h p f) q s m) = m
 
-  proj_permitted : {d : Side} {w : Reader} {k : Property} {a b : Term} {t : Ty} → Inferred S tab [] (proj d w (pair k a b)) t → So (S.permits k w)
+  proj_permitted : {d : Side} {w : Reader} {k : Property} {a b : Term} {t : Ty} → Inferred S tab [] (proj d w (pair k a b)) t → IsTrue (S.permits k w)
   proj_permitted (i_proj (i_pair h p q f) m) = m
 
   case_permitted : {d : Side} {w : Reader} {k : Property} {i j : ℕ} {v a b : Term} {t : Ty} → Inferred S tab [] (case w j (inj d k i v) a b) t
-      → So (S.permits k w)
+      → IsTrue (S.permits k w)
   case_permitted (i_case (i_inj h e p s) m q q' r) = m
 
   reckon_permitted : {o : Operation} {w : Reader} {k l : Property} {m n : ℕ} {t : Ty} → Inferred S tab [] (reckon o w (literal k m) (literal l n)) t
-      → So (S.permits k w) × So (S.permits l w)
+      → IsTrue (S.permits k w) × IsTrue (S.permits l w)
   reckon_permitted (i_reckon (i_literal h) m (i_literal h') n x) = (m, n)
 
   -- the operand of an injection that has a sum type
-  injected : {d : Side} {k l : Property} {i : ℕ} {v : Term} {s t u : Ty} → Laws S → Table S tab → So (secure_t S (node sum k s t))
+  injected : {d : Side} {k l : Property} {i : ℕ} {v : Term} {s t u : Ty} → Laws S → Table S tab → IsTrue (secure_t S (node sum k s t))
       → Inferred S tab [] (inj d l i v) u → Directed S below u (node sum k s t) → HasType S tab [] v (choose d s t)
   injected L T g (i_inj {d = d} {i = i} h e p z) (d_node _ a b) =
       subsumption (subsumption (closed_typed L T p) z (side_secure d (table_parts T i e)))
       (choose_both (Directed S below) d a b) (side_secure d (secure_parts S _ _ _ _ g))
 
   -- a value of a number's type is a literal
-  number_value : {P : Type 0} {v : Term} {k : Property} → Laws S → Table S tab → HasType S tab [] v (leaf number k) → So (is_value v)
+  number_value : {P : Type 0} {v : Term} {k : Property} → Laws S → Table S tab → HasType S tab [] v (leaf number k) → IsTrue (is_value v)
       → ((x : Literal) → v ≡ literal x.own x.value → P) → P
   number_value {P} {v} {k} L T h x f = let y = typed_inferred L T h n_empty in go y.inferred y.below
     where
-      found : (z : Option Literal) → literal_of v ≡ z → So (exists z) → P
+      found : (z : Option Literal) → literal_of v ≡ z → IsTrue (exists z) → P
       found none e y = absurd (false≢true y)
       found (some z) e y = literal_some v e (f z)
 
@@ -110,12 +64,12 @@ module _ {S : Security} {tab : ℕ → Ty} where
 
 module _ {S : Security} {tab : ℕ → Ty} (L : Laws S) (T : Table S tab) where
   abbrev pub EndsAt : Ty → Term → Type 0
-  EndsAt t e = Ends S tab (Reducible S tab t) e
+  EndsAt t e = ReachesValue S tab (Reducible S tab t) e
 
   abbrev pub ArgumentAt : Ty → Term → Type 0
   ArgumentAt t v = Argument S tab t (Reducible S tab t) v
 
-  pub value_ends : (t : Ty) (v : Term) → So (is_value v) → Reducible S tab t v → EndsAt t v
+  pub value_ends : (t : Ty) (v : Term) → IsTrue (is_value v) → Reducible S tab t v → EndsAt t v
   value_ends t v x r = record { value = v; reaches = here; stands = x; holds = r }
 
   ends_after : (t : Ty) {a b : Term} → Reaches S tab a b → EndsAt t b → EndsAt t a
@@ -158,9 +112,9 @@ module _ {S : Security} {tab : ℕ → Ty} (L : Laws S) (T : Table S tab) where
       → FunctionOf S tab s (Reducible S tab s) (Reducible S tab t) f → EndsAt (raise_t S t n) (app w f a)
   apply_ends t {a = a} w n h x (function_of {k = k} {e = e} g) =
       inferred h λ v p z.
-      ends_after (raise_t S t n) (reaches_contraction (c_app x.stands (app_permitted p))) (protect_ends t _ n (subst zero a e) (g a x))
+      ends_after (raise_t S t n) (reaches_contraction (c_app x.stands (app_permitted p))) (protect_ends t _ n (substitute zero a e) (g a x))
 
-  pub app_ends : (k : Property) (w : Reader) (s t : Ty) (f a : Term) → So (S.permits k w) → HasType S tab [] f (node function k s t)
+  pub app_ends : (k : Property) (w : Reader) (s t : Ty) (f a : Term) → IsTrue (S.permits k w) → HasType S tab [] f (node function k s t)
       → HasType S tab [] a s
       → EndsAt (node function k s t) f → EndsAt s a → EndsAt (raise_t S t (S.influence k w)) (app w f a)
   unfolding Reducible plug
@@ -171,12 +125,12 @@ module _ {S : Security} {tab : ℕ → Ty} (L : Laws S) (T : Table S tab) where
       (apply_ends t w (S.influence k w) (t_app (reaches_typed L T hf x.reaches) ha' m)
       (record { stands = y.stands; typed = ha'; holds = y.holds }) x.holds)
 
-  chosen_ends : (d : Side) (s t : Ty) (a b : Term) → So (is_value a) → So (is_value b) → Reducible S tab s a → Reducible S tab t b
+  chosen_ends : (d : Side) (s t : Ty) (a b : Term) → IsTrue (is_value a) → IsTrue (is_value b) → Reducible S tab s a → Reducible S tab t b
       → EndsAt (choose d s t) (choose d a b)
   chosen_ends first s t a b x y p q = value_ends s a x p
   chosen_ends second s t a b x y p q = value_ends t b y q
 
-  project_ends : (s t : Ty) {u : Ty} {v : Term} (d : Side) (w : Reader) (n : Indirect) → HasType S tab [] (proj d w v) u → So (is_value v)
+  project_ends : (s t : Ty) {u : Ty} {v : Term} (d : Side) (w : Reader) (n : Indirect) → HasType S tab [] (proj d w v) u → IsTrue (is_value v)
       → PairOf (Reducible S tab s) (Reducible S tab t) v → EndsAt (raise_t S (choose d s t) n) (proj d w v)
   unfolding is_value
   project_ends s t d w n h x (pair_of {a = a} {b = b} p q) =
@@ -186,7 +140,7 @@ module _ {S : Security} {tab : ℕ → Ty} (L : Laws S) (T : Table S tab) where
       ends_after (raise_t S (choose d s t) n) (reaches_contraction (c_proj va vb (proj_permitted r)))
       (protect_ends (choose d s t) _ n (choose d a b) (chosen_ends d s t a b va vb p q))
 
-  pub proj_ends : (d : Side) (k : Property) (w : Reader) (s t : Ty) (e : Term) → So (S.permits k w) → HasType S tab [] e (node product k s t)
+  pub proj_ends : (d : Side) (k : Property) (w : Reader) (s t : Ty) (e : Term) → IsTrue (S.permits k w) → HasType S tab [] e (node product k s t)
       → EndsAt (node product k s t) e → EndsAt (raise_t S (choose d s t) (S.influence k w)) (proj d w e)
   unfolding Reducible plug
   proj_ends d k w s t e m h x =
@@ -194,8 +148,8 @@ module _ {S : Security} {tab : ℕ → Ty} (L : Laws S) (T : Table S tab) where
       (project_ends s t d w (S.influence k w) (t_proj {d = d} (reaches_typed L T h x.reaches) m) x.stands x.holds)
 
   branch_ends : {k : Property} (s t r : Ty) {u : Ty} {v a b : Term} (w : Reader) (i : ℕ) (n : Indirect) → HasType S tab [] (case w i v a b) u
-      → HasType S tab [] v (node sum k s t) → So (is_value v) → InjectionOf (Reducible S tab s) (Reducible S tab t) v
-      → ((v : Term) → ArgumentAt s v → EndsAt r (subst zero v a)) → ((v : Term) → ArgumentAt t v → EndsAt r (subst zero v b))
+      → HasType S tab [] v (node sum k s t) → IsTrue (is_value v) → InjectionOf (Reducible S tab s) (Reducible S tab t) v
+      → ((v : Term) → ArgumentAt s v → EndsAt r (substitute zero v a)) → ((v : Term) → ArgumentAt t v → EndsAt r (substitute zero v b))
       → EndsAt (raise_t S r n) (case w i v a b)
   unfolding is_value
   branch_ends s t r w i n h hv x (first_of {a = v} p) f g =
@@ -211,7 +165,7 @@ module _ {S : Security} {tab : ℕ → Ty} (L : Laws S) (T : Table S tab) where
 
   pub case_ends : (k : Property) (w : Reader) (i : ℕ) (s t r : Ty) (e a b : Term) → HasType S tab [] (case w i e a b) (raise_t S r (S.influence k w))
       → HasType S tab [] e (node sum k s t) → EndsAt (node sum k s t) e
-      → ((v : Term) → ArgumentAt s v → EndsAt r (subst zero v a)) → ((v : Term) → ArgumentAt t v → EndsAt r (subst zero v b))
+      → ((v : Term) → ArgumentAt s v → EndsAt r (substitute zero v a)) → ((v : Term) → ArgumentAt t v → EndsAt r (substitute zero v b))
       → EndsAt (raise_t S r (S.influence k w)) (case w i e a b)
   unfolding Reducible plug
   case_ends k w i s t r e a b hc h x f g =
@@ -219,7 +173,7 @@ module _ {S : Security} {tab : ℕ → Ty} (L : Laws S) (T : Table S tab) where
       ends_after (raise_t S r (S.influence k w)) p
       (branch_ends s t r w i (S.influence k w) (reaches_typed L T hc p) (reaches_typed L T h x.reaches) x.stands x.holds f g)
 
-  pub lam_ends : (k : Property) (i : ℕ) (t : Ty) (e : Term) → ((v : Term) → ArgumentAt (tab i) v → EndsAt t (subst zero v e))
+  pub lam_ends : (k : Property) (i : ℕ) (t : Ty) (e : Term) → ((v : Term) → ArgumentAt (tab i) v → EndsAt t (substitute zero v e))
       → EndsAt (node function k (tab i) t) (lam k i e)
   unfolding Reducible is_value
   lam_ends k i t e f = value_ends (node function k (tab i) t) (lam k i e) refl (function_of f)
@@ -238,12 +192,12 @@ module _ {S : Security} {tab : ℕ → Ty} (L : Laws S) (T : Table S tab) where
   flag_reducible first k l i p q v = first_of tt
   flag_reducible second k l i p q v = second_of tt
 
-  reckoned_reducible : {o : Operation} {t : Ty} {k : Property} (l : Property) (m n : ℕ) → Reckons tab o k t → Reducible S tab t (reckoned tab o l m n)
-  unfolding reckoned Reducible
+  reckoned_reducible : {o : Operation} {t : Ty} {k : Property} (l : Property) (m n : ℕ) → Reckons tab o k t → Reducible S tab t (reckon_result tab o l m n)
+  unfolding reckon_result Reducible
   reckoned_reducible l m n a_number = tt
-  reckoned_reducible l m n (a_flag {i = i} {k = k} {p = p} {q = q} e) = flag_reducible (compared m n) k l i p q _
+  reckoned_reducible l m n (a_flag {i = i} {k = k} {p = p} {q = q} e) = flag_reducible (less_side m n) k l i p q _
 
-  pub reckon_ends : (o : Operation) (w : Reader) (k l : Property) (t : Ty) (a b : Term) → So (S.permits k w) → So (S.permits l w)
+  pub reckon_ends : (o : Operation) (w : Reader) (k l : Property) (t : Ty) (a b : Term) → IsTrue (S.permits k w) → IsTrue (S.permits l w)
       → Reckons tab o (of_both S w k l) t → HasType S tab [] a (leaf number k) → HasType S tab [] b (leaf number l)
       → EndsAt (leaf number k) a → EndsAt (leaf number l) b → EndsAt t (reckon o w a b)
   unfolding plug

@@ -1,20 +1,19 @@
 -- Reducible values, by their type: a function is one that takes reducible values to terms that end in reducible values.
-use Rattle.std.proofs.Common.{[], ℕ, zero}
-use Rattle.std.proofs.Math.Bool.{So}
+use Rattle.std.proofs.Common.{[], ℕ, zero, IsTrue}
 use Rattle.calculus.specs.Security.{Property, Indirect, Security}
 use Rattle.calculus.specs.Types.{Leaf, Former, sum, product, function, Ty, leaf, node, raise_t, secure_t}
 use Rattle.calculus.specs.Subtyping.{Subtype, Direction, below, above, leftward}
-use Rattle.calculus.specs.Terms.{first, second, Term, lam, pair, inj, is_value, subst, raise_value}
+use Rattle.calculus.specs.Terms.{first, second, Term, lam, pair, inj, is_value, substitute, raise_value}
 use Rattle.calculus.specs.Typing.{HasType, t_sub}
 use Rattle.calculus.proofs.Directed.{Directed, d_leaf, d_node, directed_opposite, directed_subtype}
 use Rattle.calculus.proofs.SecureTyping.{secure_parts}
 use Rattle.termination.proofs.Reaching.{Reaches}
 
 -- e comes to a value in P
-pub record Ends (S : Security) (tab : ℕ → Ty) (P : Term → Type 0) (e : Term) : Type 0 where
+pub record ReachesValue (S : Security) (tab : ℕ → Ty) (P : Term → Type 0) (e : Term) : Type 0 where
   pub value : Term
   pub reaches : Reaches S tab e value
-  pub stands : So (is_value value)
+  pub stands : IsTrue (is_value value)
   pub holds : P value
 
 pub data PairOf (P Q : Term → Type 0) : Term → Type 0 where
@@ -26,12 +25,12 @@ pub data InjectionOf (P Q : Term → Type 0) : Term → Type 0 where
 
 -- what may be put for a variable of type t
 pub record Argument (S : Security) (tab : ℕ → Ty) (t : Ty) (P : Term → Type 0) (v : Term) : Type 0 where
-  pub stands : So (is_value v)
+  pub stands : IsTrue (is_value v)
   pub typed : HasType S tab [] v t
   pub holds : P v
 
 pub data FunctionOf (S : Security) (tab : ℕ → Ty) (s : Ty) (P Q : Term → Type 0) : Term → Type 0 where
-  function_of : {k : Property} {i : ℕ} {e : Term} → ((v : Term) → Argument S tab s P v → Ends S tab Q (subst zero v e))
+  function_of : {k : Property} {i : ℕ} {e : Term} → ((v : Term) → Argument S tab s P v → ReachesValue S tab Q (substitute zero v e))
       → FunctionOf S tab s P Q (lam k i e)
 
 unfoldable pub Reducible : Security → (ℕ → Ty) → Ty → Term → Type 0
@@ -40,7 +39,7 @@ Reducible S tab (node sum k s t) v = InjectionOf (Reducible S tab s) (Reducible 
 Reducible S tab (node product k s t) v = PairOf (Reducible S tab s) (Reducible S tab t) v
 Reducible S tab (node function k s t) v = FunctionOf S tab s (Reducible S tab s) (Reducible S tab t) v
 
-pub ends_map : {S : Security} {tab : ℕ → Ty} {P Q : Term → Type 0} {e : Term} → ((v : Term) → P v → Q v) → Ends S tab P e → Ends S tab Q e
+pub ends_map : {S : Security} {tab : ℕ → Ty} {P Q : Term → Type 0} {e : Term} → ((v : Term) → P v → Q v) → ReachesValue S tab P e → ReachesValue S tab Q e
 ends_map f x = record { value = x.value; reaches = x.reaches; stands = x.stands; holds = f _ x.holds }
 
 -- A reducible value is one of every greater type.
@@ -57,14 +56,14 @@ injection_map : {P Q P' Q' : Term → Type 0} → ((v : Term) → P v → P' v) 
 injection_map f g (first_of p) = first_of (f _ p)
 injection_map f g (second_of q) = second_of (g _ q)
 
-function_map : {S : Security} {tab : ℕ → Ty} {s s' : Ty} {P Q P' Q' : Term → Type 0} → Subtype S s' s → So (secure_t S s) → ((v : Term) → P' v → P v)
+function_map : {S : Security} {tab : ℕ → Ty} {s s' : Ty} {P Q P' Q' : Term → Type 0} → Subtype S s' s → IsTrue (secure_t S s) → ((v : Term) → P' v → P v)
     → ((v : Term) → Q v → Q' v) → {v : Term} → FunctionOf S tab s P Q v → FunctionOf S tab s' P' Q' v
 function_map b h f g (function_of c) =
     function_of λ v x. ends_map g (c v (record { stands = x.stands; typed = t_sub x.typed b h; holds = f v x.holds }))
 
 reducible_node : (S : Security) (tab : ℕ → Ty) (f : Former) (d : Direction) (k l : Property) (s t s' t' : Ty) (v : Term)
     → Directed S (leftward f d) s s'
-    → So (secure_t S s) → So (secure_t S s')
+    → IsTrue (secure_t S s) → IsTrue (secure_t S s')
     → ((u : Term) → Along (leftward f d) (Reducible S tab s u) (Reducible S tab s' u))
     → ((u : Term) → Along d (Reducible S tab t u) (Reducible S tab t' u))
     → Along d (Reducible S tab (node f k s t) v) (Reducible S tab (node f l s' t') v)
@@ -82,7 +81,7 @@ unfolding Reducible
 reducible_leaf S tab below b k l v = λ x. tt
 reducible_leaf S tab above b k l v = λ x. tt
 
-reducible_along : {S : Security} (tab : ℕ → Ty) {d : Direction} {s t : Ty} → Directed S d s t → So (secure_t S s) → So (secure_t S t) → (v : Term)
+reducible_along : {S : Security} (tab : ℕ → Ty) {d : Direction} {s t : Ty} → Directed S d s t → IsTrue (secure_t S s) → IsTrue (secure_t S t) → (v : Term)
     → Along d (Reducible S tab s v) (Reducible S tab t v)
 reducible_along {S} tab (d_leaf {d = d} {b = b} h) x y v = reducible_leaf S tab d b _ _ v
 reducible_along {S} tab (d_node {d = d} {f = f} h p q) x y v =
@@ -91,7 +90,7 @@ reducible_along {S} tab (d_node {d = d} {f = f} h p q) x y v =
     reducible_node S tab f d _ _ _ _ _ _ v p a.left b.left
     (reducible_along tab p a.left b.left) (reducible_along tab q a.right b.right)
 
-pub reducible_above : {S : Security} (tab : ℕ → Ty) {s t : Ty} → Directed S below s t → So (secure_t S s) → So (secure_t S t) → (v : Term)
+pub reducible_above : {S : Security} (tab : ℕ → Ty) {s t : Ty} → Directed S below s t → IsTrue (secure_t S s) → IsTrue (secure_t S t) → (v : Term)
     → Reducible S tab s v → Reducible S tab t v
 reducible_above tab p x y v = reducible_along tab p x y v
 

@@ -1,69 +1,25 @@
--- Item 12: "Of every accepted script in it, there must be a number of steps of the rules after which a value stands."
-use Rattle.std.proofs.Common.{◌≡◌, List, [], ◌∷◌, ℕ, zero, arith}
-use Rattle.std.proofs.Math.Bool.{So, false≢true}
+-- A typed closed term without a recursion comes to a value after some number of steps of the rules.
+use Rattle.std.proofs.Common.{◌≡◌, List, [], ◌∷◌, ℕ, zero, arith, IsTrue}
+use Rattle.std.proofs.Math.Bool.{false≢true}
 use Rattle.std.proofs.Math.Option.{some}
 use Rattle.calculus.specs.Security.{Security, Laws}
 use Rattle.calculus.specs.Types.{Ty}
-use Rattle.calculus.specs.Terms.{Term, is_value, subst}
+use Rattle.calculus.specs.Terms.{Term, is_value, substitute}
 use Rattle.calculus.specs.Runs.{Runs}
-use Rattle.calculus.specs.Typing.{
-  HasType,
-  t_sub,
-  t_var,
-  t_unit,
-  t_lam,
-  t_pair,
-  t_inj,
-  t_app,
-  t_proj,
-  t_case,
-  t_protect,
-  t_mu,
-  t_literal,
-  t_reckon,
-  Table,
-  infer,
-}
+use Rattle.calculus.specs.Typing.{HasType, t_sub, t_var, t_unit, t_lam, t_pair, t_inj, t_app, t_proj, t_case, t_protect}
+use Rattle.calculus.specs.Typing.{t_mu, t_literal, t_reckon, Table, infer}
 use Rattle.termination.specs.Profile.{recursion_free}
+use Rattle.termination.specs.Termination.{Terminates}
 use Rattle.calculus.proofs.Booleans.{and_left, and_right}
 use Rattle.calculus.proofs.Directed.{subtype_directed}
 use Rattle.calculus.proofs.SecureTyping.{SecureContext, sc_empty, sc_extend, secure_parts, typed_secure}
 use Rattle.calculus.proofs.Soundness.{infer_sound}
 use Rattle.termination.proofs.Reaching.{reaches_runs}
-use Rattle.termination.proofs.Closing.{
-  close,
-  close_unit,
-  close_lam,
-  close_pair,
-  close_inj,
-  close_app,
-  close_proj,
-  close_case,
-  close_protect,
-  close_literal,
-  close_reckon,
-  Values,
-  v_empty,
-  v_extend,
-  values_map,
-  close_typed,
-  close_var,
-}
-use Rattle.termination.proofs.Ending.{
-  EndsAt,
-  ArgumentAt,
-  value_ends,
-  protect_ends,
-  pair_ends,
-  inj_ends,
-  app_ends,
-  proj_ends,
-  case_ends,
-  lam_ends,
-  unit_ends,
-  literal_ends,
-  reckon_ends,
-}
+use Rattle.termination.proofs.Closing.{close, close_unit, close_lam, close_pair, close_inj, close_app, close_proj}
+use Rattle.termination.proofs.Closing.{close_case, close_protect, close_literal, close_reckon, Values, v_empty}
+use Rattle.termination.proofs.Closing.{v_extend, values_map, close_typed, close_var}
+use Rattle.termination.proofs.Ending.{EndsAt, ArgumentAt, value_ends, protect_ends, pair_ends, inj_ends, app_ends}
+use Rattle.termination.proofs.Ending.{proj_ends, case_ends, lam_ends, unit_ends, literal_ends, reckon_ends}
 use Rattle.termination.proofs.Reducibility.{ends_map, reducible_above}
 
 module _ {S : Security} {tab : ℕ → Ty} (L : Laws S) (T : Table S tab) where
@@ -72,12 +28,12 @@ module _ {S : Security} {tab : ℕ → Ty} (L : Laws S) (T : Table S tab) where
   closed Vs h = close_typed [] (values_map (λ t v x. x.typed) Vs) h
 
   -- an instance of a body, with its own variable's value first
-  opened : (γ : List Term) (e : Term) (t : Ty) (v : Term) → EndsAt L T t (close zero (v ∷ γ) e) → EndsAt L T t (subst zero v (close 1 γ e))
+  opened : (γ : List Term) (e : Term) (t : Ty) (v : Term) → EndsAt L T t (close zero (v ∷ γ) e) → EndsAt L T t (substitute zero v (close 1 γ e))
   unfolding close
   opened γ e t v x = x
 
   -- Every closed instance of a typed term without recursion ends in a reducible value.
-  instance_ends : {Γ : List Ty} {γ : List Term} {e : Term} {t : Ty} → SecureContext S Γ → HasType S tab Γ e t → So (recursion_free e)
+  instance_ends : {Γ : List Ty} {γ : List Term} {e : Term} {t : Ty} → SecureContext S Γ → HasType S tab Γ e t → IsTrue (recursion_free e)
       → Values (ArgumentAt L T) Γ γ → EndsAt L T t (close zero γ e)
   unfolding recursion_free
   instance_ends C (t_sub p b h) r Vs = ends_map (reducible_above tab (subtype_directed L b) (typed_secure L T C p) h) (instance_ends C p r Vs)
@@ -115,13 +71,17 @@ module _ {S : Security} {tab : ℕ → Ty} (L : Laws S) (T : Table S tab) where
       (reckon_ends L T o w k l t _ _ m n x (closed Vs p) (closed Vs q)
       (instance_ends C p (and_left _ _ r) Vs) (instance_ends C q (and_right (recursion_free a) _ r) Vs))
 
-  pub termination : (e : Term) (t : Ty) → HasType S tab [] e t → So (recursion_free e) → (n : ℕ) × (v : Term) × Runs S tab n e v × So (is_value v)
+  pub termination : (e : Term) (t : Ty) → HasType S tab [] e t → IsTrue (recursion_free e) → (n : ℕ) × (v : Term) × Runs S tab n e v × IsTrue (is_value v)
   unfolding close
   termination e t h r =
       let x = instance_ends sc_empty h r v_empty in
       let y = reaches_runs x.reaches in
       (y.0, x.value, y.1, x.stands)
 
-  pub infer_termination : (e : Term) (t : Ty) → infer S tab [] e ≡ some t → So (recursion_free e)
-      → (n : ℕ) × (v : Term) × Runs S tab n e v × So (is_value v)
+  pub infer_termination : (e : Term) (t : Ty) → infer S tab [] e ≡ some t → IsTrue (recursion_free e)
+      → (n : ℕ) × (v : Term) × Runs S tab n e v × IsTrue (is_value v)
   infer_termination e t h r = termination e t (infer_sound L T e t sc_empty h) r
+
+pub terminates : Terminates
+unfolding Terminates
+terminates S tab L T e t h r = termination L T e t h r

@@ -1,1 +1,3 @@
+-- Which scripts always finish.
 pub mod Profile
+pub mod Termination

@@ -1,5 +1,5 @@
 -- The record count of one type, by a pass with a pending count.
-use Rattle.std.proofs.Common.{◌≡◌, ap, sym, ◌∙◌, Bool, true, false, cond, ◌||◌, ℕ, ◌-◌, ◌≤◌, ◌<◌, arith, eqb}
+use Rattle.std.proofs.Common.{◌≡◌, ap, sym, ◌∙◌, Bool, true, false, cond, ◌||◌, ℕ, ◌-◌, ◌≤◌, ◌<◌, arith, nat_eq}
 use Rattle.std.proofs.Math.Decide.{dec_lt}
 use Rattle.std.proofs.Math.Option.{Option, some}
 use Rattle.calculus.specs.Types.{Ty, size_t}
@@ -20,7 +20,7 @@ abbrev pub walk : Bytes → ℕ → ℕ → Option ℕ
 walk t need i = end_after (ops t) (type_count t - i) need i
 
 pub at_most_two : (k : ℕ) → sides k ≤ 2
-at_most_two k = go (eqb k 0 || eqb k 4)
+at_most_two k = go (nat_eq k 0 || nat_eq k 4)
   where
     go : (b : Bool) → cond b 0 2 ≤ 2
     go true = omega arith

@@ -1,5 +1,6 @@
 -- What stands at the front of a slice that starts with a type, and where its sides start.
-use Rattle.std.proofs.Common.{◌≡◌, refl, ap, sym, ◌∙◌, ◌++◌, append_assoc, ℕ, ◌+◌, ◌*◌, ◌-◌, ◌≤◌, ◌<◌, arith, length, take, drop, length-append, length-drop, length-set, take_all, drop_at, drop-drop}
+use Rattle.std.proofs.Common.{◌≡◌, refl, ap, sym, ◌∙◌, ◌++◌, append_assoc, ℕ, ◌+◌, ◌*◌, ◌-◌, ◌≤◌, ◌<◌, arith, length}
+use Rattle.std.proofs.Common.{take, drop, length-append, length-drop, length-set, take_all, drop_at, drop-drop}
 use Rattle.calculus.specs.Security.{Property, Indirect, Security}
 use Rattle.calculus.specs.Types.{Leaf, one, number, Ty, leaf, node, top, raise_t, size_t}
 use Rattle.rules.specs.Answer.{Bytes, byte}
@@ -7,7 +8,8 @@ use Rattle.rules.specs.Limits.{type_width}
 use Rattle.rules.specs.Types.{sides, leaf_kind, encode_type}
 use Rattle.rules.proofs.PrefixLaws.{encode_length, size_positive, unique}
 use Rattle.rules.proofs.TypeCode.{type_code, type_prefix}
-use Rattle.types.specs.Held.{Held, Starts, Sided, Counted, kind_of, left_of, right_of, type_property, with_property}
+use Rattle.types.specs.Held.{Held, Starts, TwoSided, LeftSize, kind_of_type, left_of, right_of, type_property}
+use Rattle.types.specs.Held.{with_property}
 
 -- the part of a list from `a` to its end, as the code takes it
 pub to_end : (a : ℕ) (s : Bytes) → take (length s - a) (drop a s) ≡ drop a s
@@ -22,21 +24,13 @@ type_positive t = size_positive type_code t
 abbrev pub starts_of : {s : Bytes} {t : Ty} → Held s t → Starts s
 starts_of {s} {t} h = record { type = t; held = h }
 
--- two parts of what a function was lent, as it lends them on: they start with types, and the first is shorter
-pub parts : (f : Ty → Ty) {a b a' b' : Bytes} {n : ℕ} → (length a ≡ n) × (Starts a × Starts b)
-    → ((t : Ty) → Held a t → Held a' (f t)) × (length a' < length a) → ((t : Ty) → Held b t → Held b' (f t)) × (length b' < length b)
-    → (length a' < n) × (Starts a' × Starts b')
-parts f pre x y =
-    let w = pre.1 in
-    (omega (arith, pre.0, x.1), (starts_of (x.0 w.0.type w.0.held), starts_of (y.0 w.1.type w.1.held)))
-
 -- a type without sides has not two
 pub sideless : (b : Leaf) → sides (leaf_kind b) ≡ 2 → ⊥
 sideless one h = omega arith
 sideless number h = omega arith
 
 -- a type's own record and its sides
-pub sides_size : (t : Ty) → sides (kind_of t) ≡ 2 → size_t t ≡ 1 + (size_t (left_of t) + size_t (right_of t))
+pub sides_size : (t : Ty) → sides (kind_of_type t) ≡ 2 → size_t t ≡ 1 + (size_t (left_of t) + size_t (right_of t))
 unfolding size_t
 sides_size (leaf b k) two = absurd (sideless b two)
 sides_size (node f k a b) two = refl
@@ -51,7 +45,7 @@ module _ {s : Bytes} where
   pub starts_long : Starts s → type_width ≤ length s
   starts_long w = long w.held
 
-  pub kind_is : (t : Ty) → Held s t → byte s 0 ≡ kind_of t
+  pub kind_is : (t : Ty) → Held s t → byte s 0 ≡ kind_of_type t
   unfolding encode_type
   kind_is (leaf b k) h = ap (λ l. byte l 0) h.is
   kind_is (node f k a b) h = ap (λ l. byte l 0) h.is
@@ -66,13 +60,13 @@ module _ {s : Bytes} where
   property_is (leaf b k) h = ap (λ (l : Bytes). type_property l 0) h.is
   property_is (node f k a b) h = ap (λ (l : Bytes). type_property l 0) h.is
 
-  pub left_held : (t : Ty) → sides (kind_of t) ≡ 2 → Held s t → Held (drop type_width s) (left_of t)
+  pub left_held : (t : Ty) → sides (kind_of_type t) ≡ 2 → Held s t → Held (drop type_width s) (left_of t)
   unfolding encode_type
   left_held (leaf b k) two h = absurd (sideless b two)
   left_held (node f k a b) two h =
       record { rest = encode_type b ++ h.rest; is = ap (drop type_width) h.is ∙ append_assoc (encode_type a) (encode_type b) h.rest }
 
-  pub right_held : (t : Ty) (n : ℕ) → sides (kind_of t) ≡ 2 → n ≡ size_t (left_of t) → Held s t → Held (drop (type_width + type_width * n) s) (right_of t)
+  pub right_held : (t : Ty) (n : ℕ) → sides (kind_of_type t) ≡ 2 → n ≡ size_t (left_of t) → Held s t → Held (drop (type_width + type_width * n) s) (right_of t)
   unfolding encode_type
   right_held (leaf b k) n two e h = absurd (sideless b two)
   right_held (node f k a b) n two e h =
@@ -82,7 +76,7 @@ module _ {s : Bytes} where
             ∙ drop_at (encode_type a) (encode_type b ++ h.rest) (type_width * n) (omega (arith, type_length a));
       }
 
-  pub right_fits : (t : Ty) (n : ℕ) → sides (kind_of t) ≡ 2 → n ≡ size_t (left_of t) → Held s t → 2 * type_width + type_width * n ≤ length s
+  pub right_fits : (t : Ty) (n : ℕ) → sides (kind_of_type t) ≡ 2 → n ≡ size_t (left_of t) → Held s t → 2 * type_width + type_width * n ≤ length s
   unfolding size_t
   right_fits (leaf b k) n two e h = absurd (sideless b two)
   right_fits (node f k a b) n two e h = omega (arith, held_length h, type_positive b)
@@ -91,17 +85,17 @@ module _ {s : Bytes} where
   pub same_type : {t u : Ty} → Held s t → Held s u → t ≡ u
   same_type {t} {u} h i = (unique type_prefix t u h.rest i.rest (sym h.is ∙ i.is)).0
 
-  pub two_of : (w : Sided s) (t : Ty) → Held s t → sides (kind_of t) ≡ 2
-  two_of w t h = ap (λ u. sides (kind_of u)) (sym (same_type w.held h)) ∙ w.two
+  pub two_of : (w : TwoSided s) (t : Ty) → Held s t → sides (kind_of_type t) ≡ 2
+  two_of w t h = ap (λ u. sides (kind_of_type u)) (sym (same_type w.held h)) ∙ w.two
 
-  pub sided_left : Sided s → (t : Ty) → Held s t → Held (drop type_width s) (left_of t)
+  pub sided_left : TwoSided s → (t : Ty) → Held s t → Held (drop type_width s) (left_of t)
   sided_left w t h = left_held t (two_of w t h) h
 
-  pub counted_right : {n : ℕ} → Counted s n → (t : Ty) → Held s t → Held (drop (type_width + type_width * n) s) (right_of t)
+  pub counted_right : {n : ℕ} → LeftSize s n → (t : Ty) → Held s t → Held (drop (type_width + type_width * n) s) (right_of t)
   counted_right {n} w t h =
-      right_held t n (ap (λ u. sides (kind_of u)) (sym (same_type w.held h)) ∙ w.two) (w.count ∙ ap (λ u. size_t (left_of u)) (same_type w.held h)) h
+      right_held t n (ap (λ u. sides (kind_of_type u)) (sym (same_type w.held h)) ∙ w.two) (w.count ∙ ap (λ u. size_t (left_of u)) (same_type w.held h)) h
 
-  pub counted_fits : {n : ℕ} → Counted s n → 2 * type_width + type_width * n ≤ length s
+  pub counted_fits : {n : ℕ} → LeftSize s n → 2 * type_width + type_width * n ≤ length s
   counted_fits {n} w = right_fits w.type n w.two w.count w.held
 
   -- the first record with another property

@@ -16,36 +16,40 @@ pub record Starts (s : Bytes) : Type 0 where
   pub type : Ty
   pub held : Held s type
 
-abbrev pub kind_of : Ty → ℕ
-kind_of (leaf b k) = leaf_kind b
-kind_of (node f k s t) = former_kind f
+-- the kind of a type's first record
+abbrev pub kind_of_type : Ty → ℕ
+kind_of_type (leaf b k) = leaf_kind b
+kind_of_type (node f k s t) = former_kind f
 
--- the sides; a type without them stands for both
+-- the left side; a type without sides stands for it
 abbrev pub left_of : Ty → Ty
 left_of (leaf b k) = leaf b k
 left_of (node f k s t) = s
 
+-- the right side; a type without sides stands for it
 abbrev pub right_of : Ty → Ty
 right_of (leaf b k) = leaf b k
 right_of (node f k s t) = t
 
 -- s starts with a type that has two sides
-pub record Sided (s : Bytes) : Type 0 where
+pub record TwoSided (s : Bytes) : Type 0 where
   pub type : Ty
   pub held : Held s type
-  pub two : sides (kind_of type) ≡ 2
+  pub two : sides (kind_of_type type) ≡ 2
 
 -- and the left one has n records
-pub record Counted (s : Bytes) (n : ℕ) : Type 0 where
+pub record LeftSize (s : Bytes) (n : ℕ) : Type 0 where
   pub type : Ty
   pub held : Held s type
-  pub two : sides (kind_of type) ≡ 2
+  pub two : sides (kind_of_type type) ≡ 2
   pub count : n ≡ size_t (left_of type)
 
--- the property of record i, and the table with another in its place
+-- the property of record i
 abbrev pub type_property : Bytes → ℕ → Property
 type_property t i = record { r = type_r t i; ir = type_ir t i; c = type_c t i; ic = type_ic t i }
 
+-- the table with this property in record i
 abbrev pub with_property : Bytes → ℕ → Property → Bytes
 with_property t i k =
-    set (set (set (set t (type_width * i + 1) k.r) (type_width * i + 2) k.ir) (type_width * i + 4) k.c) (type_width * i + 5) k.ic
+    set (set (set (set t (type_width * i + 1) k.r) (type_width * i + 2) k.ir) (type_width * i + 4) k.c)
+    (type_width * i + 5) k.ic

@@ -1,6 +1,6 @@
 -- One pass over a types table with a pending count: questions 11 and 12.
-use Rattle.std.proofs.Common.{◌≡◌, ℕ, ◌+◌, ◌-◌, ◌≤◌, ◌<◌, Bool, true, false, cond, eqb, leb}
-use Rattle.std.proofs.Common.{refl, ap, sym, ◌∙◌, arith, add-one, eq-eqb, ne_eqb}
+use Rattle.std.proofs.Common.{◌≡◌, ℕ, ◌+◌, ◌-◌, ◌≤◌, ◌<◌, Bool, true, false, cond, nat_eq, nat_le, refl, ap, sym, ◌∙◌}
+use Rattle.std.proofs.Common.{arith, add-one, eq-eqb, ne_eqb}
 use Rattle.std.proofs.Math.Decide.{ℕ_discrete, dec_lt}
 use Rattle.std.proofs.Math.Option.{none, some}
 use Rattle.calculus.specs.Types.{type_limit}
@@ -29,7 +29,7 @@ pub record Passing (ok : ℕ → Bool) (t : Bytes) (start p i : ℕ) : Type 0 wh
   pub within : 0 < p → Inside ok t start p i
 
 abbrev pub next_start : ℕ → ℕ → ℕ → ℕ
-next_start start p i = cond (eqb p 0) i start
+next_start start p i = cond (nat_eq p 0) i start
 
 abbrev pub next_pending : Bytes → ℕ → ℕ → ℕ
 next_pending t p i = (p - 1) + ops t i
@@ -131,11 +131,11 @@ module _ (t : Bytes) where
 
   -- what is answered after the last record
   pub asked_11 : (start p i : ℕ) → Passing (ok11 t) t start p i → type_count t ≤ i → i ≤ type_count t
-      → ask 11 start (eqb p 0) ≡ each 11 (type_count t) (ok11 t)
+      → ask 11 start (nat_eq p 0) ≡ each 11 (type_count t) (ok11 t)
   unfolding ok11
   asked_11 start p i h l m = by (ℕ_discrete p 0)
     where
-      by : Dec (p ≡ 0) → ask 11 start (eqb p 0) ≡ each 11 (type_count t) (ok11 t)
+      by : Dec (p ≡ 0) → ask 11 start (nat_eq p 0) ≡ each 11 (type_count t) (ok11 t)
       by (yes e) = rw (eq-eqb p 0 e) (sym (each_accepted 11 (type_count t) (ok11 t) (λ k b. h.passed e k (omega arith))))
       by (no n) =
           let q : 0 < p = omega arith in
@@ -150,27 +150,27 @@ module _ (t : Bytes) where
   unfolding ok12
   skips_12 k n = rw (ne_eqb (pending t k) 0 n)
 
-  pub short_12 : (start p i : ℕ) → Inside (ok12 t) t start p i → accepted tt ≡ ask 12 start (eqb p 0 ⇒ leb (i - start) type_limit) → p ≡ 0 → ok12 t start ≡ true
+  pub short_12 : (start p i : ℕ) → Inside (ok12 t) t start p i → accepted tt ≡ ask 12 start (nat_eq p 0 ⇒ nat_le (i - start) type_limit) → p ≡ 0 → ok12 t start ≡ true
   unfolding ok12
   short_12 start p i w a e =
       rw (eq-eqb (pending t start) 0 w.outer, ended (ok12 t) t start p i w e)
-      (implied (eqb p 0) (leb (i - start) type_limit) (ask_true 12 start _ (sym a)) (eq-eqb p 0 e))
+      (implied (nat_eq p 0) (nat_le (i - start) type_limit) (ask_true 12 start _ (sym a)) (eq-eqb p 0 e))
 
   -- asked of the type that the pass is in, it gives the table's answer
   pub asked_12 : (start p i : ℕ) → Inside (ok12 t) t start p i → i ≤ type_count t
-      → ◌>>◌ (ask 12 start (eqb p 0 ⇒ leb (i - start) type_limit)) (each 12 (type_count t) (ok12 t)) ≡ each 12 (type_count t) (ok12 t)
+      → ◌>>◌ (ask 12 start (nat_eq p 0 ⇒ nat_le (i - start) type_limit)) (each 12 (type_count t) (ok12 t)) ≡ each 12 (type_count t) (ok12 t)
   unfolding ok12
   asked_12 start p i w m = by (ℕ_discrete p 0)
     where
-      long : p ≡ 0 → (b : Bool) → leb (i - start) type_limit ≡ b → ◌>>◌ (ask 12 start b) (each 12 (type_count t) (ok12 t)) ≡ each 12 (type_count t) (ok12 t)
+      long : p ≡ 0 → (b : Bool) → nat_le (i - start) type_limit ≡ b → ◌>>◌ (ask 12 start b) (each 12 (type_count t) (ok12 t)) ≡ each 12 (type_count t) (ok12 t)
       long e true l = refl
       long e false l =
           sym
           (each_refused 12 (type_count t) (ok12 t) start (omega (arith, w.started)) w.before
           (rw (eq-eqb (pending t start) 0 w.outer, ended (ok12 t) t start p i w e) l))
 
-      by : Dec (p ≡ 0) → ◌>>◌ (ask 12 start (eqb p 0 ⇒ leb (i - start) type_limit)) (each 12 (type_count t) (ok12 t)) ≡ each 12 (type_count t) (ok12 t)
-      by (yes e) = rw (eq-eqb p 0 e) (long e (leb (i - start) type_limit) refl)
+      by : Dec (p ≡ 0) → ◌>>◌ (ask 12 start (nat_eq p 0 ⇒ nat_le (i - start) type_limit)) (each 12 (type_count t) (ok12 t)) ≡ each 12 (type_count t) (ok12 t)
+      by (yes e) = rw (eq-eqb p 0 e) (long e (nat_le (i - start) type_limit) refl)
       by (no n) = rw (ne_eqb p 0 n)
 
   -- an unfinished last type is question 11's

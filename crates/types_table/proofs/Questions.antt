@@ -1,19 +1,20 @@
 -- Questions 8 to 12, with 36 after 10, and 25 one after another.
-use Rattle.std.proofs.Common.{◌≡◌, refl, ap, sym, ◌∙◌, ltb-true, ℕ, ◌<◌, ltb, Bool, true, false, cond, Some, None, Result, Err, IsErrAnd}
+use Rattle.std.proofs.Common.{◌≡◌, refl, ap, sym, ◌∙◌, ltb-true, ℕ, ◌<◌, nat_lt, Bool, true, false, cond, Some, None}
+use Rattle.std.proofs.Common.{Result, Err, IsErrAnd}
 use Rattle.calculus.specs.Security.{Security}
 use Rattle.calculus.specs.Types.{Ty, size_t}
 use Rattle.calculus.specs.Subtyping.{subtype}
 use Rattle.calculus.specs.Subtyping as directions
 use Rattle.rules.specs.Answer.{Bytes, Answer, ask, accepted, ◌>>◌, first_from}
 use Rattle.rules.specs.Types.{ok9, ok10, ok36_type, ok11, ok12, q8, q9, q10, q36_types, q11, q12}
-use Rattle.rules.specs.Comparison.{equal_types, Comparison, same, below, neither, comparison}
+use Rattle.rules.specs.Comparison.{equal_types, Comparison, same, strictly_below, neither, comparison}
 use Rattle.rules.specs.Calls.{groups_check, types_check}
-use Rattle.subtyping.specs.Compared.{compared}
+use Rattle.subtyping.specs.Compared.{relation_of}
 use Rattle.answer.specs.declared.Refusal.{Refusal}
-use Rattle.answer.specs.Said.{said}
+use Rattle.answer.specs.Said.{answer_of}
 use Rattle.answer.proofs.Passed.{returned, left_by}
 use Rattle.types_table.specs.declared.Comparison as declared
-use Rattle.types_table.specs.Answered.{said_comparison, answered, told}
+use Rattle.types_table.specs.Answered.{said_comparison, comparison_answer, comparison_of}
 use Rattle.rules.proofs.Asked.{ask_true, and_then}
 
 -- what is left to ask from a question on
@@ -66,23 +67,23 @@ all_yes g t e =
     record { to_7 = a.0; to_8 = b.0; to_9 = c.0; to_10 = d.0; to_36 = f.0; to_11 = h.0; to_12 = h.1 }
 
 -- a refusal that `?` returns is the comparison's
-pub passed_on : (a : Answer (Unit {0})) (b : Answer Comparison) (r : Result declared.Comparison Refusal) (e : Refusal) → said {A = Unit {0}} (Err e) ≡ a → IsErrAnd r (λ x. x ≡ e)
-    → answered r ≡ ◌>>◌ a b
-passed_on a b r e h p = ap answered (returned r p) ∙ left_by a b (Err e) e h refl
+pub passed_on : (a : Answer (Unit {0})) (b : Answer Comparison) (r : Result declared.Comparison Refusal) (e : Refusal) → answer_of {A = Unit {0}} (Err e) ≡ a → IsErrAnd r (λ x. x ≡ e)
+    → comparison_answer r ≡ ◌>>◌ a b
+passed_on a b r e h p = ap comparison_answer (returned r p) ∙ left_by a b (Err e) e h refl
 
 -- question 25 of a count that the code has read
-pub counted : {o : Answer (Unit {0})} {n m : ℕ} (place i : ℕ) → n ≡ m → o ≡ ask 25 place (ltb i n) → o ≡ ask 25 place (ltb i m)
-counted place i e h = h ∙ ap (λ n. ask 25 place (ltb i n)) e
+pub counted : {o : Answer (Unit {0})} {n m : ℕ} (place i : ℕ) → n ≡ m → o ≡ ask 25 place (nat_lt i n) → o ≡ ask 25 place (nat_lt i m)
+counted place i e h = h ∙ ap (λ n. ask 25 place (nat_lt i n)) e
 
 -- the index of a yes
-pub inside : (place i n : ℕ) → accepted tt ≡ ask 25 place (ltb i n) → i < n
-inside place i n e = ltb-true i n (ask_true 25 place (ltb i n) (sym e))
+pub inside : (place i n : ℕ) → accepted tt ≡ ask 25 place (nat_lt i n) → i < n
+inside place i n e = ltb-true i n (ask_true 25 place (nat_lt i n) (sym e))
 
 -- what the walk found is the comparison
-told_cases : (b c : Bool) (n : ℕ) → said_comparison (told (cond b (Some (record { same = c; records = n })) None)) ≡ cond b (cond c same below) neither
+told_cases : (b c : Bool) (n : ℕ) → said_comparison (comparison_of (cond b (Some (record { same = c; records = n })) None)) ≡ cond b (cond c same strictly_below) neither
 told_cases true true n = refl
 told_cases true false n = refl
 told_cases false c n = refl
 
-pub told_is : (S : Security) (s t : Ty) → said_comparison (told (compared S directions.below s t)) ≡ comparison S s t
+pub told_is : (S : Security) (s t : Ty) → said_comparison (comparison_of (relation_of S directions.below s t)) ≡ comparison S s t
 told_is S s t = told_cases (subtype S directions.below s t) (equal_types s t) (size_t s)

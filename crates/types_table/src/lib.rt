@@ -1,35 +1,41 @@
-// A types table: questions 8 to 12 and 36, and the comparison of two of its types.
+// The check of a types table: a function for each of its questions, 8 to 12 and 36, and all of them in order; and the
+// comparison of two of its types.
 
 #![tactic(auto)]
 
-ghost use Rattle.std.specs.Prelude.{◌≡◌, cond, ◌&&◌, ◌+◌, ◌-◌, ◌≤◌, ◌<◌, eqb, leb, ltb};
+ghost use Rattle.std.specs.Prelude.{◌≡◌, if◌then◌else◌, ◌&&◌, ◌+◌, ◌-◌, ◌≤◌, ◌<◌, nat_eq, nat_le, nat_lt};
 ghost use Rattle.calculus.specs.Types.{type_limit};
 ghost use Rattle.rules.specs.Answer.{◌⇒◌};
 ghost use Rattle.rules.specs.Types.{type_count, type_kind, sides, ok9, q8_of, q8, q9, q10, q36_types, q11, q12};
 ghost use Rattle.rules.specs.Comparison.{comparison_number};
-ghost use Rattle.rules.specs.Calls.{types_check, comparing};
-ghost use Rattle.answer.specs.Said.{said};
-ghost use Rattle.types_table.specs.Answered.{said_comparison, answered, told};
+ghost use Rattle.rules.specs.Calls.{types_check, compare_call};
+ghost use Rattle.answer.specs.Said.{answer_of};
+ghost use Rattle.types_table.specs.Answered.{said_comparison, comparison_answer, comparison_of};
 
 use answer::{Checked, Question, Refusal};
 use lattice::{Group, Property};
 use subtyping::Related;
 use types::{TYPE_LIMIT, TYPE_WIDTH};
 
+/// The most records of a types table.
 pub const TABLE_LIMIT: usize = 4096;
 
-// The longest table.
+/// The bytes of the longest table.
 pub const TABLE_LENGTH: usize = TABLE_LIMIT * TYPE_WIDTH;
 
-// How a type stands to another, in the order of the answers' numbers.
+/// How a type stands to another, in the order of the answers' numbers, 0 to 2.
 #[derive(Clone, Copy, Debug, PartialEq, Eq)]
 pub enum Comparison {
+    /// It isn't at or below the other.
     Neither,
+    /// It is below the other.
     Below,
+    /// They are the same.
     Same,
 }
 
 impl Comparison {
+    /// Its number, as an answer at the C surface has it.
     pub fn number(self) -> u8
         ensures { result ≡ comparison_number (said_comparison self) }
     {
@@ -37,10 +43,11 @@ impl Comparison {
     }
 }
 
-// 8. Whole records, 1 to 4,096? Records of an earlier form have another width.
+/// Whole records of `width` bytes, 1 to 4,096? Question 8, `TypesLength`. Records of an earlier form have another
+/// width.
 pub fn question_8_of(types: &[u8], width: usize) -> Checked
     requires { 0 < width }
-    ensures { said result ≡ q8_of width types.now }
+    ensures { answer_of result ≡ q8_of width types.now }
 {
     answer::ask(
         Question::TypesLength,
@@ -49,15 +56,16 @@ pub fn question_8_of(types: &[u8], width: usize) -> Checked
     )
 }
 
+/// Whole records of 6 bytes, 1 to 4,096? Question 8, `TypesLength`.
 pub fn question_8(types: &[u8]) -> Checked
-    ensures { said result ≡ q8 types.now }
+    ensures { answer_of result ≡ q8 types.now }
 {
     question_8_of(types, TYPE_WIDTH)
 }
 
 // Are the groups of a property in the table, which has n?
 fn in_table(n: usize, k: Property) -> bool
-    ensures { result ≡ (ltb k.r.0 n && (ltb k.ir.0 n && (ltb k.c.0 n && ltb k.ic.0 n))) }
+    ensures { result ≡ (nat_lt k.r.0 n && (nat_lt k.ir.0 n && (nat_lt k.c.0 n && nat_lt k.ic.0 n))) }
 {
     k.r.is_among(n) & k.ir.is_among(n) & k.c.is_among(n) & k.ic.is_among(n)
 }
@@ -73,19 +81,19 @@ fn well_formed(n: usize, types: &[u8], i: usize) -> bool
         & in_table(n, types::property_at(types, i))
 }
 
-// 9. Kind at most 4, byte 3 equal to 0, groups in table?
+/// A kind that there is, a 0 in byte 3, and groups of the table? Question 9, `TypeFields`, of every record.
 pub fn question_9(groups: &[u8], types: &[u8]) -> Checked
-    ensures { said result ≡ q9 groups.now types.now }
+    ensures { answer_of result ≡ q9 groups.now types.now }
 {
     let n = lattice::row_count(groups);
     let count = types::type_count(types);
     answer::each(Question::TypeFields, count, |i| well_formed(n, types, i))
 }
 
-// 10. ir ⊑ r?
+/// ir ⊑ r? Question 10, `TypeReaders`, of every record.
 #[tactic(auto, unfolding(rules::specs::Types::ok10))]
 pub fn question_10(groups: &[u8], types: &[u8]) -> Checked
-    ensures { said result ≡ q10 groups.now types.now }
+    ensures { answer_of result ≡ q10 groups.now types.now }
 {
     answer::each(Question::TypeReaders, types::type_count(types), |i| {
         let k = types::property_at(types, i);
@@ -93,10 +101,11 @@ pub fn question_10(groups: &[u8], types: &[u8]) -> Checked
     })
 }
 
-// 36. ic ⊑ c? A pass of its own: a later record's 10 comes before an earlier one's 36.
+/// ic ⊑ c? Question 36, `Creators`, of every record. A pass of its own: a later record's question 10 comes before an
+/// earlier one's 36.
 #[tactic(auto, unfolding(rules::specs::Types::ok36_type))]
 pub fn question_36(groups: &[u8], types: &[u8]) -> Checked
-    ensures { said result ≡ q36_types groups.now types.now }
+    ensures { answer_of result ≡ q36_types groups.now types.now }
 {
     answer::each(Question::Creators, types::type_count(types), |i| {
         let k = types::property_at(types, i);
@@ -104,7 +113,8 @@ pub fn question_36(groups: &[u8], types: &[u8]) -> Checked
     })
 }
 
-// One pass over a types table: where the outermost type that it is in starts, and how many of that one's sides are still to come.
+// One pass over a types table: where the outermost type that it is in starts, and how many of that one's sides are
+// still to come.
 #[derive(Clone, Copy, Debug, Default, PartialEq, Eq)]
 struct Pass {
     start: usize,
@@ -114,9 +124,10 @@ struct Pass {
 impl Pass {
     // What it is after record i. Where no side was to come, a new type starts there.
     fn after(self, types: &[u8], i: usize) -> Self
-        requires { (i < type_count types.now) × (self.pending ≤ i + 1) }
-        ensures { (result.start ≡ cond (eqb self.pending 0) i self.start)
-            × (result.pending ≡ (self.pending - 1) + sides (type_kind types.now i)) }
+        requires there { i < type_count types.now }
+        requires few { self.pending ≤ i + 1 }
+        ensures start { result.start ≡ (if nat_eq self.pending 0 then i else self.start) }
+        ensures pending { result.pending ≡ (self.pending - 1) + sides (type_kind types.now i) }
     {
         let start = if self.pending == 0 { i } else { self.start };
         let pending = types::pending_after(types, i, self.pending);
@@ -126,15 +137,16 @@ impl Pass {
     // Has the type at most 63 records, if it ends at record `end`?
     fn is_short(self, end: usize) -> bool
         requires { self.start ≤ end }
-        ensures { result ≡ (eqb self.pending 0 ⇒ leb (end - self.start) type_limit) }
+        ensures { result ≡ (nat_eq self.pending 0 ⇒ nat_le (end - self.start) type_limit) }
     {
         self.pending != 0 || end - self.start <= TYPE_LIMIT
     }
 }
 
-// 11. Does the last type end with the table? One pass: an unfinished type would await the records past the end, at any depth.
+/// Does the last type end with the table? Question 11, `WholeTypes`, refused at the first record of the type that
+/// doesn't. One pass: an unfinished type would await the records past the end, at any depth.
 pub fn question_11(types: &[u8]) -> Checked
-    ensures { said result ≡ q11 types.now }
+    ensures { answer_of result ≡ q11 types.now }
 {
     let mut pass = Pass::default();
     for i in 0..types::type_count(types) {
@@ -143,9 +155,9 @@ pub fn question_11(types: &[u8]) -> Checked
     answer::ask(Question::WholeTypes, pass.start, pass.pending == 0)
 }
 
-// 12. Has every type at most 63 records?
+/// Has every type at most 63 records? Question 12, `TypeLengths`, refused at the first record of a type that has more.
 pub fn question_12(types: &[u8]) -> Checked
-    ensures { said result ≡ q12 types.now }
+    ensures { answer_of result ≡ q12 types.now }
 {
     let mut pass = Pass::default();
     for i in 0..types::type_count(types) {
@@ -155,10 +167,11 @@ pub fn question_12(types: &[u8]) -> Checked
     Ok(())
 }
 
-// Questions 2 to 12 in order, with 36 directly after 10.
+/// The check of both tables, of any bytes: questions 2 to 12 in order, with 36 directly after 10. The first refusal
+/// is passed on.
 #[tactic(auto, using(answer::proofs::Passed::then_asked, answer::proofs::Passed::stopped), unfolding(rules::specs::Calls::types_check))]
 pub fn types_check(groups: &[u8], types: &[u8]) -> Checked
-    ensures { said result ≡ types_check groups.now types.now }
+    ensures { answer_of result ≡ types_check groups.now types.now }
 {
     let a7 = groups_table::groups_check(groups);
     let Ok(()) = a7 else {
@@ -189,7 +202,7 @@ pub fn types_check(groups: &[u8], types: &[u8]) -> Checked
 
 // What a walk found, as a comparison.
 fn told(found: Option<Related>) -> Comparison
-    ensures { result ≡ told found }
+    ensures { result ≡ comparison_of found }
 {
     match found {
         Some(related) if related.same => Comparison::Same,
@@ -198,16 +211,17 @@ fn told(found: Option<Related>) -> Comparison
     }
 }
 
-// Same, below or neither, of two type indexes: questions 2 to 12, 36 and 25, and the walk. The indexes are compared as they come,
-// before they are narrowed.
-pub fn compare(groups: &[u8], types: &[u8], i: u64, j: u64) -> Result<Comparison, Refusal>
-    ensures { answered result ≡ comparing groups.now types.now i j }
+/// How the type at record `first` stands to the type at record `second`. Refused where the tables fail their check
+/// (questions 2 to 12 and 36), and by question 25, `Given`, where an index is past the table: place 0 for the first,
+/// 1 for the second. The indexes are looked at as they come, before they are narrowed.
+pub fn compare(groups: &[u8], types: &[u8], first: u64, second: u64) -> Result<Comparison, Refusal>
+    ensures { comparison_answer result ≡ compare_call groups.now types.now first second }
 {
     types_check(groups, types)?;
     let count = types::type_count(types) as u64;
-    answer::ask(Question::Given, 0, i < count)?;
-    answer::ask(Question::Given, 1, j < count)?;
-    let lower = types::part_from(types, i as usize);
-    let upper = types::part_from(types, j as usize);
+    answer::ask(Question::Given, 0, first < count)?;
+    answer::ask(Question::Given, 1, second < count)?;
+    let lower = types::part_from(types, first as usize);
+    let upper = types::part_from(types, second as usize);
     Ok(told(subtyping::at_or_below(groups, lower, upper)))
 }

@@ -2,7 +2,8 @@
 use Rattle.std.proofs.Common.{◌≡◌, refl, ap, ◌∙◌, List, ◌∷◌, ℕ, ◌+◌, ◌≤◌, arith}
 use Rattle.calculus.specs.Security.{Property, Security}
 use Rattle.calculus.specs.Types.{sum, product, function, Ty, top}
-use Rattle.calculus.specs.Terms.{first, second, Operation, Term, var, unit, lam, pair, inj, app, proj, case, protect, mu, literal, reckon}
+use Rattle.calculus.specs.Terms.{first, second, Operation, Term, var, unit, lam, pair, inj, app, proj, case, protect}
+use Rattle.calculus.specs.Terms.{mu, literal, reckon}
 use Rattle.calculus.specs.Numbers.{of_both}
 use Rattle.rules.specs.Answer.{Answer, accepted, refused, ◌>>=◌ as bind, ◌>>◌ as then}
 use Rattle.rules.specs.Script.{size}
@@ -10,7 +11,8 @@ use Rattle.rules.specs.Typing.{left, right, q20, q20_number, q21, q22_of_branch,
 use Rattle.types.specs.declared.Kind.TheVariants.{Number}
 use Rattle.inference.specs.Operands.{operand_count}
 use Rattle.records.specs.Operands.{first_operand, second_operand}
-use Rattle.inference.specs.Stages.{leaf_type, before_first, first_context, wanting, reads, may_read, after_one, between, second_context, reckoned_type, after_two, case_type}
+use Rattle.inference.specs.Stages.{leaf_type, before_first, first_context, after_22, reads, may_read, after_one}
+use Rattle.inference.specs.Stages.{between, second_context, operation_type, after_two, case_type}
 
 then_assoc : {A : Type 0} (a b : Answer (Unit {0})) (c : Answer A) → then a (then b c) ≡ then (then a b) c
 then_assoc (accepted tt) b c = refl
@@ -22,20 +24,13 @@ bind_same (refused q p) h = refl
 
 -- what is left when both operands of a node of two, or the first two of a case, have their types
 unfoldable pub after_second : Security → (ℕ → Ty) → List Ty → ℕ → Term → Ty → Ty → Answer Ty
-after_second S tab Γ p (var n) s t = accepted t
-after_second S tab Γ p (unit k) s t = accepted t
-after_second S tab Γ p (lam k i e) s t = accepted t
 after_second S tab Γ p (pair k a b) s t = after_two S tab p (pair k a b) s t
-after_second S tab Γ p (inj d k i e) s t = accepted t
 after_second S tab Γ p (app w f a) s t = after_two S tab p (app w f a) s t
-after_second S tab Γ p (proj d w e) s t = accepted t
 after_second S tab Γ p (case w i e a b) s t =
     then (q22_of_branch S p tab i t)
     (bind (typing S tab (right s ∷ Γ) (1 + p + size e + size a) b) (λ u. case_type S tab p i t u (S.influence (top s) w)))
-after_second S tab Γ p (protect m e) s t = accepted t
-after_second S tab Γ p (mu w i e) s t = accepted t
-after_second S tab Γ p (literal k n) s t = accepted t
 after_second S tab Γ p (reckon o w a b) s t = after_two S tab p (reckon o w a b) s t
+after_second S tab Γ p _ s t = accepted t
 
 module _ (S : Security) (tab : ℕ → Ty) (Γ : List Ty) (p : ℕ) where
   pub typing_leaf : (e : Term) → operand_count e ≡ 0 → typing S tab Γ p e ≡ leaf_type Γ e
@@ -48,7 +43,7 @@ module _ (S : Security) (tab : ℕ → Ty) (Γ : List Ty) (p : ℕ) where
   -- a recursion's questions come before its body
   recursion_typed : (w i : ℕ) (e : Term)
       → typing S tab Γ p (mu w i e)
-      ≡ then (before_first S tab p (mu w i e)) (bind (typing S tab (tab i ∷ Γ) (1 + p) e) (λ t. wanting S p t (tab i) (tab i)))
+      ≡ then (before_first S tab p (mu w i e)) (bind (typing S tab (tab i ∷ Γ) (1 + p) e) (λ t. after_22 S p t (tab i) (tab i)))
   unfolding typing before_first
   recursion_typed w i e = then_assoc (q21 S p (tab i) (S.caller (top (tab i)) w)) (q23 S p (tab i) (S.caller (top (tab i)) w)) _
 
@@ -86,7 +81,7 @@ module _ (S : Security) (tab : ℕ → Ty) (Γ : List Ty) (p : ℕ) where
   abbrev right_reckoned : Operation → ℕ → Ty → Ty → Answer Ty
   right_reckoned o w s t = then (q20_number p t) (then (q21 S p t w) (accepted (number_result tab o (of_both S w (top s) (top t)))))
 
-  both_reckoned : (o : Operation) (w : ℕ) (s t : Ty) → right_reckoned o w s t ≡ reckoned_type S tab p o w s t
+  both_reckoned : (o : Operation) (w : ℕ) (s t : Ty) → right_reckoned o w s t ≡ operation_type S tab p o w s t
   both_reckoned o w s t = go (q20_number p t) (q21 S p t w)
     where
       k : Property

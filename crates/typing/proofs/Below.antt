@@ -1,8 +1,11 @@
--- A node's operands: where they stand, how large and deep they are, how they are formed, and what room is left for them.
-use Rattle.std.proofs.Common.{◌≡◌, refl, sym, ap, ◌∙◌, Bool, true, false, cond, List, [], ◌∷◌, ◌++◌, append-nil, ℕ, suc, ◌+◌, ◌*◌, ◌≤◌, max, arith, length, drop}
+-- A node's operands: where they stand, how large and deep they are, how they are formed, and what room is left for
+-- them.
+use Rattle.std.proofs.Common.{◌≡◌, refl, sym, ap, ◌∙◌, Bool, true, false, cond, List, [], ◌∷◌, ◌++◌, append-nil, ℕ, suc}
+use Rattle.std.proofs.Common.{◌+◌, ◌*◌, ◌≤◌, max, arith, length, drop}
 use Rattle.calculus.specs.Types.{Ty}
 use Rattle.calculus.specs.Typing.{finds_own}
-use Rattle.calculus.specs.Terms.{first, second, plus, less, Term, var, unit, lam, pair, inj, app, proj, case, protect, mu, literal, reckon}
+use Rattle.calculus.specs.Terms.{first, second, plus, less, Term, var, unit, lam, pair, inj, app, proj, case, protect}
+use Rattle.calculus.specs.Terms.{mu, literal, reckon}
 use Rattle.records.specs.Kinds as kinds
 use Rattle.inference.proofs.Shapes.{Several, is_pair, is_app, is_case, is_reckon, several}
 use Rattle.rules.specs.Limits.{answer_length, script_width}
@@ -15,8 +18,9 @@ use Rattle.rules.proofs.TermCode.{term_code, term_operands}
 use Rattle.records.specs.Place.{At}
 use Rattle.records.specs.Binders.{binds}
 use Rattle.records.proofs.Weights.{weights}
-use Rattle.inference.specs.Operands.{operand_count, Formed}
-use Rattle.records.specs.Operands.{first_operand, second_operand, third_operand}
+use Rattle.inference.specs.Operands.{operand_count, WellFormed}
+use Rattle.records.specs.Operands.{first_operand, second_operand}
+use Rattle.records.proofs.ThirdOperand.{third_operand}
 use Rattle.inference.specs.Stages.{first_context, second_context, kept_front}
 use Rattle.typing.specs.Parts.{kept_between}
 
@@ -46,8 +50,6 @@ at_operand s e p i before d after is z =
 module _ (s : Bytes) where
   pub first_at : (e : Term) → s ≡ encode e → 1 ≤ operand_count e → At s 1 (first_operand e)
   unfolding operand_count
-  first_at (var n) p o = absurd (omega arith)
-  first_at (unit k) p o = absurd (omega arith)
   first_at (lam k i e) p o = at_operand s (lam k i e) p 1 [] e [] refl refl
   first_at (pair k a b) p o = at_operand s (pair k a b) p 1 [] a (b ∷ []) refl refl
   first_at (inj d k i e) p o = at_operand s (inj d k i e) p 1 [] e [] refl refl
@@ -56,8 +58,8 @@ module _ (s : Bytes) where
   first_at (case w i e a b) p o = at_operand s (case w i e a b) p 1 [] e (a ∷ b ∷ []) refl refl
   first_at (protect m e) p o = at_operand s (protect m e) p 1 [] e [] refl refl
   first_at (mu w i e) p o = at_operand s (mu w i e) p 1 [] e [] refl refl
-  first_at (literal k n) p o = absurd (omega arith)
   first_at (reckon o w a b) p d = at_operand s (reckon o w a b) p 1 [] a (b ∷ []) refl refl
+  first_at _ p o = absurd (omega arith)
 
   pub second_at : {e : Term} {j : ℕ} → Several e → s ≡ encode e → j ≡ 1 + size (first_operand e) → At s j (second_operand e)
   second_at {j = j} (is_pair {k = k} {a = a} {b = b}) p z = at_operand s (pair k a b) p j (a ∷ []) b [] refl (omega arith)
@@ -71,18 +73,13 @@ module _ (s : Bytes) where
 -- the last operand ends where the term does
 first_ends : (e : Term) → operand_count e ≡ 1 → size e ≡ 1 + size (first_operand e)
 unfolding operand_count size
-first_ends (var n) o = absurd (omega arith)
-first_ends (unit k) o = absurd (omega arith)
 first_ends (lam k i e) o = omega arith
-first_ends (pair k a b) o = absurd (omega arith)
 first_ends (inj d k i e) o = omega arith
-first_ends (app w f a) o = absurd (omega arith)
 first_ends (proj d w e) o = omega arith
-first_ends (case w i e a b) o = absurd (omega arith)
 first_ends (protect m e) o = omega arith
 first_ends (mu w i e) o = omega arith
-first_ends (literal k n) o = absurd (omega arith)
 first_ends (reckon o w a b) d = absurd (omega arith)
+first_ends _ o = absurd (omega arith)
 
 second_ends : {e : Term} → Several e → operand_count e ≡ 2 → size e ≡ 1 + size (first_operand e) + size (second_operand e)
 unfolding operand_count size
@@ -123,21 +120,17 @@ first_smaller e o = record { deeper = omega arith; larger = omega arith }
 
 pub second_smaller : {e : Term} → Several e → Smaller e (second_operand e) (size (first_operand e))
 unfolding size depth
-second_smaller is_pair = record { deeper = omega arith; larger = omega arith }
-second_smaller is_app = record { deeper = omega arith; larger = omega arith }
-second_smaller is_reckon = record { deeper = omega arith; larger = omega arith }
 second_smaller (is_case {w = w} {i = i} {e = e} {a = a} {b = b}) = record { deeper = omega (arith, (weights (case w i e a b)).0); larger = omega arith }
+second_smaller _ = record { deeper = omega arith; larger = omega arith }
 
 pub third_larger : {e : Term} → Three e → 1 + (size (first_operand e) + size (second_operand e)) + size (third_operand e) ≤ size e
 unfolding size
 third_larger is_three = omega arith
 
 -- what questions 16 and 19 say of the operands
-pub first_formed : (t : Bytes) (tab : ℕ → Ty) (Γ : List Ty) (e : Term) → 1 ≤ operand_count e → Formed t (length Γ) e
-    → Formed t (length (first_context tab Γ e)) (first_operand e)
-unfolding operand_count Formed first_context
-first_formed t tab Γ (var n) o f = absurd (omega arith)
-first_formed t tab Γ (unit k) o f = absurd (omega arith)
+pub first_formed : (t : Bytes) (tab : ℕ → Ty) (Γ : List Ty) (e : Term) → 1 ≤ operand_count e → WellFormed t (length Γ) e
+    → WellFormed t (length (first_context tab Γ e)) (first_operand e)
+unfolding operand_count WellFormed first_context
 first_formed t tab Γ (lam k i e) o f = f.1
 first_formed t tab Γ (pair k a b) o f = f.0
 first_formed t tab Γ (inj d k i e) o f = f.1
@@ -146,20 +139,20 @@ first_formed t tab Γ (proj d w e) o f = f
 first_formed t tab Γ (case w i e a b) o f = f.1.0
 first_formed t tab Γ (protect m e) o f = f
 first_formed t tab Γ (mu w i e) o f = f.1
-first_formed t tab Γ (literal k n) o f = absurd (omega arith)
 first_formed t tab Γ (reckon plus w x y) o f = f.0
 first_formed t tab Γ (reckon (less i) w x y) o f = f.1.0
+first_formed t tab Γ _ o f = absurd (omega arith)
 
-pub second_formed : (t : Bytes) (Γ : List Ty) (u : Ty) {e : Term} → Several e → Formed t (length Γ) e → Formed t (length (second_context Γ e u)) (second_operand e)
-unfolding Formed second_context
+pub second_formed : (t : Bytes) (Γ : List Ty) (u : Ty) {e : Term} → Several e → WellFormed t (length Γ) e → WellFormed t (length (second_context Γ e u)) (second_operand e)
+unfolding WellFormed second_context
 second_formed t Γ u is_pair f = f.1
 second_formed t Γ u is_app f = f.1
 second_formed t Γ u is_case f = f.1.1.0
 second_formed t Γ u (is_reckon {o = plus}) f = f.1
 second_formed t Γ u (is_reckon {o = less i}) f = f.1.1
 
-pub third_formed : (t : Bytes) (b : ℕ) {e : Term} → Three e → Formed t b e → Formed t (suc b) (third_operand e)
-unfolding Formed
+pub third_formed : (t : Bytes) (b : ℕ) {e : Term} → Three e → WellFormed t b e → WellFormed t (suc b) (third_operand e)
+unfolding WellFormed
 third_formed t b is_three f = f.1.1.1
 
 -- A level's slot is spent once: on a binder, or in front.
@@ -175,7 +168,8 @@ second_room Γ u is_app = omega arith
 second_room Γ u is_case = omega arith
 second_room Γ u is_reckon = omega arith
 
--- A case that finds its own type weighs two: one level is spent on the binder's slot, the other on the first branch's type.
+-- A case that finds its own type weighs two: one level is spent on the binder's slot, the other on the first branch's
+-- type.
 pub third_room : {e : Term} {w i : ℕ} {x y z : Term} → e ≡ case w i x y z
     → cond (finds_own i) answer_length 0 + answer_length * (1 + depth (third_operand e)) ≤ answer_length * depth e
 unfolding depth
@@ -214,11 +208,9 @@ first_bound tab Γ e = omega arith
 
 second_bound : (Γ : List Ty) (u : Ty) {e : Term} → Several e → length (second_context Γ e u) ≡ length Γ + binds (kind (encode e) 0) 1
 unfolding second_context encode binds
-second_bound Γ u is_pair = omega arith
-second_bound Γ u is_app = omega arith
-second_bound Γ u is_case = omega arith
 second_bound Γ u (is_reckon {o = plus}) = omega arith
 second_bound Γ u (is_reckon {o = less i}) = omega arith
+second_bound Γ u _ = omega arith
 
 pub first_binders : (s : Bytes) (tab : ℕ → Ty) (Γ : List Ty) (e : Term) → s ≡ encode e → length (first_context tab Γ e) ≡ length Γ + binds (kind s 0) 0
 first_binders s tab Γ e p = first_bound tab Γ e ∙ ap (λ x. length Γ + binds (kind x 0) 0) (sym p)

@@ -1,7 +1,8 @@
--- What is known of a node from one operand to the next, in the words of the code's locals: k is its kind, o its count of operands,
--- i₂ and i₃ where operands start, n and m the sizes of found types, c and c₂ counts of binders, and w₁ to w₆ the work buffer after
--- each call that writes to it.
-use Rattle.std.proofs.Common.{Result, Ok, Err, IsErrAnd, ◌≡◌, refl, ap, ◌∙◌, ◌∷◌, ℕ, ◌+◌, ◌-◌, ◌≤◌, arith, length, take, drop}
+-- What is known of a node from one operand to the next, in the words of the code's locals: k is its kind, o its count
+-- of operands, i₂ and i₃ where operands start, n and m the sizes of found types, c and c₂ counts of binders, and w₁ to
+-- w₆ the work buffer after each call that writes to it.
+use Rattle.std.proofs.Common.{Result, Ok, Err, IsErrAnd, ◌≡◌, refl, ap, ◌∙◌, ◌∷◌, ℕ, ◌+◌, ◌-◌, ◌≤◌, arith, length, take}
+use Rattle.std.proofs.Common.{drop}
 use borrow.Rule.Slice.PartMut.{put_mid}
 use Rattle.calculus.specs.Security.{Property}
 use Rattle.calculus.specs.Types.{Ty, top}
@@ -14,20 +15,22 @@ use Rattle.rules.specs.Typing.{right, q22_of_branch, typing}
 use Rattle.answer.specs.declared.Refusal.{Refusal}
 use Rattle.records.specs.Place.{At}
 use Rattle.records.specs.Binders.{binds}
-use Rattle.records.specs.Operands.{first_operand, second_operand, third_operand}
+use Rattle.records.specs.Operands.{first_operand, second_operand}
+use Rattle.records.proofs.ThirdOperand.{third_operand}
 use Rattle.types.specs.Held.{Held}
 use Rattle.types.proofs.Parts.{to_end}
 use Rattle.inference.specs.Operands.{operand_count}
-use Rattle.inference.specs.Memory.{Slot, Meets, Ready, Enters}
-use Rattle.inference.specs.Stages.{before_first, first_context, kept_front, between, second_context, kept_branch, Leaf, Some, Aside, Branch}
+use Rattle.inference.specs.Memory.{Slot, Meets, CheckerInput, Enters}
+use Rattle.inference.specs.Stages.{before_first, first_context, kept_front, between, second_context, kept_branch}
+use Rattle.inference.specs.Stages.{LeafNode, AfterFirst, Aside, FirstBranchTyped}
 use Rattle.inference.proofs.Shapes.{counted_of, several}
 use Rattle.typing.specs.Parts.{kept_between}
 use Rattle.typing.proofs.Below.{first_at, second_at, third_at, at_most_three, branch_binders, three}
 use Rattle.typing.proofs.Steps as steps
 
 -- record `end` is the one after the term at record i
-abbrev pub Ends : Bytes → ℕ → ℕ → Type 0
-Ends s i end = (e : Term) → At s i e → end ≡ i + size e
+abbrev pub EndsAt : Bytes → ℕ → ℕ → Type 0
+EndsAt s i end = (e : Term) → At s i e → end ≡ i + size e
 
 -- the part that goes with it
 abbrev pub Part : Bytes → ℕ → ℕ → Bytes → Type 0
@@ -39,10 +42,10 @@ lent low w = take (length w - low) (drop low w)
 
 -- what a call on an operand answers
 abbrev pub Typing : Bytes → Bytes → Bytes → ℕ → ℕ → Bytes → Result ℕ Refusal → Bytes → Type 0
-Typing g types p place c u x z = (r : Ready types p place c u) → Meets (typing (properties_of g) (type_at types) r.ctx place r.tree) c u x z
+Typing g types p place c u x z = (r : CheckerInput types p place c u) → Meets (typing (properties_of g) (type_at types) r.ctx place r.tree) c u x z
 
 -- the first operand's context is there
-pub record Entered (g : Bytes) {types s : Bytes} {place b : ℕ} {w : Bytes} (v : Ready types s place b w) (k o c : ℕ) (w₁ : Bytes) : Type 0 where
+pub record Entered (g : Bytes) {types s : Bytes} {place b : ℕ} {w : Bytes} (v : CheckerInput types s place b w) (k o c : ℕ) (w₁ : Bytes) : Type 0 where
   pub kind_is : k ≡ kind s 0
   pub count : o ≡ operand_count v.tree
   pub some : 1 ≤ operand_count v.tree
@@ -50,7 +53,7 @@ pub record Entered (g : Bytes) {types s : Bytes} {place b : ℕ} {w : Bytes} (v 
   pub stands : At s 1 (first_operand v.tree)
 
 -- the first operand has a type
-pub record FirstDone (g : Bytes) {types s : Bytes} {place b : ℕ} {w : Bytes} (v : Ready types s place b w) (k o i₂ n : ℕ) (w₂ : Bytes) : Type 0 where
+pub record FirstDone (g : Bytes) {types s : Bytes} {place b : ℕ} {w : Bytes} (v : CheckerInput types s place b w) (k o i₂ n : ℕ) (w₂ : Bytes) : Type 0 where
   pub kind_is : k ≡ kind s 0
   pub count : o ≡ operand_count v.tree
   pub some : 1 ≤ operand_count v.tree
@@ -58,7 +61,7 @@ pub record FirstDone (g : Bytes) {types s : Bytes} {place b : ℕ} {w : Bytes} (
   pub done : steps.Done1 g v n w₂
 
 -- the second operand's context is there; p is the first type's property
-pub record SecondEntered (g : Bytes) {types s : Bytes} {place b : ℕ} {w : Bytes} (v : Ready types s place b w) (o i₂ n c₂ : ℕ) (p : Property) (w₃ : Bytes) : Type 0 where
+pub record SecondEntered (g : Bytes) {types s : Bytes} {place b : ℕ} {w : Bytes} (v : CheckerInput types s place b w) (o i₂ n c₂ : ℕ) (p : Property) (w₃ : Bytes) : Type 0 where
   pub count : o ≡ operand_count v.tree
   pub two : 2 ≤ operand_count v.tree
   pub from : i₂ ≡ 1 + size (first_operand v.tree)
@@ -68,7 +71,7 @@ pub record SecondEntered (g : Bytes) {types s : Bytes} {place b : ℕ} {w : Byte
   pub done : steps.Done2 g v tested n c₂ w₃
 
 -- the second operand has a type
-pub record SecondDone (g : Bytes) {types s : Bytes} {place b : ℕ} {w : Bytes} (v : Ready types s place b w) (o i₃ n m c₂ : ℕ) (p : Property) (w₄ : Bytes) : Type 0 where
+pub record SecondDone (g : Bytes) {types s : Bytes} {place b : ℕ} {w : Bytes} (v : CheckerInput types s place b w) (o i₃ n m c₂ : ℕ) (p : Property) (w₄ : Bytes) : Type 0 where
   pub count : o ≡ operand_count v.tree
   pub two : 2 ≤ operand_count v.tree
   pub from : i₃ ≡ 1 + size (first_operand v.tree) + size (second_operand v.tree)
@@ -78,7 +81,7 @@ pub record SecondDone (g : Bytes) {types s : Bytes} {place b : ℕ} {w : Bytes} 
   pub done : steps.Done3 g v tested n m w₄
 
 -- the context of a case's third operand is there
-pub record ThirdEntered (g : Bytes) {types s : Bytes} {place b : ℕ} {w : Bytes} (v : Ready types s place b w) (o i₃ c₂ : ℕ) (p : Property) (w₅ : Bytes) : Type 0 where
+pub record ThirdEntered (g : Bytes) {types s : Bytes} {place b : ℕ} {w : Bytes} (v : CheckerInput types s place b w) (o i₃ c₂ : ℕ) (p : Property) (w₅ : Bytes) : Type 0 where
   pub count : o ≡ operand_count v.tree
   pub three : operand_count v.tree ≡ 3
   pub from : i₃ ≡ 1 + size (first_operand v.tree) + size (second_operand v.tree)
@@ -89,18 +92,18 @@ pub record ThirdEntered (g : Bytes) {types s : Bytes} {place b : ℕ} {w : Bytes
   pub done : steps.Done5 g v tested first c₂ w₅
 
 -- the third operand has a type
-pub record ThirdDone (g : Bytes) {types s : Bytes} {place b : ℕ} {w : Bytes} (v : Ready types s place b w) (p : Property) (w₆ : Bytes) : Type 0 where
+pub record ThirdDone (g : Bytes) {types s : Bytes} {place b : ℕ} {w : Bytes} (v : CheckerInput types s place b w) (p : Property) (w₆ : Bytes) : Type 0 where
   pub three : operand_count v.tree ≡ 3
   pub tested : Ty
   pub property_is : p ≡ top tested
   pub first : Ty
   pub done : steps.Done6 g v tested first w₆
 
-module _ (g : Bytes) {types s : Bytes} {place b : ℕ} {w : Bytes} (v : Ready types s place b w) where
+module _ (g : Bytes) {types s : Bytes} {place b : ℕ} {w : Bytes} (v : CheckerInput types s place b w) where
   pub counted : {k o : ℕ} → k ≡ kind s 0 → o ≡ arity k → o ≡ operand_count v.tree
   counted ek eo = eo ∙ ap arity ek ∙ counted_of v.tree v.is
 
-  abbrev pub leaf_of : operand_count v.tree ≡ 0 → Leaf s b w
+  abbrev pub leaf_of : operand_count v.tree ≡ 0 → LeafNode s b w
   leaf_of o =
       record {
         ctx = v.ctx;
@@ -131,11 +134,11 @@ module _ (g : Bytes) {types s : Bytes} {place b : ℕ} {w : Bytes} (v : Ready ty
         stands = first_at s v.tree v.is m;
       }
 
-  module _ {k o c i₂ low : ℕ} {w₁ p : Bytes} (e : Entered g v k o c w₁) (ends : Ends s 1 i₂) (lows : (t : Term) → s ≡ encode t → low ≡ kept_front t) (part : Part s 1 i₂ p) where
+  module _ {k o c i₂ low : ℕ} {w₁ p : Bytes} (e : Entered g v k o c w₁) (ends : EndsAt s 1 i₂) (lows : (t : Term) → s ≡ encode t → low ≡ kept_front t) (part : Part s 1 i₂ p) where
     pub first_from : i₂ ≡ 1 + size (first_operand v.tree)
     first_from = ends (first_operand v.tree) e.stands
 
-    abbrev pub first_ready : Ready types p (place + 1) c (lent low w₁)
+    abbrev pub first_ready : CheckerInput types p (place + 1) c (lent low w₁)
     first_ready = steps.ready1 g v e.some e.went (lows v.tree v.is) (part (first_operand v.tree) e.stands first_from) (to_end low w₁)
 
     module _ {z : Bytes} where
@@ -161,10 +164,10 @@ module _ (g : Bytes) {types s : Bytes} {place b : ℕ} {w : Bytes} (v : Ready ty
         let z : operand_count v.tree ≡ 1 → ⊥ = λ y. ne (d.count ∙ y) in
         omega arith
 
-    abbrev pub some_of : Some s b w₂ n
+    abbrev pub some_of : AfterFirst s b w₂ n
     some_of = steps.some_of g v d.done has_two
 
-    module _ {w₃ : Bytes} (h : (u : Some s b w₂ n) → Enters (between (properties_of g) place u.tree u.type) (second_context u.ctx u.tree u.type) b w₂ (Ok tt) w₃
+    module _ {w₃ : Bytes} (h : (u : AfterFirst s b w₂ n) → Enters (between (properties_of g) place u.tree u.type) (second_context u.ctx u.tree u.type) b w₂ (Ok tt) w₃
         × (between (properties_of g) place u.tree u.type ≡ accepted tt → Aside u.tree u.type b w₃ n)) where
       pub second_entered : {p : Property} {j : ℕ} → ((t : Ty) → Held w₂ t → p ≡ top t) → j ≡ binds k 1 → length w₃ ≡ length w₂ → SecondEntered g v o i₂ n (b + j) p w₃
       second_entered {j = j} tops ej l =
@@ -179,14 +182,14 @@ module _ (g : Bytes) {types s : Bytes} {place b : ℕ} {w : Bytes} (v : Ready ty
             done = steps.done2 g v d.done has_two q.0 (ap (λ i. b + i) (ej ∙ ap (λ i. binds i 1) d.kind_is)) l q.1;
           }
 
-  module _ {o i₂ n c₂ i₃ mid : ℕ} {q : Property} {w₃ p : Bytes} (e : SecondEntered g v o i₂ n c₂ q w₃) (ends : Ends s i₂ i₃) (mids : mid ≡ kept_between o) (part : Part s i₂ i₃ p) where
+  module _ {o i₂ n c₂ i₃ mid : ℕ} {q : Property} {w₃ p : Bytes} (e : SecondEntered g v o i₂ n c₂ q w₃) (ends : EndsAt s i₂ i₃) (mids : mid ≡ kept_between o) (part : Part s i₂ i₃ p) where
     pub mid_is : mid ≡ kept_between (operand_count v.tree)
     mid_is = mids ∙ ap kept_between e.count
 
     pub second_to : i₃ ≡ i₂ + size (second_operand v.tree)
     second_to = ends (second_operand v.tree) e.stands
 
-    abbrev pub second_ready : Ready types p (place + i₂) c₂ (lent mid w₃)
+    abbrev pub second_ready : CheckerInput types p (place + i₂) c₂ (lent mid w₃)
     second_ready = steps.ready2 g v e.two e.done mid_is e.from (part (second_operand v.tree) e.stands second_to) (to_end mid w₃)
 
     module _ {z : Bytes} where
@@ -214,10 +217,10 @@ module _ (g : Bytes) {types s : Bytes} {place b : ℕ} {w : Bytes} (v : Ready ty
         let z : operand_count v.tree ≡ 2 → ⊥ = λ y. ne (d.count ∙ y) in
         omega (arith, at_most_three v.tree)
 
-    abbrev pub branch_of : Branch types s b w₄
+    abbrev pub branch_of : FirstBranchTyped types s b w₄
     branch_of = steps.branch_of g v has_three d.done
 
-    module _ {w₅ : Bytes} (h : (u : Branch types s b w₄) → Enters (q22_of_branch (properties_of g) place (type_at types) (number s 0) u.type) (right u.tested ∷ u.ctx) b w₄ (Ok tt) w₅ × Slot w₅ u.type) where
+    module _ {w₅ : Bytes} (h : (u : FirstBranchTyped types s b w₄) → Enters (q22_of_branch (properties_of g) place (type_at types) (number s 0) u.type) (right u.tested ∷ u.ctx) b w₄ (Ok tt) w₅ × Slot w₅ u.type) where
       pub third_entered : length w₅ ≡ length w₄ → ThirdEntered g v o i₃ c₂ p w₅
       third_entered l =
           let q = h branch_of in
@@ -232,8 +235,8 @@ module _ (g : Bytes) {types s : Bytes} {place b : ℕ} {w : Bytes} (v : Ready ty
             done = steps.done5 g v has_three d.done q.0 l (omega (arith, branch_binders v.ctx d.tested (three v.tree has_three), d.binders, v.binders)) q.1;
           }
 
-  module _ {o i₃ c₂ end past : ℕ} {q : Property} {w₅ p : Bytes} (e : ThirdEntered g v o i₃ c₂ q w₅) (ends : Ends s i₃ end) (pasts : past ≡ kept_branch s) (part : Part s i₃ end p) where
-    abbrev pub third_ready : Ready types p (place + i₃) c₂ (lent past w₅)
+  module _ {o i₃ c₂ end past : ℕ} {q : Property} {w₅ p : Bytes} (e : ThirdEntered g v o i₃ c₂ q w₅) (ends : EndsAt s i₃ end) (pasts : past ≡ kept_branch s) (part : Part s i₃ end p) where
+    abbrev pub third_ready : CheckerInput types p (place + i₃) c₂ (lent past w₅)
     third_ready =
         steps.ready3 g v e.three e.done pasts e.from (part (third_operand v.tree) e.stands (ends (third_operand v.tree) e.stands)) (to_end past w₅)
 

@@ -1,5 +1,6 @@
 -- One call of the checker, stage by stage, over plain lists.
-use Rattle.std.proofs.Common.{Result, Ok, Err, IsErrAnd, ◌≡◌, sym, ap, ◌∙◌, subst, true, cond, ◌∷◌, ◌++◌, ℕ, suc, ◌+◌, ◌-◌, ◌*◌, ◌≤◌, arith, length, take, drop, length-drop}
+use Rattle.std.proofs.Common.{Result, Ok, Err, IsErrAnd, ◌≡◌, sym, ap, ◌∙◌, subst, true, cond, ◌∷◌, ◌++◌, ℕ, suc, ◌+◌}
+use Rattle.std.proofs.Common.{◌-◌, ◌*◌, ◌≤◌, arith, length, take, drop, length-drop}
 use borrow.Rule.Slice.PartMut.{put_mid}
 use Rattle.calculus.specs.Security.{Indirect}
 use Rattle.calculus.specs.Types.{Ty, top}
@@ -13,20 +14,27 @@ use Rattle.rules.specs.Script.{encode, size, depth, kind, r, number, own_at}
 use Rattle.rules.specs.Typing.{right, q22_of_branch, typing}
 use Rattle.types.specs.Held.{Held}
 use Rattle.records.specs.Kinds as kinds
-use Rattle.inference.specs.Operands.{operand_count, Formed}
-use Rattle.records.specs.Operands.{first_operand, second_operand, third_operand}
-use Rattle.inference.specs.Memory.{high, Slot, Sized, Holds, Meets, Ready, Enters, Beside}
-use Rattle.inference.specs.Stages.{before_first, first_context, kept_front, after_one, between, second_context, after_two, kept_branch, case_type, One, Some, Aside, Two, Case, Branch, Branches}
+use Rattle.inference.specs.Operands.{operand_count, WellFormed}
+use Rattle.records.specs.Operands.{first_operand, second_operand}
+use Rattle.inference.specs.Memory.{high, Slot, Sized, HoldsContext, Meets, CheckerInput, Enters, Beside}
+use Rattle.inference.specs.Stages.{before_first, first_context, kept_front, after_one, between, second_context}
+use Rattle.inference.specs.Stages.{after_two, kept_branch, case_type, OneOperand, AfterFirst, Aside, TwoOperands}
+use Rattle.inference.specs.Stages.{CaseNode, FirstBranchTyped, BranchesTyped}
 use Rattle.records.specs.Binders.{binds}
+use Rattle.records.proofs.ThirdOperand.{third_operand}
 use Rattle.answer.specs.declared.Refusal.{Refusal}
-use Rattle.answer.specs.Numbers.{number as question_number}
+use Rattle.answer.specs.Numbers.{question_number}
 use Rattle.typing.specs.Parts.{kept_between}
-use Rattle.inference.proofs.Regions.{high_drop, lent_rest, drop_lent, length_lent, high_lent, high_within, slot_of, slot_lent, sized_lent, rebase}
+use Rattle.inference.proofs.Regions.{high_drop, lent_rest, drop_lent, length_lent, high_lent, high_within, slot_of}
+use Rattle.inference.proofs.Regions.{slot_lent, sized_lent, rebase}
 use Rattle.inference.proofs.Shapes.{long, of_kind, depth_positive, several}
 use Rattle.inference.proofs.Rules.{meets_of, typed_as, refused_as, refused_meets}
 use Rattle.inference.proofs.Names.{owns, case_index}
-use Rattle.typing.proofs.Apart.{after_second, stops_before, stops_first, one_typed, first_typed, second_typed, branch_typed}
-use Rattle.typing.proofs.Below.{first_smaller, second_smaller, third_larger, first_formed, second_formed, third_formed, first_room, second_room, third_room, first_binders, second_binders, several_front, branch_binders, three, three_kind}
+use Rattle.typing.proofs.Apart.{after_second, stops_before, stops_first, one_typed, first_typed, second_typed}
+use Rattle.typing.proofs.Apart.{branch_typed}
+use Rattle.typing.proofs.Below.{first_smaller, second_smaller, third_larger, first_formed, second_formed, third_formed}
+use Rattle.typing.proofs.Below.{first_room, second_room, third_room, first_binders, second_binders, several_front}
+use Rattle.typing.proofs.Below.{branch_binders, three, three_kind}
 
 -- what reading an object of type t leaves, by the node of the record that s starts with
 abbrev pub reading : Bytes → Bytes → Ty → Indirect
@@ -59,15 +67,15 @@ back b c low w₁ u z w₂ m l eu n k e =
 
 -- ---- the first operand
 
-pub record Went (g : Bytes) {types s : Bytes} {place b : ℕ} {w : Bytes} (v : Ready types s place b w) (c : ℕ) (w₁ : Bytes) : Type 0 where
+pub record Went (g : Bytes) {types s : Bytes} {place b : ℕ} {w : Bytes} (v : CheckerInput types s place b w) (c : ℕ) (w₁ : Bytes) : Type 0 where
   pub asked : before_first (properties_of g) (type_at types) place v.tree ≡ accepted tt
   pub binders : length (first_context (type_at types) v.ctx v.tree) ≡ c
-  pub holds : Holds (first_context (type_at types) v.ctx v.tree) (high c w₁)
+  pub holds : HoldsContext (first_context (type_at types) v.ctx v.tree) (high c w₁)
   pub least : b ≤ c
   pub kept : high b w₁ ≡ high b w
   pub same : length w₁ ≡ length w
 
-pub record Done1 (g : Bytes) {types s : Bytes} {place b : ℕ} {w : Bytes} (v : Ready types s place b w) (n : ℕ) (w₂ : Bytes) : Type 0 where
+pub record Done1 (g : Bytes) {types s : Bytes} {place b : ℕ} {w : Bytes} (v : CheckerInput types s place b w) (n : ℕ) (w₂ : Bytes) : Type 0 where
   pub asked : before_first (properties_of g) (type_at types) place v.tree ≡ accepted tt
   pub type : Ty
   pub is : typing (properties_of g) (type_at types) (first_context (type_at types) v.ctx v.tree) (1 + place) (first_operand v.tree) ≡ accepted type
@@ -75,19 +83,19 @@ pub record Done1 (g : Bytes) {types s : Bytes} {place b : ℕ} {w : Bytes} (v : 
   pub kept : high b w₂ ≡ high b w
   pub same : length w₂ ≡ length w
 
-pub record Done2 (g : Bytes) {types s : Bytes} {place b : ℕ} {w : Bytes} (v : Ready types s place b w) (t : Ty) (n c : ℕ) (w₃ : Bytes) : Type 0 where
+pub record Done2 (g : Bytes) {types s : Bytes} {place b : ℕ} {w : Bytes} (v : CheckerInput types s place b w) (t : Ty) (n c : ℕ) (w₃ : Bytes) : Type 0 where
   pub asked : between (properties_of g) place v.tree t ≡ accepted tt
   pub is : typing (properties_of g) (type_at types) v.ctx place v.tree
       ≡ bind (typing (properties_of g) (type_at types) (second_context v.ctx v.tree t) (1 + place + size (first_operand v.tree)) (second_operand v.tree))
       (after_second (properties_of g) (type_at types) v.ctx place v.tree t)
   pub binders : length (second_context v.ctx v.tree t) ≡ c
-  pub holds : Holds (second_context v.ctx v.tree t) (high c w₃)
+  pub holds : HoldsContext (second_context v.ctx v.tree t) (high c w₃)
   pub least : b ≤ c
   pub kept : high b w₃ ≡ high b w
   pub aside : Aside v.tree t b w₃ n
   pub same : length w₃ ≡ length w
 
-pub record Done3 (g : Bytes) {types s : Bytes} {place b : ℕ} {w : Bytes} (v : Ready types s place b w) (t : Ty) (n m : ℕ) (w₄ : Bytes) : Type 0 where
+pub record Done3 (g : Bytes) {types s : Bytes} {place b : ℕ} {w : Bytes} (v : CheckerInput types s place b w) (t : Ty) (n m : ℕ) (w₄ : Bytes) : Type 0 where
   pub asked : between (properties_of g) place v.tree t ≡ accepted tt
   pub other : Ty
   pub is : typing (properties_of g) (type_at types) v.ctx place v.tree ≡ after_second (properties_of g) (type_at types) v.ctx place v.tree t other
@@ -97,7 +105,7 @@ pub record Done3 (g : Bytes) {types s : Bytes} {place b : ℕ} {w : Bytes} (v : 
   pub slot : operand_count v.tree ≡ 3 → Beside t b w₄
   pub same : length w₄ ≡ length w
 
-module _ (g : Bytes) {types s : Bytes} {place b : ℕ} {w : Bytes} (v : Ready types s place b w) where
+module _ (g : Bytes) {types s : Bytes} {place b : ℕ} {w : Bytes} (v : CheckerInput types s place b w) where
   -- what is left when the first of several operands has its type
   abbrev after_first : Ty → Answer Ty
   after_first t =
@@ -120,7 +128,7 @@ module _ (g : Bytes) {types s : Bytes} {place b : ℕ} {w : Bytes} (v : Ready ty
         record {
           asked = a;
           binders = q;
-          holds = subst (λ j. Holds (first_context (type_at types) v.ctx v.tree) (high j w₁)) q e.holds;
+          holds = subst (λ j. HoldsContext (first_context (type_at types) v.ctx v.tree) (high j w₁)) q e.holds;
           least = omega (arith, e.least);
           kept = e.kept;
           same = l;
@@ -133,21 +141,21 @@ module _ (g : Bytes) {types s : Bytes} {place b : ℕ} {w : Bytes} (v : Ready ty
     pub low_within : low ≤ length w₁
     low_within = omega (arith, low_fits, level, h.same)
 
-    pub first_holds : {u : Bytes} → u ≡ drop low w₁ → Holds (first_context (type_at types) v.ctx v.tree) (high c u)
+    pub first_holds : {u : Bytes} → u ≡ drop low w₁ → HoldsContext (first_context (type_at types) v.ctx v.tree) (high c u)
     first_holds eu = rw (eu, high_drop low c w₁ (omega (arith, low_fits, level, h.same))) h.holds
 
     pub first_room_left : {u : Bytes} → u ≡ drop low w₁ → answer_length * (c + depth (first_operand v.tree)) ≤ length u
     first_room_left eu = rw eu (simp length-drop (omega (arith, low_fits, v.room, h.same, (first_smaller v.tree o).deeper)))
 
-    pub first_formed_at : Formed types c (first_operand v.tree)
+    pub first_formed_at : WellFormed types c (first_operand v.tree)
     first_formed_at =
-        subst (λ j. Formed types j (first_operand v.tree)) h.binders
-        (first_formed types (type_at types) v.ctx v.tree o (subst (λ j. Formed types j v.tree) (sym v.binders) v.formed))
+        subst (λ j. WellFormed types j (first_operand v.tree)) h.binders
+        (first_formed types (type_at types) v.ctx v.tree o (subst (λ j. WellFormed types j v.tree) (sym v.binders) v.formed))
 
     pub first_placed : place + 1 + size (first_operand v.tree) ≤ script_limit
     first_placed = omega (arith, v.placed, (first_smaller v.tree o).larger)
 
-    abbrev pub ready1 : {s₁ u : Bytes} → s₁ ≡ encode (first_operand v.tree) → u ≡ drop low w₁ → Ready types s₁ (place + 1) c u
+    abbrev pub ready1 : {s₁ u : Bytes} → s₁ ≡ encode (first_operand v.tree) → u ≡ drop low w₁ → CheckerInput types s₁ (place + 1) c u
     ready1 es eu =
         record {
           table = v.table;
@@ -198,7 +206,7 @@ module _ (g : Bytes) {types s : Bytes} {place b : ℕ} {w : Bytes} (v : Ready ty
     pub slot_room : answer_length ≤ length w₂
     slot_room = omega (arith, room2)
 
-    abbrev pub one_of : operand_count v.tree ≡ 1 → One types s w₂ n
+    abbrev pub one_of : operand_count v.tree ≡ 1 → OneOperand types s w₂ n
     one_of o =
         record {
           table = v.table;
@@ -222,13 +230,13 @@ module _ (g : Bytes) {types s : Bytes} {place b : ℕ} {w : Bytes} (v : Ready ty
       pub front : Sized w₂ n d.type
       front = subst (λ j. Sized (drop j w₂) n d.type) (several_front (several v.tree o)) d.sized
 
-      pub holds2 : Holds v.ctx (high b w₂)
+      pub holds2 : HoldsContext v.ctx (high b w₂)
       holds2 = rw d.kept v.holds
 
       pub two_levels : answer_length * (b + 2) ≤ length w₂
       two_levels = omega (arith, v.room, d.same, depth_positive (first_operand v.tree), (first_smaller v.tree (omega arith)).deeper)
 
-      abbrev pub some_of : Some s b w₂ n
+      abbrev pub some_of : AfterFirst s b w₂ n
       some_of =
           record {
             tree = v.tree;
@@ -260,7 +268,7 @@ module _ (g : Bytes) {types s : Bytes} {place b : ℕ} {w : Bytes} (v : Ready ty
               asked = a;
               is = under_first ∙ ap (λ y. then y (after_first d.type)) a;
               binders = q;
-              holds = subst (λ j. Holds (second_context v.ctx v.tree d.type) (high j w₃)) q e.holds;
+              holds = subst (λ j. HoldsContext (second_context v.ctx v.tree d.type) (high j w₃)) q e.holds;
               least = omega (arith, e.least);
               kept = e.kept ∙ d.kept;
               aside = k a;
@@ -269,7 +277,7 @@ module _ (g : Bytes) {types s : Bytes} {place b : ℕ} {w : Bytes} (v : Ready ty
 
 -- ---- the second operand
 
-module _ (g : Bytes) {types s : Bytes} {place b : ℕ} {w : Bytes} (v : Ready types s place b w) (o : 2 ≤ operand_count v.tree) where
+module _ (g : Bytes) {types s : Bytes} {place b : ℕ} {w : Bytes} (v : CheckerInput types s place b w) (o : 2 ≤ operand_count v.tree) where
   module _ {t : Ty} {n c : ℕ} {w₃ : Bytes} (d : Done2 g v t n c w₃) {mid : ℕ} (em : mid ≡ kept_between (operand_count v.tree)) {j : ℕ} (ej : j ≡ 1 + size (first_operand v.tree)) where
     pub mid_fits : mid + answer_length * c ≤ answer_length * (b + 1)
     mid_fits = omega (arith, second_room v.ctx t (several v.tree o), d.binders, v.binders)
@@ -277,21 +285,21 @@ module _ (g : Bytes) {types s : Bytes} {place b : ℕ} {w : Bytes} (v : Ready ty
     pub mid_within : mid ≤ length w₃
     mid_within = omega (arith, mid_fits, level g v, d.same)
 
-    pub second_holds : {u : Bytes} → u ≡ drop mid w₃ → Holds (second_context v.ctx v.tree t) (high c u)
+    pub second_holds : {u : Bytes} → u ≡ drop mid w₃ → HoldsContext (second_context v.ctx v.tree t) (high c u)
     second_holds eu = rw (eu, high_drop mid c w₃ (omega (arith, mid_fits, level g v, d.same))) d.holds
 
     pub second_room_left : {u : Bytes} → u ≡ drop mid w₃ → answer_length * (c + depth (second_operand v.tree)) ≤ length u
     second_room_left eu = rw eu (simp length-drop (omega (arith, mid_fits, v.room, d.same, (second_smaller (several v.tree o)).deeper)))
 
-    pub second_formed_at : Formed types c (second_operand v.tree)
+    pub second_formed_at : WellFormed types c (second_operand v.tree)
     second_formed_at =
-        subst (λ k. Formed types k (second_operand v.tree)) d.binders
-        (second_formed types v.ctx t (several v.tree o) (subst (λ k. Formed types k v.tree) (sym v.binders) v.formed))
+        subst (λ k. WellFormed types k (second_operand v.tree)) d.binders
+        (second_formed types v.ctx t (several v.tree o) (subst (λ k. WellFormed types k v.tree) (sym v.binders) v.formed))
 
     pub second_placed : place + j + size (second_operand v.tree) ≤ script_limit
     second_placed = omega (arith, v.placed, (second_smaller (several v.tree o)).larger)
 
-    abbrev pub ready2 : {s₂ u : Bytes} → s₂ ≡ encode (second_operand v.tree) → u ≡ drop mid w₃ → Ready types s₂ (place + j) c u
+    abbrev pub ready2 : {s₂ u : Bytes} → s₂ ≡ encode (second_operand v.tree) → u ≡ drop mid w₃ → CheckerInput types s₂ (place + j) c u
     ready2 es eu =
         record {
           table = v.table;
@@ -340,14 +348,14 @@ module _ (g : Bytes) {types s : Bytes} {place b : ℕ} {w : Bytes} (v : Ready ty
 
 -- ---- two operands
 
-module _ (g : Bytes) {types s : Bytes} {place b : ℕ} {w : Bytes} (v : Ready types s place b w) (o : operand_count v.tree ≡ 2) {t : Ty} {n m : ℕ} {w₄ : Bytes} (d : Done3 g v t n m w₄) where
+module _ (g : Bytes) {types s : Bytes} {place b : ℕ} {w : Bytes} (v : CheckerInput types s place b w) (o : operand_count v.tree ≡ 2) {t : Ty} {n m : ℕ} {w₄ : Bytes} (d : Done3 g v t n m w₄) where
   pub two_sized : Sized (drop answer_length w₄) m d.other
   two_sized = subst (λ y. Sized (drop (kept_between y) w₄) m d.other) o d.sized
 
   pub two_room : answer_length * 2 ≤ length w₄
   two_room = omega (arith, v.room, d.same, depth_positive (first_operand v.tree), (first_smaller v.tree (omega arith)).deeper)
 
-  abbrev pub two_of : Two g types s place w₄ n m
+  abbrev pub two_of : TwoOperands g types s place w₄ n m
   two_of =
       record {
         table = v.table;
@@ -370,17 +378,17 @@ module _ (g : Bytes) {types s : Bytes} {place b : ℕ} {w : Bytes} (v : Ready ty
 
 -- ---- a case's branches
 
-pub record Done5 (g : Bytes) {types s : Bytes} {place b : ℕ} {w : Bytes} (v : Ready types s place b w) (t first : Ty) (c : ℕ) (w₅ : Bytes) : Type 0 where
+pub record Done5 (g : Bytes) {types s : Bytes} {place b : ℕ} {w : Bytes} (v : CheckerInput types s place b w) (t first : Ty) (c : ℕ) (w₅ : Bytes) : Type 0 where
   pub is : typing (properties_of g) (type_at types) v.ctx place v.tree
       ≡ bind (typing (properties_of g) (type_at types) (right t ∷ v.ctx) (1 + place + size (first_operand v.tree) + size (second_operand v.tree)) (third_operand v.tree))
       (λ u. case_type (properties_of g) (type_at types) place (number s 0) first u (reading g s t))
   pub binders : length (right t ∷ v.ctx) ≡ c
-  pub holds : Holds (right t ∷ v.ctx) (high c w₅)
+  pub holds : HoldsContext (right t ∷ v.ctx) (high c w₅)
   pub kept : high b w₅ ≡ high b w
   pub front : Slot w₅ first
   pub same : length w₅ ≡ length w
 
-pub record Done6 (g : Bytes) {types s : Bytes} {place b : ℕ} {w : Bytes} (v : Ready types s place b w) (t first : Ty) (w₆ : Bytes) : Type 0 where
+pub record Done6 (g : Bytes) {types s : Bytes} {place b : ℕ} {w : Bytes} (v : CheckerInput types s place b w) (t first : Ty) (w₆ : Bytes) : Type 0 where
   pub type : Ty
   pub is : typing (properties_of g) (type_at types) v.ctx place v.tree ≡ case_type (properties_of g) (type_at types) place (number s 0) first type (reading g s t)
   pub front : own_at s 0 ≡ true → Slot w₆ first
@@ -388,14 +396,14 @@ pub record Done6 (g : Bytes) {types s : Bytes} {place b : ℕ} {w : Bytes} (v : 
   pub kept : high b w₆ ≡ high b w
   pub same : length w₆ ≡ length w
 
-module _ (g : Bytes) {types s : Bytes} {place b : ℕ} {w : Bytes} (v : Ready types s place b w) (o : operand_count v.tree ≡ 3) where
+module _ (g : Bytes) {types s : Bytes} {place b : ℕ} {w : Bytes} (v : CheckerInput types s place b w) (o : operand_count v.tree ≡ 3) where
   pub case_kind : kind s 0 ≡ kinds.case
   case_kind = ap (λ x. kind x 0) v.is ∙ three_kind (three v.tree o)
 
   pub case_is : v.tree ≡ case (r s 0) (number s 0) (first_operand v.tree) (second_operand v.tree) (third_operand v.tree)
   case_is = of_kind s v.tree kinds.case v.is (sym case_kind)
 
-  abbrev pub case_node : Case types s
+  abbrev pub case_node : CaseNode types s
   case_node =
       record {
         table = v.table;
@@ -411,7 +419,7 @@ module _ (g : Bytes) {types s : Bytes} {place b : ℕ} {w : Bytes} (v : Ready ty
     pub branch_sized : Sized w₄ m d.other
     branch_sized = subst (λ y. Sized (drop (kept_between y) w₄) m d.other) o d.sized
 
-    abbrev pub branch_of : Branch types s b w₄
+    abbrev pub branch_of : FirstBranchTyped types s b w₄
     branch_of =
         record {
           node = case_node;
@@ -448,7 +456,7 @@ module _ (g : Bytes) {types s : Bytes} {place b : ℕ} {w : Bytes} (v : Ready ty
           record {
             is = under_branch ∙ ap (λ p. then p after_branch) a;
             binders = q;
-            holds = subst (λ j. Holds (right t ∷ v.ctx) (high j w₅)) q e.holds;
+            holds = subst (λ j. HoldsContext (right t ∷ v.ctx) (high j w₅)) q e.holds;
             kept = e.kept ∙ d.kept;
             front = f;
             same = l ∙ d.same;
@@ -464,12 +472,12 @@ module _ (g : Bytes) {types s : Bytes} {place b : ℕ} {w : Bytes} (v : Ready ty
     pub past_within : past ≤ length w₅
     past_within = omega (arith, past_fits)
 
-    pub third_formed_at : Formed types c (third_operand v.tree)
+    pub third_formed_at : WellFormed types c (third_operand v.tree)
     third_formed_at =
         let q : suc b ≡ c = omega (arith, d.binders, v.binders) in
-        subst (λ k. Formed types k (third_operand v.tree)) q (third_formed types b (three v.tree o) v.formed)
+        subst (λ k. WellFormed types k (third_operand v.tree)) q (third_formed types b (three v.tree o) v.formed)
 
-    pub third_holds : {u : Bytes} → u ≡ drop past w₅ → Holds (right t ∷ v.ctx) (high c u)
+    pub third_holds : {u : Bytes} → u ≡ drop past w₅ → HoldsContext (right t ∷ v.ctx) (high c u)
     third_holds eu = rw (eu, high_drop past c w₅ (omega (arith, past_fits))) d.holds
 
     pub third_room_left : {u : Bytes} → u ≡ drop past w₅ → answer_length * (c + depth (third_operand v.tree)) ≤ length u
@@ -478,7 +486,7 @@ module _ (g : Bytes) {types s : Bytes} {place b : ℕ} {w : Bytes} (v : Ready ty
     pub third_placed : place + j + size (third_operand v.tree) ≤ script_limit
     third_placed = omega (arith, v.placed, third_larger (three v.tree o))
 
-    abbrev pub ready3 : {s₃ u : Bytes} → s₃ ≡ encode (third_operand v.tree) → u ≡ drop past w₅ → Ready types s₃ (place + j) c u
+    abbrev pub ready3 : {s₃ u : Bytes} → s₃ ≡ encode (third_operand v.tree) → u ≡ drop past w₅ → CheckerInput types s₃ (place + j) c u
     ready3 es eu =
         record {
           table = v.table;
@@ -525,7 +533,7 @@ module _ (g : Bytes) {types s : Bytes} {place b : ℕ} {w : Bytes} (v : Ready ty
     pub done_room : answer_length * (b + 1) ≤ length w₆
     done_room = omega (arith, level g v, d.same)
 
-    abbrev pub branches_of : Branches types s w₆
+    abbrev pub branches_of : BranchesTyped types s w₆
     branches_of =
         record {
           node = case_node;

@@ -10,24 +10,25 @@ ghost use Rattle.rules.specs.Groups.{properties_of};
 ghost use Rattle.rules.specs.Types.{type_at};
 ghost use Rattle.rules.specs.Script.{encode, size, term};
 ghost use Rattle.rules.specs.Typing.{typing};
-ghost use Rattle.rules.specs.Calls.{q1, script_check, checking, type_records, answer_after, work_after};
+ghost use Rattle.rules.specs.Calls.{q1, script_check, check_call, answer_after};
 ghost use Rattle.rules.specs.Profile.{profile_checking};
-ghost use Rattle.answer.specs.Said.{said};
+ghost use Rattle.answer.specs.Said.{answer_of};
 ghost use Rattle.records.specs.Place.{At};
-ghost use Rattle.inference.specs.Memory.{Meets, Ready};
+ghost use Rattle.inference.specs.Memory.{Meets, CheckerInput};
 ghost use Rattle.typing.specs.Parts.{OperandAt, PartOf, kept_between};
 ghost use Rattle.typing.specs.Answers.{Answers};
-ghost use Rattle.typing.specs.Judged.{Judged, JudgedInProfile};
+ghost use Rattle.typing.specs.Judged.{HandsOver, Judged, JudgedInProfile};
 
 use answer::{Checked, Question, Refusal};
 use inference::{SECOND_PART, SLOT};
 use scope::DEPTH_LIMIT;
 use types::TYPE_WIDTH;
 
+/// The bytes that a check needs of its work buffer: a slot for each level that a script may have (question 1).
 pub const WORK_LENGTH: usize = DEPTH_LIMIT * SLOT;
 
-// The record after operand j of a node of o, counted from 1, where it starts at record i. The last one ends where the node's part
-// does, so that no record is scanned again for each one-operand record over it.
+// The record after operand j of a node of o, counted from 1, where it starts at record i. The last one ends where the
+// node's part does, so that no record is scanned again for each one-operand record over it.
 fn operand_end(s: &[u8], o: usize, j: usize, i: usize) -> usize
     requires { OperandAt s.now o j i }
     ensures { (e : Term) → At s.now i e → result ≡ i + size e }
@@ -42,79 +43,84 @@ fn operand_end(s: &[u8], o: usize, j: usize, i: usize) -> usize
 // The part of an operand, from its record i to its end.
 fn operand(s: &[u8], i: usize, end: usize) -> &[u8]
     requires { PartOf s.now i end }
-    ensures { ((e : Term) → At s.now i e → end ≡ i + size e → result.now ≡ encode e)
-        × (1 ≤ i → length result.now < length s.now) }
+    ensures bytes { (e : Term) → At s.now i e → end ≡ i + size e → result.now ≡ encode e }
+    ensures shorter { 1 ≤ i → length result.now < length s.now }
 {
     records::part(s, i, end)
 }
 
-// Where the second operand's part of the work buffer starts: behind the first type of a node of two. A case has the tested sides in
-// its slot.
+// Where the second operand's part of the work buffer starts: behind the first type of a node of two. A case has the
+// tested sides in its slot.
 fn kept_between(o: usize) -> usize
     ensures { result ≡ kept_between o }
 {
     if o == 2 { SECOND_PART } else { 0 }
 }
 
-// The type of the node whose part of the script is s, whose record is record `place` of the script, under b binders: operands
-// first, left to right, with `inference`'s questions where the document has them. The work buffer's rest, from its middle, is
-// lent on for the operands' types.
+// The type of the node whose part of the script is `part`, whose record is record `place` of the script, under
+// `binders` binders: operands first, left to right, with `inference`'s questions before, between and after them. A rest
+// of the work buffer is lent on for each operand's type.
 fn type_node(
     groups: &[u8],
     types: &[u8],
-    s: &[u8],
+    part: &[u8],
     place: usize,
-    b: usize,
-    w: &mut [u8],
+    binders: usize,
+    work: &mut [u8],
 ) -> Result<usize, Refusal>
-    requires { Ready types.now s.now place b w.old }
-    ensures { (v : Ready types.now s.now place b w.old)
-        → Meets (typing (properties_of groups.now) (type_at types.now) v.ctx place v.tree) b
-        w.old result w.new }
+    requires { CheckerInput types.now part.now place binders work.old }
+    ensures { (v : CheckerInput types.now part.now place binders work.old)
+        → Meets (typing (properties_of groups.now) (type_at types.now) v.ctx place v.tree) binders
+        work.old result work.new }
 {
-    let kind = records::kind_of(s, 0);
+    let kind = records::kind_of(part, 0);
     let o = kind.arity();
     if o == 0 {
-        return inference::leaf(s, b, w);
+        return inference::leaf(part, binders, work);
     }
-    inference::before_operands(groups, types, s, place, b, w)?;
-    let c = b + usize::from(kind.binders(0));
-    let i2 = operand_end(s, o, 1, 1);
-    let low = inference::kept_front(s);
-    let first = operand(s, 1, i2);
-    let n = type_node(groups, types, first, place + 1, c, &mut w[low..])?;
+    inference::before_operands(groups, types, part, place, binders, work)?;
+    let c = binders + usize::from(kind.binders(0));
+    let i2 = operand_end(part, o, 1, 1);
+    let low = inference::kept_front(part);
+    let first = operand(part, 1, i2);
+    let n = type_node(groups, types, first, place + 1, c, &mut work[low..])?;
     if o == 1 {
-        return inference::after_one(groups, types, s, place, w, n);
+        return inference::after_one(groups, types, part, place, work, n);
     }
-    let tested = types::property(w);
-    inference::between(groups, s, place, b, w, n)?;
-    let c2 = b + usize::from(kind.binders(1));
-    let i3 = operand_end(s, o, 2, i2);
+    let tested = types::property(work);
+    inference::between(groups, part, place, binders, work, n)?;
+    let c2 = binders + usize::from(kind.binders(1));
+    let i3 = operand_end(part, o, 2, i2);
     let mid = kept_between(o);
-    let second = operand(s, i2, i3);
-    let m = type_node(groups, types, second, place + i2, c2, &mut w[mid..])?;
+    let second = operand(part, i2, i3);
+    let m = type_node(groups, types, second, place + i2, c2, &mut work[mid..])?;
     if o == 2 {
-        return inference::after_two(groups, types, s, place, w, n, m);
+        return inference::after_two(groups, types, part, place, work, n, m);
     }
-    inference::after_first_branch(groups, types, s, place, b, w)?;
-    let end = operand_end(s, o, 3, i3);
-    let past = inference::kept_branch(s);
-    let third = operand(s, i3, end);
-    type_node(groups, types, third, place + i3, c2, &mut w[past..])?;
-    let by = tested.influence(groups, records::reader(s, 0));
-    inference::after_second_branch(groups, types, s, place, by, w)
+    inference::after_first_branch(groups, types, part, place, binders, work)?;
+    let end = operand_end(part, o, 3, i3);
+    let past = inference::kept_branch(part);
+    let third = operand(part, i3, end);
+    type_node(groups, types, third, place + i3, c2, &mut work[past..])?;
+    let by = tested.influence(groups, records::reader(part, 0));
+    inference::after_second_branch(groups, types, part, place, by, work)
 }
 
-// Questions 20 to 24 and 31 of a script that has passed 2 to 19 and 36: the type is left in front of the work buffer.
+/// The type of a script whose tables and records have passed their questions. It is left in front of `work`, which
+/// needs `WORK_LENGTH` bytes, and the answer is its record count, of `types::TYPE_WIDTH` bytes each.
+///
+/// Refuses what the typing rules refuse, at the record: an operand of the wrong kind (20) or one that a group may not
+/// read (21), a type that isn't at or below the wanted one (22), a recursion whose result may not be read through it
+/// (23), a type of too many records (24), two branches without a common type (31). What is in `work` then is left open.
 pub fn type_script(
     groups: &[u8],
     types: &[u8],
     script: &[u8],
     work: &mut [u8],
 ) -> Result<usize, Refusal>
-    requires { (script_check [] groups.now types.now script.now ≡ accepted tt) × (work_length ≤ length work.old) }
-    ensures { Meets
-        (typing (properties_of groups.now) (type_at types.now) [] 0 (term script.now)) 0
+    requires checked { script_check [] groups.now types.now script.now ≡ accepted tt }
+    requires room { work_length ≤ length work.old }
+    ensures { Meets (typing (properties_of groups.now) (type_at types.now) [] 0 (term script.now)) 0
         work.old result work.new }
 {
     type_node(groups, types, script, 0, 0, work)
@@ -122,18 +128,18 @@ pub fn type_script(
 
 // The found type to the front of the answer buffer, if there is one.
 fn hand_over(x: Result<usize, Refusal>, work: &[u8], answer: &mut [u8])
-    requires { Answers x work.now × (answer_length ≤ length answer.old) }
-    ensures { (v : Answers x work.now)
-        → answer.new ≡ answer_after v.answer answer.old }
+    requires found { Answers x work.now }
+    requires room { answer_length ≤ length answer.old }
+    ensures { (v : Answers x work.now) → answer.new ≡ answer_after v.answer answer.old }
 {
     if let Ok(n) = x {
         memory::put(&work[..TYPE_WIDTH * n], answer, 0);
     }
 }
 
-// 1. Are work and answer buffer long enough?
+// Are work and answer buffer long enough (1)?
 fn question_1(work: &[u8], answer: &[u8]) -> Checked
-    ensures { said result ≡ q1 (length work.now) (length answer.now) }
+    ensures { answer_of result ≡ q1 (length work.now) (length answer.now) }
 {
     let fits = (WORK_LENGTH <= work.len()) & (SLOT <= answer.len());
     answer::ask(Question::BufferLengths, 0, fits)
@@ -147,14 +153,11 @@ fn give_type(
     work: &mut [u8],
     answer: &mut [u8],
 ) -> Result<usize, Refusal>
-    requires { (script_check [] groups.now types.now script.now ≡ accepted tt)
-        × (work_length ≤ length work.old) × (answer_length ≤ length answer.old) }
-    ensures { (said result ≡ type_records
-        (typing (properties_of groups.now) (type_at types.now) [] 0 (term script.now)))
-        × (work.new ≡ work_after
-        (typing (properties_of groups.now) (type_at types.now) [] 0 (term script.now)) work.old)
-        × (answer.new ≡ answer_after
-        (typing (properties_of groups.now) (type_at types.now) [] 0 (term script.now)) answer.old) }
+    requires checked { script_check [] groups.now types.now script.now ≡ accepted tt }
+    requires work_room { work_length ≤ length work.old }
+    requires answer_room { answer_length ≤ length answer.old }
+    ensures { HandsOver (typing (properties_of groups.now) (type_at types.now) [] 0 (term script.now))
+        (answer_of result) work.old work.new answer.old answer.new }
 {
     let x = type_script(groups, types, script, work);
     hand_over(x, work, answer);
@@ -162,8 +165,12 @@ fn give_type(
     x
 }
 
-// Checking: questions 1 to 24, 31 and 36. The type is written to the answer buffer's front, and the work buffer is left all zeros once
-// typing has begun. The last clause is demand 2.
+/// Checks a script against its two tables. The answer is the record count of its type, whose records, of
+/// `types::TYPE_WIDTH` bytes each, are written to the front of `answer`.
+///
+/// Refuses the first question that is answered no, at its place: whether `work` and `answer` are long enough (1), what
+/// is asked of the two tables and the script (2 to 19, 36), and the typing rules (20 to 24, 31). `answer` is then as it
+/// was. `work` is left all zeros once typing has begun, and as it was before.
 pub fn checking(
     groups: &[u8],
     types: &[u8],
@@ -171,22 +178,21 @@ pub fn checking(
     work: &mut [u8],
     answer: &mut [u8],
 ) -> Result<usize, Refusal>
-    ensures { (said result ≡ type_records (checking (length work.old) (length answer.old)
-        groups.now types.now script.now))
-        × (work.new ≡ work_after (checking (length work.old) (length answer.old)
-        groups.now types.now script.now) work.old)
-        × (answer.new ≡ answer_after (checking (length work.old) (length answer.old)
-        groups.now types.now script.now) answer.old)
-        × (work_length ≤ length work.old → answer_length ≤ length answer.old
-        → Judged groups.now types.now script.now answer.old (said result)
-        answer.new) }
+    ensures outcome { HandsOver (check_call (length work.old) (length answer.old) groups.now types.now script.now)
+        (answer_of result) work.old work.new answer.old answer.new }
+    ensures promise { work_length ≤ length work.old → answer_length ≤ length answer.old
+        → Judged groups.now types.now script.now answer.old (answer_of result) answer.new }
 {
     question_1(work, answer)?;
     syntax::script_check(groups, types, script, &[])?;
     give_type(groups, types, script, work, answer)
 }
 
-// The check of the profile of scripts that always finish: checking, with 39 after 19. The last clause is item 12's promise.
+/// Checks a script as `check_call` does, and that it is in the profile of scripts that always finish: it has no
+/// recursion.
+///
+/// Refuses a recursion (39), at its record, after the questions of the two tables and the script, and before the typing
+/// rules.
 pub fn profile_checking(
     groups: &[u8],
     types: &[u8],
@@ -194,15 +200,10 @@ pub fn profile_checking(
     work: &mut [u8],
     answer: &mut [u8],
 ) -> Result<usize, Refusal>
-    ensures { (said result ≡ type_records (profile_checking (length work.old) (length answer.old)
-        groups.now types.now script.now))
-        × (work.new ≡ work_after (profile_checking (length work.old) (length answer.old)
-        groups.now types.now script.now) work.old)
-        × (answer.new ≡ answer_after (profile_checking (length work.old) (length answer.old)
-        groups.now types.now script.now) answer.old)
-        × (work_length ≤ length work.old → answer_length ≤ length answer.old
-        → JudgedInProfile groups.now types.now script.now answer.old (said result)
-        answer.new) }
+    ensures outcome { HandsOver (profile_checking (length work.old) (length answer.old) groups.now types.now script.now)
+        (answer_of result) work.old work.new answer.old answer.new }
+    ensures promise { work_length ≤ length work.old → answer_length ≤ length answer.old
+        → JudgedInProfile groups.now types.now script.now answer.old (answer_of result) answer.new }
 {
     question_1(work, answer)?;
     syntax::script_check(groups, types, script, &[])?;

@@ -1,5 +1,8 @@
 -- What searches over a word's bytes find.
-use Rattle.std.proofs.Common.{◌≡◌, ◌≢◌, Bool, true, false, not, true≢false, ℕ, ◌+◌, ◌-◌, ◌*◌, ◌≤◌, ◌<◌, eqb, leb, length, take, drop, get_or, refl, sym, ap, ◌∙◌, arith, length-drop, length-take-le, take-take, get_or-take, get_or-drop, eq-eqb, eqb-true, le-leb, ◌⊎◌, inl, inr, Option, Some, None, IfSome, MatchOption, MatchBool, unwrap_or}
+use Rattle.std.proofs.Common.{◌≡◌, ◌≢◌, Bool, true, false, not, true≢false, ℕ, ◌+◌, ◌-◌, ◌*◌, ◌≤◌, ◌<◌, nat_eq, nat_le}
+use Rattle.std.proofs.Common.{length, take, drop, get_or, refl, sym, ap, ◌∙◌, arith, length-drop, length-take-le}
+use Rattle.std.proofs.Common.{take-take, get_or-take, get_or-drop, eq-eqb, eqb-true, le-leb, ◌⊎◌, inl, inr, Option}
+use Rattle.std.proofs.Common.{Some, None, IfSome, MatchOption, MatchBool, unwrap_or}
 use Rattle.std.proofs.Math.Seq.{ext_get_or}
 use Rattle.std.specs.Bool.{one_answer, Decides}
 use Rattle.std.specs.List.{AllWithin, HoldsAt}
@@ -71,7 +74,7 @@ module _ {w : Bytes} {i : ℕ} {x : Bytes} where
   zeros_are h n l b f = one_answer b (zeros_from w i n) (told b f) (all_below_all word_width asked, all_below_true word_width asked)
     where
       asked : ℕ → Bool
-      asked k = leb n k ⇒ eqb (word_byte w i k) 0
+      asked k = nat_le n k ⇒ nat_eq (word_byte w i k) 0
 
       zero : AllWithin (λ c. c ≡ 0) (drop n x) 0 (length (drop n x)) → (k : ℕ) → k < word_width → (k < n) ⊎ (n ≤ k) → asked k ≡ true
       zero f k a (inl m) = rw (lt-leb n k m)
@@ -104,7 +107,7 @@ pub formed : (w : Bytes) (i n : ℕ) (a : Bool) → n ≡ letters w i → 1 ≤ 
 unfolding ok33
 formed w i n a e l h = rw (← e, le-leb 1 n l) h
 
-pub no_letters : (w : Bytes) (i n : ℕ) → n ≡ letters w i → n < 1 → leb 1 n ≡ ok33 w i
+pub no_letters : (w : Bytes) (i n : ℕ) → n ≡ letters w i → n < 1 → nat_le 1 n ≡ ok33 w i
 unfolding ok33
 no_letters w i n e l = rw (← e, lt-leb 1 n l)
 
@@ -114,6 +117,6 @@ unfolding same_word
 words_same {w} {i} {j} {x} {y} h g b d =
     one_answer b _ d (
       λ a. ext_get_or 0 x y (word_length h ∙ sym (word_length g)) (λ k l.
-          let m : k < word_width = omega (arith, word_length h) in sym (byte_is h k m) ∙ eqb-true _ _ (all_below_all word_width (λ n. eqb (word_byte w i n) (word_byte w j n)) a k m) ∙ byte_is g k m),
-      λ e. all_below_true word_width (λ n. eqb (word_byte w i n) (word_byte w j n)) (λ k l. eq-eqb _ _ (byte_is h k l ∙ ap (λ (b : Bytes). get_or b k 0) e ∙ sym (byte_is g k l))),
+          let m : k < word_width = omega (arith, word_length h) in sym (byte_is h k m) ∙ eqb-true _ _ (all_below_all word_width (λ n. nat_eq (word_byte w i n) (word_byte w j n)) a k m) ∙ byte_is g k m),
+      λ e. all_below_true word_width (λ n. nat_eq (word_byte w i n) (word_byte w j n)) (λ k l. eq-eqb _ _ (byte_is h k l ∙ ap (λ (b : Bytes). get_or b k 0) e ∙ sym (byte_is g k l))),
     )

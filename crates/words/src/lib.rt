@@ -1,24 +1,27 @@
-// A words table: questions 32 to 34, the letters of a word, and the table of our own words.
+// The check of a words table, questions 32 to 34; the letters of a word; and the table of our own words.
 
 #![tactic(auto)]
 
-ghost use Rattle.std.specs.Prelude.{◌≡◌, ◌*◌, ◌≤◌, ◌<◌, length, take, drop, MatchResult};
+ghost use Rattle.std.specs.Prelude.{◌≡◌, ◌*◌, ◌≤◌, ◌<◌, length, take, drop, OnOk, IfOk, IfErr};
 ghost use Rattle.rules.specs.Limits.{word_width, word_limit, words_length};
 ghost use Rattle.rules.specs.Answer.{accepted, refused};
 ghost use Rattle.rules.specs.Words.{is_letter, letters, word, same_word, ok33, ok34, q33, q34, words_check};
 ghost use Rattle.rules.specs.Report.{our_words};
-ghost use Rattle.answer.specs.Numbers.{number};
-ghost use Rattle.answer.specs.Said.{said};
+ghost use Rattle.answer.specs.Numbers.{question_number};
+ghost use Rattle.answer.specs.Said.{answer_of};
 
 use answer::{Checked, Question, Refusal};
 
+/// The bytes of a word: its letters, and zeros after them.
 pub const WORD_WIDTH: usize = 12;
 
+/// How many words a table has.
 pub const WORD_LIMIT: usize = 7;
 
+/// The bytes of a words table.
 pub const WORDS_LENGTH: usize = WORD_LIMIT * WORD_WIDTH;
 
-// What passes question 32.
+/// The bytes of a words table: what passes question 32.
 pub type Table = [u8; WORDS_LENGTH];
 
 fn is_letter(c: u8) -> bool
@@ -36,12 +39,14 @@ fn word(words: &Table, i: usize) -> &[u8]
     &words[start..start + WORD_WIDTH]
 }
 
-// The letters that word i starts with.
-pub fn letters(words: &Table, i: usize) -> &[u8]
-    requires { i < word_limit }
-    ensures { (result.now ≡ word words.now i) × (length result.now ≡ letters words.now i) × (length result.now ≤ word_width) }
+/// The letters that word `index` starts with.
+pub fn letters(words: &Table, index: usize) -> &[u8]
+    requires { index < word_limit }
+    ensures bytes { result.now ≡ word words.now index }
+    ensures count { length result.now ≡ letters words.now index }
+    ensures within { length result.now ≤ word_width }
 {
-    let bytes = word(words, i);
+    let bytes = word(words, index);
     let end = bytes.iter().position(|c| !is_letter(*c));
     &bytes[..end.unwrap_or(WORD_WIDTH)]
 }
@@ -57,7 +62,8 @@ fn well_formed(words: &Table, i: usize) -> bool
 
 // Are words i and j equal?
 fn same_word(words: &Table, i: usize, j: usize) -> bool
-    requires { (i < word_limit) × (j < word_limit) }
+    requires first { i < word_limit }
+    requires second { j < word_limit }
     ensures { result ≡ same_word words.now i j }
 {
     word(words, i) == word(words, j)
@@ -73,23 +79,24 @@ fn differs(words: &Table, i: usize) -> bool
 
 // 33. Is each word 1 to 12 letters, then zero bytes?
 fn question_33(words: &Table) -> Checked
-    ensures { said result ≡ q33 words.now }
+    ensures { answer_of result ≡ q33 words.now }
 {
     answer::each(Question::Letters, WORD_LIMIT, |i| well_formed(words, i))
 }
 
 // 34. Does each word differ from those before it?
 fn question_34(words: &Table) -> Checked
-    ensures { said result ≡ q34 words.now }
+    ensures { answer_of result ≡ q34 words.now }
 {
     answer::each(Question::DistinctWords, WORD_LIMIT, |i| differs(words, i))
 }
 
-// Questions 32 to 34, in order: a table has 84 bytes, and the first refusal is passed on.
+/// The check of a words table, of any bytes: questions 32 to 34, in order. The table is lent on, or the first refusal.
 pub fn words_check(words: &[u8]) -> Result<&Table, Refusal>
-    ensures { MatchResult result
-        (λ table. (words_check words.now ≡ accepted tt) × (table.now ≡ words.now))
-        (λ refusal. words_check words.now ≡ refused (number refusal.question) refusal.place) }
+    ensures accepted { OnOk result (words_check words.now ≡ accepted tt) }
+    ensures table { IfOk result (λ table. table.now ≡ words.now) }
+    ensures refused { IfErr result
+        (λ refusal. words_check words.now ≡ refused (question_number refusal.question) refusal.place) }
 {
     let Ok(table) = <&Table>::try_from(words) else {
         return Err(Refusal {
@@ -102,7 +109,7 @@ pub fn words_check(words: &[u8]) -> Result<&Table, Refusal>
     Ok(table)
 }
 
-// The table of our own words, from fixed byte strings.
+/// The table of our own words, which passes the check.
 pub fn our_words() -> Table
     ensures { result ≡ our_words }
 {

@@ -6,18 +6,18 @@ use Rattle.common_types.specs.Directions.{said_direction}
 use Rattle.common_types.specs.Walks.{TwoTypes}
 use Rattle.types.proofs.Parts.{starts_of}
 use Rattle.common_types.proofs.Places.{room, in_range}
-use Rattle.common_types.proofs.Stages.{First, Sided, Lefts, at_once, at_leaves, no_sides, firsts, at_function, at_other, lefts, walked_lefts}
-use Rattle.common_types.proofs.Stages.{no_left, rights, no_right, both_found, few}
+use Rattle.common_types.proofs.Stages.{First, Sided, Lefts, at_once, at_leaves, no_sides, firsts, at_function, at_other}
+use Rattle.common_types.proofs.Stages.{lefts, walked_lefts, no_left, rights, no_right, both_found, few}
 use Rattle.common_types.proofs.+common.Goals as goal
 use Rattle.common_types.proofs.+common.Goals.{in-Function, in_default, Joined-kind, After-common, After-common-2}
 
 -- the first records are of one kind, and the common one is written
-first : (t : ℕ) (c : Joined-kind t) (p : TwoTypes c.args.w.now c.args.at c.args.other)
-    → First (properties_of c.args.groups.now) (said_direction c.args.direction) p c.bound_first.new.w
+first : (t : ℕ) (c : Joined-kind t) (p : TwoTypes c.args.work.now c.args.at c.args.other)
+    → First (properties_of c.args.groups.now) (said_direction c.args.direction) p c.bound_first.new.work
 first t c p = firsts p _ _ (c.if-not-of_one_kind.ensures p) c.bound_first.ensures
 
 -- the types have sides
-sided : (t : ℕ) (c : Joined-kind t) (p : TwoTypes c.args.w.now c.args.at c.args.other)
+sided : (t : ℕ) (c : Joined-kind t) (p : TwoTypes c.args.work.now c.args.at c.args.other)
     → Sided (properties_of c.args.groups.now) (said_direction c.args.direction) p (said_direction c.match-kind.leftward)
 sided t c p =
     let S = properties_of c.args.groups.now in
@@ -29,11 +29,11 @@ sided t c p =
     ]
 
 -- the left sides, as their walk takes them, and what it answers
-abbrev left_sides : (t : ℕ) (c : Joined-kind t) (p : TwoTypes c.args.w.now c.args.at c.args.other) → TwoTypes c.bound_first.new.w (c.args.at + 1) (c.args.other + 1)
+abbrev left_sides : (t : ℕ) (c : Joined-kind t) (p : TwoTypes c.args.work.now c.args.at c.args.other) → TwoTypes c.bound_first.new.work (c.args.at + 1) (c.args.other + 1)
 left_sides t c p = lefts (first t c p) (sided t c p).two
 
-left_walked : (t : ℕ) (c : After-common t) (p : TwoTypes c.args.w.now c.args.at c.args.other)
-    → Lefts (properties_of c.args.groups.now) (said_direction c.args.direction) p c.bound_first.new.w c.common.result c.common.new.w
+left_walked : (t : ℕ) (c : After-common t) (p : TwoTypes c.args.work.now c.args.at c.args.other)
+    → Lefts (properties_of c.args.groups.now) (said_direction c.args.direction) p c.bound_first.new.work c.common.result c.common.new.work
 left_walked t c p =
     let j = (goal.at.After-common t c).Joined-kind in
     walked_lefts (first t j p) (sided t j p) (c.common.ensures (left_sides t j p))
@@ -56,14 +56,14 @@ returns-then-not-has_sides t c p =
     at_leaves f (no_sides S d p _ (c.kind_of-kind.ensures p.first (c.type_at.ensures p.first p.first_at)) c.if-not-has_sides.ensures)
 
 pub overflow_add-next : goal.overflow_add-next
-overflow_add-next t c = omega (arith, room c.requires.first_at, c.bound_first.auto.w)
+overflow_add-next t c = omega (arith, room c.requires.first_at, c.bound_first.auto.work)
 
 pub overflow_add-next_other : goal.overflow_add-next_other
-overflow_add-next_other t c = omega (arith, room c.requires.second_at, c.bound_first.auto.w)
+overflow_add-next_other t c = omega (arith, room c.requires.second_at, c.bound_first.auto.work)
 
 pub common-requires : goal.common-requires
 common-requires t c =
-    (omega (arith, c.decreases, in_range c.requires.first_at, c.bound_first.auto.w), left_sides t (goal.at.common-requires t c).Joined-kind c.requires)
+    (omega (arith, c.decreases, in_range c.requires.first_at, c.bound_first.auto.work), left_sides t (goal.at.common-requires t c).Joined-kind c.requires)
 
 pub returns-in_err-left : goal.returns-in_err-left
 returns-in_err-left t c p = rw c.from_residual.ensures (no_left (left_walked t (goal.at.returns-in_err-left t c).After-common p) c.in_err-left.was)
@@ -71,17 +71,17 @@ returns-in_err-left t c p = rw c.from_residual.ensures (no_left (left_walked t (
 pub overflow_add-next-2 : goal.overflow_add-next-2
 overflow_add-next-2 t c =
     let l = left_walked t (goal.at.overflow_add-next-2 t c).After-common c.requires in
-    omega (arith, room {t = right_of c.requires.first} (rights l c.in_ok-left.was).first_at, c.common.auto.w)
+    omega (arith, room {t = right_of c.requires.first} (rights l c.in_ok-left.was).first_at, c.common.auto.work)
 
 pub overflow_add-next_other-2 : goal.overflow_add-next_other-2
 overflow_add-next_other-2 t c =
     let l = left_walked t (goal.at.overflow_add-next_other-2 t c).After-common c.requires in
-    omega (arith, room {t = right_of c.requires.second} (rights l c.in_ok-left.was).second_at, c.common.auto.w)
+    omega (arith, room {t = right_of c.requires.second} (rights l c.in_ok-left.was).second_at, c.common.auto.work)
 
 pub common-requires-2 : goal.common-requires-2
 common-requires-2 t c =
     let l = left_walked t (goal.at.common-requires-2 t c).After-common c.requires in
-    (omega (arith, c.decreases, in_range c.requires.first_at, c.common.auto.w, c.bound_first.auto.w), rights l c.in_ok-left.was)
+    (omega (arith, c.decreases, in_range c.requires.first_at, c.common.auto.work, c.bound_first.auto.work), rights l c.in_ok-left.was)
 
 pub returns-in_err-right : goal.returns-in_err-right
 returns-in_err-right t c p =

@@ -3,4 +3,4 @@ use Rattle.std.proofs.Common.{length, ◌-◌}
 use Rattle.common_types.proofs.+common.Given as goal
 
 abbrev pub decreases-common : goal.decreases-common
-decreases-common l = length l.w.now - l.at
+decreases-common l = length l.work.now - l.at

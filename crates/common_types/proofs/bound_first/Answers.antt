@@ -1,6 +1,6 @@
 -- The common property, stored over the first record's.
 use Rattle.std.proofs.Common.{ap, sym, ◌∙◌}
-use Rattle.calculus.specs.Common.{bound}
+use Rattle.calculus.specs.Common.{nearest_property}
 use Rattle.rules.specs.Groups.{properties_of}
 use Rattle.lattice.specs.Said.{said_property}
 use Rattle.common_types.specs.declared.Direction.{Direction}
@@ -21,7 +21,7 @@ put_property-requires c = in_range c.requires.first_at
 pub returns : goal.returns
 returns c p =
     let S = properties_of c.args.groups.now in
-    let toward = λ (d : Direction). bound S (said_direction d) (said_property c.property_at-first.result) (said_property c.property_at-second.result) in
+    let toward = λ (d : Direction). nearest_property S (said_direction d) (said_property c.property_at-first.result) (said_property c.property_at-second.result) in
     c.put_property.ensures
     ∙ record_wrote S (said_direction c.args.direction) p
     (elim c.match-direction.branch [

@@ -9,11 +9,11 @@ use Rattle.records.specs.declared.Kind.TheVariants.{FirstInjection}
 use Rattle.records.proofs.Stands.{kind_of, stands_kind, here}
 use Rattle.records.proofs.Numbered.{same_kind}
 use Rattle.redex.proofs.Forms.{one_reads}
-use Rattle.contraction.specs.Plans.{Branches}
+use Rattle.contraction.specs.Plans.{CaseRedex}
 use Rattle.contraction.proofs.Redexes.{Taken, taken, Cased, cased}
 use Rattle.contraction.proofs.branch_of.Goals as goal
 
-module _ {s : Bytes} {at : ℕ} (q : Branches s at) where
+module _ {s : Bytes} {at : ℕ} (q : CaseRedex s at) where
   own : kind_of q.tree ≡ kinds.case
   own = sym (stands_kind s at q.tree q.stands) ∙ q.cases
 

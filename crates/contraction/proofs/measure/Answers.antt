@@ -1,6 +1,5 @@
-use Rattle.std.proofs.Common.{◌≡◌, sym, ◌∙◌, arith, ℕ, ◌+◌, ◌≤◌}
-use Rattle.std.proofs.Common.{subst as transport}
-use Rattle.calculus.specs.Terms.{Term, subst}
+use Rattle.std.proofs.Common.{◌≡◌, sym, ◌∙◌, arith, ℕ, ◌+◌, ◌≤◌, subst as transport}
+use Rattle.calculus.specs.Terms.{Term, substitute}
 use Rattle.rules.specs.Answer.{Bytes}
 use Rattle.rules.specs.Limits.{script_limit, depth_limit}
 use Rattle.rules.specs.Script.{size, depth}
@@ -10,23 +9,25 @@ use Rattle.records.proofs.Made.{influence_of}
 use Rattle.redex.specs.Fates.{contractum}
 use Rattle.contraction.specs.declared.Plan.{Plan}
 use Rattle.contraction.specs.declared.Plan.TheVariants.{Part, Body, Raised, Unrolled, Reckoned}
-use Rattle.contraction.specs.Plans.{Planned, Ready, Measures, Both, Recursive, Literals}
-use Rattle.substitution.specs.Substituted.{Within}
-use Rattle.contraction.proofs.Plans.{part_plan, body_plan, LiftPlan, lift_plan, RollPlan, roll_plan, ReckonPlan, reckon_plan, protection_of, raise_size, contractum_limit, few, counted, protect_counted}
+use Rattle.contraction.specs.Plans.{Planned, PlannedRedex, Measures, BodyAndValue, Recursive, Literals}
+use Rattle.substitution.specs.Substituted.{TermWithinLimits}
+use Rattle.contraction.proofs.Plans.{part_plan, body_plan, LiftPlan, lift_plan, RollPlan, roll_plan, ReckonPlan}
+use Rattle.contraction.proofs.Plans.{reckon_plan, protection_of, raise_size, contractum_limit, few, counted}
+use Rattle.contraction.proofs.Plans.{protect_counted}
 use Rattle.substitution.proofs.Nodes.{depth_size}
 use Rattle.contraction.proofs.measure.Goals as goal
 
 -- what each plan says of the term, and what its measure is asked for
-module _ {s : Bytes} {at : ℕ} {plan : Plan} (q : Ready s at plan) where
+module _ {s : Bytes} {at : ℕ} {plan : Plan} (q : PlannedRedex s at plan) where
   abbrev planned : {p : Plan} → plan ≡ p → Planned s q.tree p
   planned e = transport (λ (p : Plan). Planned s q.tree p) e q.planned
 
-  abbrev part_ready : {x : ℕ} → plan ≡ Part x → Within s x
+  abbrev part_ready : {x : ℕ} → plan ≡ Part x → TermWithinLimits s x
   part_ready e =
       let p = part_plan (planned e) in
       record { tree = p.part; at = p.stands; shallow = omega (arith, p.shallow, q.shallow); small = omega (arith, p.small, q.small) }
 
-  abbrev body_ready : {x y : ℕ} → plan ≡ Body x y → Both s x y
+  abbrev body_ready : {x y : ℕ} → plan ≡ Body x y → BodyAndValue s x y
   body_ready e =
       let p = body_plan (planned e) in
       record {
@@ -42,7 +43,7 @@ module _ {s : Bytes} {at : ℕ} {plan : Plan} (q : Ready s at plan) where
   abbrev lifted : plan ≡ Raised → LiftPlan s at q.tree
   lifted e = lift_plan q.stands (planned e)
 
-  abbrev lift_ready : plan ≡ Raised → Within s (at + 1)
+  abbrev lift_ready : plan ≡ Raised → TermWithinLimits s (at + 1)
   lift_ready e =
       let p = lifted e in
       record { tree = p.value; at = p.stands; shallow = omega (arith, p.shallow, q.shallow); small = omega (arith, p.small, q.small) }
@@ -77,7 +78,7 @@ module _ {s : Bytes} {at : ℕ} {plan : Plan} (q : Ready s at plan) where
       }
 
   -- what is counted of a body with a value put in is few
-  abbrev substituted_few : {x y : ℕ} (h : plan ≡ Body x y) → size (subst 0 (body_ready h).value (body_ready h).body) ≤ contractum_limit
+  abbrev substituted_few : {x y : ℕ} (h : plan ≡ Body x y) → size (substitute 0 (body_ready h).value (body_ready h).body) ≤ contractum_limit
   substituted_few h = let b = body_ready h in few b.value b.body (omega (arith, b.small)) (omega (arith, b.small))
 
 pub extent_at-requires : goal.extent_at-requires
@@ -87,7 +88,7 @@ pub protected-requires : goal.protected-requires
 protected-requires c =
     let q = part_ready c.requires c.in-Part.is in
     let m = c.extent_at.ensures q.tree q.at in
-    (omega (arith, m.records, q.small), omega (arith, m.deep, q.shallow))
+    record { records_fit = omega (arith, m.records, q.small); depth_fits = omega (arith, m.deep, q.shallow) }
 
 pub measure_body-requires : goal.measure_body-requires
 measure_body-requires c = body_ready c.requires c.in-Body.is
@@ -97,7 +98,10 @@ protected-requires-in-Body c =
     let q = body_ready c.requires c.in-Body.is in
     let m = c.measure_body.ensures q in
     let l = substituted_few c.requires c.in-Body.is in
-    (omega (arith, m.records, l), omega (arith, m.deep, l, depth_size (subst 0 q.value q.body)))
+    record {
+      records_fit = omega (arith, m.records, l);
+      depth_fits = omega (arith, m.deep, l, depth_size (substitute 0 q.value q.body));
+    }
 
 pub overflow_add-at : goal.overflow_add-at
 overflow_add-at c = omega (arith, there _ _ _ (lifted c.requires c.in-Raised.is).stands)
@@ -112,12 +116,14 @@ pub returns-in-Part : goal.returns-in-Part
 returns-in-Part c q S tab =
     let p = part_ready q c.in-Part.is in
     let x = c.extent_at.ensures p.tree p.at in
-    counted ((part_plan (planned q c.in-Part.is)).is S tab) (protect_counted (protection_of S q.tree) (record { records = x.records; deep = x.deep }) c.protected.ensures)
+    counted ((part_plan (planned q c.in-Part.is)).is S tab) (protect_counted (protection_of S q.tree) (record { records = x.records; deep = x.deep })
+    (c.protected.ensures.records, c.protected.ensures.depth))
 
 pub returns-in-Body : goal.returns-in-Body
 returns-in-Body c q S tab =
     counted ((body_plan (planned q c.in-Body.is)).is S tab)
-    (protect_counted (protection_of S q.tree) (c.measure_body.ensures (body_ready q c.in-Body.is)) c.protected-in-Body.ensures)
+    (protect_counted (protection_of S q.tree) (c.measure_body.ensures (body_ready q c.in-Body.is))
+    (c.protected-in-Body.ensures.records, c.protected-in-Body.ensures.depth))
 
 pub returns-in-Raised : goal.returns-in-Raised
 returns-in-Raised c q S tab =

@@ -1,8 +1,8 @@
 use Rattle.std.proofs.Common.{arith, ℕ, ◌+◌, []}
 use Rattle.calculus.specs.Types.{top}
 use Rattle.calculus.specs.Terms.{mu}
-use Rattle.calculus.specs.Reduction.{unrolled}
-use Rattle.calculus.specs.Erasure.{public}
+use Rattle.calculus.specs.Reduction.{unrolled_function}
+use Rattle.calculus.proofs.Erased.{public}
 use Rattle.rules.specs.Answer.{Bytes}
 use Rattle.rules.specs.Groups.{properties_of}
 use Rattle.records.specs.Place.{At}
@@ -27,7 +27,7 @@ measure-requires c =
     record {
       tree = q.body;
       at = body_at q;
-      value = unrolled (properties_of []) q.label q.type public q.body;
+      value = unrolled_function (properties_of []) q.label q.type public q.body;
       records_of = omega (arith, x.records, n.0);
       depth_of = omega (arith, x.deep, n.1);
       shallow = omega (arith, b.1, q.shallow);
@@ -40,6 +40,6 @@ unfolding contractum
 returns c q S tab =
     let x = c.extent_at.ensures (mu q.label q.type q.body) q.stands in
     let n = unrolled_size S q.label q.type (top (tab q.type)) q.body in
-    let m = c.measure.ensures q.body (unrolled S q.label q.type (top (tab q.type)) q.body) (body_at q) (omega (arith, x.records, n.0))
+    let m = c.measure.ensures q.body (unrolled_function S q.label q.type (top (tab q.type)) q.body) (body_at q) (omega (arith, x.records, n.0))
     (omega (arith, x.deep, n.1)) in
     record { records = m.records; deep = m.deep }

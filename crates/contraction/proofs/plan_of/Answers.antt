@@ -1,17 +1,18 @@
 -- A destructor's operand stands after it, and that operand's own after that.
-use Rattle.std.proofs.Common.{◌≡◌, sym, ap, ◌∙◌, ◌⊎◌, inl, inr, ℕ, arith}
-use Rattle.std.proofs.Math.Bool.{So}
+use Rattle.std.proofs.Common.{◌≡◌, sym, ap, ◌∙◌, ◌⊎◌, inl, inr, ℕ, arith, IsTrue}
 use Rattle.rules.specs.Answer.{Bytes}
 use Rattle.rules.specs.Script.{kind}
 use Rattle.records.specs.Numbers.{kind_number}
 use Rattle.records.specs.declared.Kind.{Kind}
-use Rattle.records.specs.declared.Kind.TheVariants.{Application, FirstProjection, SecondProjection, Protect, Recursion, Sum, Less}
+use Rattle.records.specs.declared.Kind.TheVariants.{Application, FirstProjection, SecondProjection, Protect, Recursion}
+use Rattle.records.specs.declared.Kind.TheVariants.{Sum, Less}
 use Rattle.records.proofs.Stands.{kind_of, there, stands_kind, here}
 use Rattle.records.proofs.Numbered.{same_kind}
 use Rattle.redex.specs.Found.{is_reckoning}
 use Rattle.redex.proofs.Forms.{one_reads, application_reads}
-use Rattle.contraction.specs.Plans.{Fires, Branches}
-use Rattle.contraction.proofs.Redexes.{Taken, taken, plan_unrolled, plan_raised, plan_reckoned, plan_first, plan_second, plan_applied, only_case}
+use Rattle.contraction.specs.Plans.{Fires, CaseRedex}
+use Rattle.contraction.proofs.Redexes.{Taken, taken, plan_unrolled, plan_raised, plan_reckoned, plan_first, plan_second}
+use Rattle.contraction.proofs.Redexes.{plan_applied, only_case}
 use Rattle.contraction.proofs.plan_of.Goals as goal
 use Rattle.contraction.proofs.plan_of.Goals.{In_default}
 
@@ -31,12 +32,12 @@ module _ {s : Bytes} {at : ℕ} {k : Kind} (q : Fires s at) (kind_is : kind_numb
   applied_taken : k ≡ Application → Taken s at q.tree
   applied_taken h = taken q.stands q.left (rw (is_kind h) application_reads)
 
-  reckoning_kind : (k ≡ Sum) ⊎ (k ≡ Less) → So (is_reckoning (kind_of q.tree))
+  reckoning_kind : (k ≡ Sum) ⊎ (k ≡ Less) → IsTrue (is_reckoning (kind_of q.tree))
   reckoning_kind (inl h) = rw (is_kind h)
   reckoning_kind (inr h) = rw (is_kind h)
 
 -- what is left is a case
-abbrev case_left : (c : In_default) → Fires c.args.script.now c.args.at → Branches c.args.script.now c.args.at
+abbrev case_left : (c : In_default) → Fires c.args.script.now c.args.at → CaseRedex c.args.script.now c.args.at
 case_left c q =
     let k = c.kind_of.ensures in
     let d = c.in_default in

@@ -9,16 +9,16 @@ use Rattle.contraction.proofs.Plans.{raised_from}
 use Rattle.contraction.proofs.raised_record.Goals as goal
 
 pub overflow_add-x : goal.overflow_add-x
-overflow_add-x c = omega (arith, there _ _ _ c.requires.1.at)
+overflow_add-x c = omega (arith, there _ _ _ c.requires.operand.at)
 
 pub influence-by-requires : goal.influence-by-requires
-influence-by-requires c = omega (arith, there _ _ _ c.requires.1.at)
+influence-by-requires c = omega (arith, there _ _ _ c.requires.operand.at)
 
 pub property-requires : goal.property-requires
-property-requires c = there _ _ _ c.requires.1.at
+property-requires c = there _ _ _ c.requires.operand.at
 
 pub number-number-requires : goal.number-number-requires
-number-number-requires c = there _ _ _ c.requires.1.at
+number-number-requires c = there _ _ _ c.requires.operand.at
 
 pub returns : goal.returns
 returns c v a h =

@@ -7,7 +7,7 @@ use Rattle.contraction.proofs.term_bytes.Goals as goal
 
 pub part-requires : goal.part-requires
 part-requires c =
-    let e = c.end_of.ensures _ c.requires.at in (omega arith, omega (arith, inside _ _ _ c.requires.at))
+    let e = c.end_of.ensures _ c.requires.at in record { order = omega arith; there = omega (arith, inside _ _ _ c.requires.at) }
 
 pub returns : goal.returns
 returns c e a =

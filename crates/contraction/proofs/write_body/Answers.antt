@@ -9,7 +9,12 @@ alone : {b v : Bytes} → b ≡ v → [] ++ (b ++ []) ≡ v
 alone e = append-nil _ ∙ e
 
 pub write_protect-requires : goal.write_protect-requires
-write_protect-requires c = (c.requires.order, c.requires.operand, protect_room c.args.out.now _ _ c.requires.room)
+write_protect-requires c =
+    record {
+      order = c.requires.order;
+      operand = c.requires.operand;
+      room = protect_room c.args.out.now _ _ c.requires.room;
+    }
 
 pub term_bytes-operand-requires : goal.term_bytes-operand-requires
 term_bytes-operand-requires c = here c.requires.at_value

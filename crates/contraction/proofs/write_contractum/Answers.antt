@@ -1,6 +1,6 @@
 use Rattle.contraction.proofs.Plans.{renamed}
-use Rattle.contraction.proofs.Rooms.{part_is, part_room, body_is, body_room}
-use Rattle.contraction.proofs.Rooms.{raised_is, raised_room, unrolled_is, unrolled_room, reckoned_is, reckoned_room}
+use Rattle.contraction.proofs.Rooms.{part_is, part_room, body_is, body_room, raised_is, raised_room, unrolled_is}
+use Rattle.contraction.proofs.Rooms.{unrolled_room, reckoned_is, reckoned_room}
 use Rattle.contraction.proofs.write_contractum.Goals as goal
 
 pub write_part-requires : goal.write_part-requires

@@ -1,6 +1,5 @@
 -- The two records are the injection's and its unit's.
-use Rattle.std.proofs.Common.{◌≡◌, refl, sym, ap, ◌∙◌, Bool, cond, ◌++◌, ℕ, ◌+◌}
-use Rattle.std.proofs.Common.{subst as transport}
+use Rattle.std.proofs.Common.{◌≡◌, refl, sym, ap, ◌∙◌, Bool, cond, ◌++◌, ℕ, ◌+◌, subst as transport}
 use Rattle.calculus.specs.Security.{Property}
 use Rattle.rules.specs.Answer.{Bytes}
 use Rattle.rules.specs.Types.{type_at}

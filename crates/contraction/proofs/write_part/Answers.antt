@@ -3,7 +3,12 @@ use Rattle.contraction.proofs.Plans.{protect_room, inner_room, protect_written}
 use Rattle.contraction.proofs.write_part.Goals as goal
 
 pub write_protect-requires : goal.write_protect-requires
-write_protect-requires c = (c.requires.order, c.requires.operand, protect_room c.args.out.now _ _ c.requires.room)
+write_protect-requires c =
+    record {
+      order = c.requires.order;
+      operand = c.requires.operand;
+      room = protect_room c.args.out.now _ _ c.requires.room;
+    }
 
 pub term_bytes-requires : goal.term_bytes-requires
 term_bytes-requires c = here c.requires.stands

@@ -36,7 +36,7 @@ pub term_bytes-value-requires : goal.term_bytes-value-requires
 term_bytes-value-requires c = here c.requires.stands
 
 pub raised_record-requires : goal.raised_record-requires
-raised_record-requires c = (c.requires.order, here c.requires.stands)
+raised_record-requires c = record { order = c.requires.order; operand = here c.requires.stands }
 
 pub put-requires : goal.put-requires
 put-requires c = room_first c.raised_record.result _ c.args.out.now (both_room (goal.at.put-requires c).After-raised_record)

@@ -1,9 +1,8 @@
 -- The two literals stand after the node, and the result has its groups from theirs and the node's.
-use Rattle.std.proofs.Common.{◌≡◌, sym, ap, ap₂, ◌∙◌, ℕ, ◌+◌, ◌<◌, arith, min, ltb}
-use Rattle.std.proofs.Common.{subst as transport}
+use Rattle.std.proofs.Common.{◌≡◌, sym, ap, ap₂, ◌∙◌, ℕ, ◌+◌, ◌<◌, arith, min, nat_lt, subst as transport}
 use Rattle.calculus.specs.Security.{Property}
 use Rattle.calculus.specs.Terms.{plus, less}
-use Rattle.calculus.specs.Numbers.{of_both, number_limit, reckoned}
+use Rattle.calculus.specs.Numbers.{of_both, number_limit, reckon_result}
 use Rattle.rules.specs.Answer.{Bytes}
 use Rattle.rules.specs.Groups.{properties_of}
 use Rattle.rules.specs.Types.{type_at}
@@ -14,8 +13,9 @@ use Rattle.records.proofs.Stands.{there, here}
 use Rattle.redex.proofs.Places.{groups_at, reader_at}
 use Rattle.memory.specs.Written.{Room, Written}
 use Rattle.memory.specs.declared.Writer.{Writer}
-use Rattle.contraction.specs.Plans.{Literals, Sides, reckoning, flag, ReckonedRoom}
-use Rattle.contraction.proofs.Plans.{is_plus, is_less, left_at, right_at, left_number, right_number, flag_number, renamed}
+use Rattle.contraction.specs.Plans.{Literals, Sides, reckon_contractum, flag, ReckonedRoom}
+use Rattle.contraction.proofs.Plans.{is_plus, is_less, left_at, right_at, left_number, right_number, flag_number}
+use Rattle.contraction.proofs.Plans.{renamed}
 use Rattle.contraction.proofs.Rooms.{room_for}
 use Rattle.contraction.proofs.write_reckoned.Goals as goal
 
@@ -30,13 +30,13 @@ module _ {g t s : Bytes} {at : ℕ} {out : Writer} (q : ReckonedRoom g t s at ou
       ∙ ap (λ w. of_both S w q.literals.left.own q.literals.right.own) (a ∙ reader_at q.literals.stands)
 
   total_bytes : q.literals.operation ≡ plus → {p : Property} {m n k : ℕ} {b : Bytes} → b ≡ object_record kinds.literal p k → k ≡ min (m + n) number_limit
-      → p ≡ own → m ≡ number s (at + 1) → n ≡ number s (at + 2) → encode (reckoning g t q.literals) ≡ b
-  unfolding reckoned encode
+      → p ≡ own → m ≡ number s (at + 1) → n ≡ number s (at + 2) → encode (reckon_contractum g t q.literals) ≡ b
+  unfolding reckon_result encode
   total_bytes h b k p m n = rw (h, b, k, p, m, n, left_number q.literals, right_number q.literals)
 
   flag_is : {i : ℕ} → q.literals.operation ≡ less i → {p : Property} {m n k : ℕ} → k ≡ number s at → p ≡ own → m ≡ number s (at + 1) → n ≡ number s (at + 2)
-      → reckoning g t q.literals ≡ flag (type_at t) k p (ltb m n)
-  unfolding reckoned
+      → reckon_contractum g t q.literals ≡ flag (type_at t) k p (nat_lt m n)
+  unfolding reckon_result
   flag_is h k p m n = rw (k, p, m, n, flag_number q.literals h, left_number q.literals, right_number q.literals, h)
 
 -- the records of the three are there

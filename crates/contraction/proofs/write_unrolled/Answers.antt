@@ -2,7 +2,7 @@ use Rattle.std.proofs.Common.{◌≡◌, ◌∙◌, [], ◌++◌, ℕ, ◌+◌, 
 use Rattle.calculus.specs.Security.{Property}
 use Rattle.calculus.specs.Types.{top}
 use Rattle.calculus.specs.Terms.{Term, mu}
-use Rattle.calculus.specs.Reduction.{unrolled}
+use Rattle.calculus.specs.Reduction.{unrolled_function}
 use Rattle.rules.specs.Answer.{Bytes}
 use Rattle.rules.specs.Groups.{properties_of}
 use Rattle.rules.specs.Types.{type_count, type_at}
@@ -32,7 +32,7 @@ module _ {t s : Bytes} {at : ℕ} {out : Writer} (q : UnrolledRoom t s at out) w
 
   -- what is put in for the recursion's variable, and its bytes: two records, the recursion, a variable
   abbrev value : Term
-  value = unrolled (properties_of q.groups) q.label q.type (top (type_at t q.type)) q.body
+  value = unrolled_function (properties_of q.groups) q.label q.type (top (type_at t q.type)) q.body
 
   pieces : {n i caller : ℕ} {p reads none : Property} {lambda application variable front recursion : Bytes}
       → n ≡ number s at → i ≡ n → caller ≡ r s at → p ≡ type_property t i → reads ≡ only_reader caller → none ≡ only_reader 0

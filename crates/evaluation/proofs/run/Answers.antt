@@ -1,15 +1,14 @@
-use Rattle.std.proofs.Common.{◌≡◌, sym, ap, ◌∙◌, [], ◌∷◌, ℕ, ◌≤◌, min, arith, length}
-use Rattle.std.proofs.Common.{subst as transport}
+use Rattle.std.proofs.Common.{◌≡◌, sym, ap, ◌∙◌, [], ◌∷◌, ℕ, ◌≤◌, min, arith, length, subst as transport}
 use Rattle.std.proofs.lemmas.Result.{err_from_is_err_and}
 use Rattle.rules.specs.Answer.{Bytes, Octets, accepted}
 use Rattle.rules.specs.Script.{term}
 use Rattle.rules.specs.Calls.{script_check}
-use Rattle.demands.proofs.Checked.{script_passed}
+use Rattle.promises.proofs.Checked.{script_passed}
 use Rattle.reduction.specs.Steps.{Startable}
-use Rattle.evaluation.specs.Runs.{front, Loaded}
+use Rattle.evaluation.specs.Runs.{front_term, Loaded}
 use Rattle.reduction.proofs.Starts.{startable}
 use Rattle.evaluation.proofs.Buffers.{copied_script, loaded}
-use Rattle.evaluation.proofs.Answers.{refused_keeps, ran_so, demanded}
+use Rattle.evaluation.proofs.Answers.{refused_keeps, ran_so, promised}
 use Rattle.evaluation.proofs.run.Goals as goal
 
 -- the script was accepted, and both buffers have room for it
@@ -27,13 +26,11 @@ returns-in_err-script_check c =
     let a = c.args in
     let e = err_from_is_err_and c.from_residual.result c.from_residual.ensures.1 in
     let h = refused_keeps a.groups.now a.types.now a.script.now a.budget a.first.now a.scratch.now _ c.in_err-script_check.ensures in
-    rw (e.1, e.2) (
-      h.0,
-      h.1,
-      h.2,
-      demanded a.groups.now a.types.now a.script.now a.budget a.first.now a.scratch.now (λ k. omega (arith, c.type_inv.groups k))
-          (λ k. omega (arith, c.type_inv.script k)) _ _ _ h,
-    )
+    rw (e.1, e.2) (record {
+      outcome = record { answer = h.0; first_is = h.1; scratch_is = h.2 };
+      promise = promised a.groups.now a.types.now a.script.now a.budget a.first.now a.scratch.now (λ k. omega (arith, c.type_inv.groups k))
+          (λ k. omega (arith, c.type_inv.script k)) _ _ _ h;
+    })
 
 pub put-requires : goal.put-requires
 put-requires c =
@@ -48,10 +45,10 @@ run_term-requires c =
     let octets : Octets a.script.now = λ k. omega (arith, c.type_inv.script k) in
     let q = ready a.groups.now a.types.now a.script.now a.first.now a.scratch.now groups octets c.in_ok-script_check.ensures in
     let r = roomy a.groups.now a.types.now a.script.now a.first.now a.scratch.now groups octets c.in_ok-script_check.ensures in
-    let b = c.put.new.to in
+    let b = c.put.new.buffer in
     let room = min (length b) (length a.scratch.now) in
     transport (λ (n : ℕ). Loaded a.groups.now a.types.now b n room) (sym c.record_count-records.ensures)
-    (loaded a.script.now a.first.now b q c.put.ensures room (omega (arith, r.0, r.1, c.put.auto.to)))
+    (loaded a.script.now a.first.now b q c.put.ensures room (omega (arith, r.0, r.1, c.put.auto.buffer)))
 
 pub returns : goal.returns
 returns c =
@@ -59,13 +56,12 @@ returns c =
     let groups : Octets a.groups.now = λ k. omega (arith, c.type_inv.groups k) in
     let octets : Octets a.script.now = λ k. omega (arith, c.type_inv.script k) in
     let q = ready a.groups.now a.types.now a.script.now a.first.now a.scratch.now groups octets c.in_ok-script_check.ensures in
-    let b = c.put.new.to in
-    let h = ran_so a.groups.now a.types.now a.script.now a.budget a.first.now a.scratch.now (sym c.in_ok-script_check.ensures) b _ _ (front b c.record_count-records.result)
-    c.run_term.result c.put.auto.to
-    (ap (front b) c.record_count-records.ensures ∙ ap term (copied_script a.script.now a.first.now b q c.put.ensures))
-    c.run_term.ensures in (
-      h.0,
-      h.1,
-      h.2,
-      demanded a.groups.now a.types.now a.script.now a.budget a.first.now a.scratch.now groups octets _ _ _ h,
-    )
+    let b = c.put.new.buffer in
+    let h = ran_so a.groups.now a.types.now a.script.now a.budget a.first.now a.scratch.now (sym c.in_ok-script_check.ensures) b _ _ (front_term b c.record_count-records.result)
+    c.run_term.result c.put.auto.buffer
+    (ap (front_term b) c.record_count-records.ensures ∙ ap term (copied_script a.script.now a.first.now b q c.put.ensures))
+    c.run_term.ensures in
+    record {
+      outcome = record { answer = h.0; first_is = h.1; scratch_is = h.2 };
+      promise = promised a.groups.now a.types.now a.script.now a.budget a.first.now a.scratch.now groups octets _ _ _ h;
+    }

@@ -1,6 +1,6 @@
-use Rattle.std.proofs.Common.{◌≡◌, ap, ◌∙◌, ◌++◌, ◌*◌, ◌/◌, ◌≤◌, arith, length, take, drop, length-append, length-drop, length-take-le}
+use Rattle.std.proofs.Common.{◌≡◌, ap, ◌∙◌, ◌++◌, ◌*◌, ◌/◌, ◌≤◌, arith, length, take, drop, length-append, length-drop}
+use Rattle.std.proofs.Common.{length-take-le, subst as transport}
 use Rattle.std.proofs.Math.Seq.{take-append-le}
-use Rattle.std.proofs.Common.{subst as transport}
 use Rattle.rules.specs.Limits.{script_width}
 use Rattle.rules.specs.Run.{Ran}
 use Rattle.rules.specs.Calls.{zeros}

@@ -6,16 +6,17 @@ use Rattle.evaluation.proofs.walk.Goals as goal
 pub settle-requires : goal.settle-requires
 settle-requires c =
     let q = c.requires in
-    begins_so q.0 c.args.b.now q.1 q.2 _ (omega arith) c.put.auto.to c.put.ensures c.args.budget
+    begins_so q.loaded c.args.b.now q.same_length q.whole_records _ (omega arith) c.put.auto.buffer c.put.ensures c.args.budget
 
 pub gather-requires : goal.gather-requires
 gather-requires c =
     let q = c.requires in
-    gathers (run_ends q.0 c.args.b.now q.1 q.2 _ (omega arith) c.put.auto.to c.put.ensures c.args.budget c.settle.ensures c.end_of-ended.ensures) c.settle.auto.a
+    let g = gathers (run_ends q.loaded c.args.b.now q.same_length q.whole_records _ (omega arith) c.put.auto.buffer c.put.ensures c.args.budget c.settle.ensures c.end_of-ended.ensures) c.settle.auto.front in
+    record { source = g.0; room = g.1 }
 
 pub returns : goal.returns
 returns c =
     let q = c.requires in
-    let z = run_ends q.0 c.args.b.now q.1 q.2 _ (omega arith) c.put.auto.to c.put.ensures c.args.budget c.settle.ensures c.end_of-ended.ensures in
-    let l : length c.settle.new.b ≡ length c.args.b.now = omega (arith, c.settle.auto.b, c.put.auto.to) in
-    gathered z c.settle.auto.a c.gather.result (ap (λ n. script_width * (n / script_width)) l ∙ q.2 ∙ sym l) c.gather.ensures.0 c.gather.ensures.1
+    let z = run_ends q.loaded c.args.b.now q.same_length q.whole_records _ (omega arith) c.put.auto.buffer c.put.ensures c.args.budget c.settle.ensures c.end_of-ended.ensures in
+    let l : length c.settle.new.back ≡ length c.args.b.now = omega (arith, c.settle.auto.back, c.put.auto.buffer) in
+    gathered z c.settle.auto.front c.gather.result (ap (λ n. script_width * (n / script_width)) l ∙ q.whole_records ∙ sym l) c.gather.ensures.count c.gather.ensures.gathered

@@ -1,4 +1,5 @@
--- The loop has scanned and written the first j operands; the names over the record stay. A call's record falls to the right in the script.
+-- The loop has scanned and written the first j operands; the names over the record stay. A call's record falls to the
+-- right in the script.
 use Rattle.std.proofs.Common.{◌≡◌, ℕ, ◌-◌, ◌≤◌, length}
 use Rattle.calculus.specs.Terms.{Term}
 use Rattle.records.specs.Place.{At}

@@ -11,5 +11,5 @@ returns-in_err-ask c v u h p =
 
 pub returns : goal.returns
 returns c v u h p =
-    let m = c.copy_type.ensures u p.held in
-    passed (c.in_ok-ask.ensures ∙ ap (ask 22 c.args.place) (c.is_subtype.ensures v u h p.held)) (written m.0 p.small refl m.1)
+    passed (c.in_ok-ask.ensures ∙ ap (ask 22 c.args.place) (c.is_subtype.ensures v u h p.held))
+    (written (c.copy_type.ensures.count u p.held) p.small refl (c.copy_type.ensures.work u p.held))

@@ -14,18 +14,21 @@ use Rattle.inference.proofs.after_first_branch.Goals as goal
 
 pub returns : goal.returns
 returns c =
-    let W : Bytes = c.args.w.now in
-    let slot : ℕ = length W - answer_length * (c.args.b + 1) in
-    let left_held : (t : Ty) → Beside t c.args.b W → Held (take (length W - slot) (drop slot W)) (left t) = λ t q. rw to_end q.one.held in
+    let W : Bytes = c.args.work.now in
+    let slot : ℕ = length W - answer_length * (c.args.binders + 1) in
+    let left_held : (t : Ty) → Beside t c.args.binders W → Held (take (length W - slot) (drop slot W)) (left t) = λ t q. rw to_end q.one.held in
     let L : ℕ = c.type_records.result in
-    let counts : (t : Ty) → Beside t c.args.b W → L ≡ size_t (left t) = λ t q. c.type_records.ensures (left t) (left_held t q) in
-    let right_at : (t : Ty) → Beside t c.args.b W → Slot (drop (slot + type_width * L) W) (right t) = λ t q. let e = ap (λ j. drop (type_width * j) (high (c.args.b + 1) W)) (sym (counts t q))
+    let counts : (t : Ty) → Beside t c.args.binders W → L ≡ size_t (left t) = λ t q. c.type_records.ensures (left t) (left_held t q) in
+    let right_at : (t : Ty) → Beside t c.args.binders W → Slot (drop (slot + type_width * L) W) (right t) = λ t q. let e = ap (λ j. drop (type_width * j) (high (c.args.binders + 1) W)) (sym (counts t q))
     ∙ drop-drop (type_width * L) slot W in
     subst (λ x. Slot x (right t)) e q.other in
-    λ v.
-    let z = right_at v.tested v.sides in
-    let w = (c.move_type.ensures (right v.tested) z.held).1 in (
-      enters_as (c.ask-asked.ensures ∙ c.branch_fits.ensures v.type c.args.place v.slot.held) refl
-          (slot_written z.small refl (omega (arith, v.room)) w v.binders v.holds),
-      slot_before slot (encode_type (right v.tested)) v.slot (omega (arith, v.room)) (omega arith) w,
-    )
+    record {
+      enters = λ v.
+          let z = right_at v.tested v.sides in
+          enters_as (c.ask-asked.ensures ∙ c.branch_fits.ensures v.type c.args.place v.slot.held) refl
+          (slot_written z.small refl (omega (arith, v.room)) (c.move_type.ensures.work (right v.tested) z.held) v.binders v.holds);
+      kept = λ v.
+          let z = right_at v.tested v.sides in
+          slot_before slot (encode_type (right v.tested)) v.slot (omega (arith, v.room)) (omega arith)
+          (c.move_type.ensures.work (right v.tested) z.held);
+    }

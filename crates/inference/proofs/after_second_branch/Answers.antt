@@ -7,13 +7,13 @@ use Rattle.rules.specs.Groups.{properties_of}
 use Rattle.rules.specs.Types.{type_at}
 use Rattle.rules.specs.Script.{number}
 use Rattle.lattice.specs.Said.{said_influence}
-use Rattle.inference.specs.Memory.{finds}
-use Rattle.inference.specs.Stages.{result_type, case_type, Branches}
+use Rattle.inference.specs.Memory.{meets_type}
+use Rattle.inference.specs.Stages.{result_type, case_type, BranchesTyped}
 use Rattle.inference.proofs.Rules.{case_raises, meets_of, raise_wrote, typed_as, refused_as, refused_meets}
 use Rattle.inference.proofs.after_second_branch.Goals as goal
 
 -- the case's type from its result's
-raised : {types s w : Bytes} (v : Branches types s w) (S : Security) (place : ℕ) (by : Indirect) {o : Answer Ty}
+raised : {types s w : Bytes} (v : BranchesTyped types s w) (S : Security) (place : ℕ) (by : Indirect) {o : Answer Ty}
     → result_type S (type_at types) place (number s 0) v.first v.second ≡ o
     → case_type S (type_at types) place (number s 0) v.first v.second by ≡ bind o (λ r. accepted (raise_t S r by))
 raised {types} {s} v S place by e =
@@ -35,5 +35,5 @@ returns c v b l =
     let S = properties_of c.args.groups.now in
     let by = said_influence c.args.by in
     meets_of (raised v S c.args.place by y.is)
-    (finds
-    (raise_wrote S by y.wrote (c.raise.ensures.0 y.type y.wrote.sized.held) c.raise.ensures.1 (omega (arith, c.result_type.auto.w))))
+    (meets_type
+    (raise_wrote S by y.wrote (c.raise.ensures.raised y.type y.wrote.sized.held) c.raise.ensures.size (omega (arith, c.result_type.auto.work))))

@@ -1,19 +1,18 @@
 -- The node's shape from its fields, then the callee's answer for that shape.
-use Rattle.std.proofs.Common.{◌≡◌, ℕ, ◌≤◌, ◌<◌, length, drop, refl, sym, ap, ◌∙◌, arith}
+use Rattle.std.proofs.Common.{◌≡◌, ℕ, ◌<◌, refl, sym, ap, ◌∙◌, arith}
 use Rattle.calculus.specs.Security.{Property}
 use Rattle.calculus.specs.Types.{sum}
 use Rattle.calculus.specs.Terms.{Term}
 use Rattle.rules.specs.Answer.{Bytes}
-use Rattle.rules.specs.Limits.{answer_length}
 use Rattle.rules.specs.Groups.{properties_of}
 use Rattle.rules.specs.Types.{former_kind, type_at, type_count, type_kind, sides}
 use Rattle.rules.specs.Script.{kind, r, number}
-use Rattle.types.specs.Held.{Starts, kind_of}
+use Rattle.types.specs.Held.{kind_of_type}
 use Rattle.types.specs.declared.Kind.TheVariants.{Function}
 use Rattle.records.specs.Kinds as kinds
 use Rattle.records.specs.Labels.{property_at}
 use Rattle.types.proofs.Parts.{starts_of}
-use Rattle.inference.specs.Stages.{between, after_two, Two}
+use Rattle.inference.specs.Stages.{between, after_two, TwoOperands}
 use Rattle.inference.proofs.Regions.{slot_of}
 use Rattle.inference.proofs.Shapes.{long, arity_of, less_left, labelled, of_fields, read_by}
 use Rattle.inference.proofs.Names.{within, named_slot, named_sided, flag_index}
@@ -21,7 +20,7 @@ use Rattle.inference.proofs.Rules.{read_two, gives_of}
 use Rattle.inference.proofs.after_two.Goals as goal
 use Rattle.inference.proofs.after_two.Goals.{In_default}
 
-module _ {g types s : Bytes} {place : ℕ} {w : Bytes} {n m : ℕ} (v : Two g types s place w n m) where
+module _ {g types s : Bytes} {place : ℕ} {w : Bytes} {n m : ℕ} (v : TwoOperands g types s place w n m) where
   -- the rule for a node of a shape
   rule : {e : Term} → v.tree ≡ e
       → after_two (properties_of g) (type_at types) place v.tree v.first v.second ≡ after_two (properties_of g) (type_at types) place e v.first v.second
@@ -35,7 +34,7 @@ module _ {g types s : Bytes} {place : ℕ} {w : Bytes} {n m : ℕ} (v : Two g ty
   read_shape f e = shape f (ap (read_by s) e)
 
   -- an application's function
-  sided : kinds.application ≡ kind s 0 → sides (kind_of v.first) ≡ 2
+  sided : kinds.application ≡ kind s 0 → sides (kind_of_type v.first) ≡ 2
   unfolding between
   sided f =
       read_two (properties_of g) place Function v.first (r s 0) refl
@@ -45,11 +44,8 @@ module _ {g types s : Bytes} {place : ℕ} {w : Bytes} {n m : ℕ} (v : Two g ty
   flag_named : kinds.less ≡ kind s 0 → (number s 0 < type_count types) × (type_kind types (number s 0) ≡ former_kind sum)
   flag_named = flag_index types s v.binders v.tree v.is v.formed
 
-  operands : Starts w × (Starts (drop answer_length w) × (answer_length ≤ length w))
-  operands = (starts_of v.sized.held, (starts_of v.other.held, omega (arith, v.room)))
-
 -- what is left is a less than
-is_less : (c : In_default) → kinds.less ≡ kind c.args.s.now 0
+is_less : (c : In_default) → kinds.less ≡ kind c.args.part.now 0
 is_less c =
     let v = c.requires in
     let o = c.in_default in
@@ -62,10 +58,12 @@ returns-in-Pair c v =
 
 pub apply-requires : goal.apply-requires
 apply-requires c =
-    let v = c.requires in (
-      record { type = v.first; held = v.sized.held; two = sided v c.in-Application.ensures },
-      (record { type = v.second; held = v.other.held }, v.room),
-    )
+    let v = c.requires in
+    record {
+      function = record { type = v.first; held = v.sized.held; two = sided v c.in-Application.ensures };
+      argument = record { type = v.second; held = v.other.held };
+      room = v.room;
+    }
 
 pub returns-in-Application : goal.returns-in-Application
 unfolding after_two
@@ -73,7 +71,9 @@ returns-in-Application c v =
     gives_of (rule v (read_shape v c.in-Application.ensures c.reader.ensures)) (c.apply.ensures v.first v.second (slot_of v.sized) v.other.held)
 
 pub total-requires : goal.total-requires
-total-requires c = operands c.requires
+total-requires c =
+    let v = c.requires in
+    record { left = starts_of v.sized.held; right = starts_of v.other.held; room = omega (arith, v.room) }
 
 pub returns-in-Sum : goal.returns-in-Sum
 unfolding after_two
@@ -83,18 +83,23 @@ returns-in-Sum c v =
 pub named-requires : goal.named-requires
 named-requires c =
     let v = c.requires in
-    (long v.tree v.is, within _ _ (flag_named v (is_less (goal.at.named-requires c).In_default)).0)
+    record { node = long v.tree v.is; in_table = within _ _ (flag_named v (is_less (goal.at.named-requires c).In_default)).0 }
 
 pub comparison-requires : goal.comparison-requires
 comparison-requires c =
     let v = c.requires in
     let m = flag_named v (is_less (goal.at.comparison-requires c).In_default) in
-    (named_sided v.table m.0 m.1 refl c.named.ensures, operands v)
+    record {
+      flag = named_sided v.table m.0 m.1 refl c.named.ensures;
+      left = starts_of v.sized.held;
+      right = starts_of v.other.held;
+      room = omega (arith, v.room);
+    }
 
 pub returns-in_default : goal.returns-in_default
 unfolding after_two
 returns-in_default c v =
     let q = is_less (goal.at.returns-in_default c).In_default in
     gives_of (rule v (read_shape v q c.reader-in_default.ensures))
-    (c.comparison.ensures (type_at c.args.types.now) (number c.args.s.now 0) v.first v.second
+    (c.comparison.ensures (type_at c.args.types.now) (number c.args.part.now 0) v.first v.second
     (named_slot v.table (flag_named v q).0 c.named.ensures) v.sized.held v.other.held)

@@ -10,7 +10,7 @@ use Rattle.calculus.specs.Types.{function}
 use Rattle.rules.specs.Types.{former_kind, type_at, type_count, type_kind}
 use Rattle.records.specs.Kinds as kinds
 use Rattle.records.specs.Labels.{property_at}
-use Rattle.inference.specs.Memory.{Ready}
+use Rattle.inference.specs.Memory.{CheckerInput}
 use Rattle.inference.specs.Stages.{may_recur, before_first, first_context}
 use Rattle.inference.proofs.Regions.{stayed}
 use Rattle.inference.proofs.Shapes.{long, Plain, plain, labelled, of_kind, depth_positive}
@@ -18,7 +18,7 @@ use Rattle.inference.proofs.Rules.{enters_as}
 use Rattle.inference.proofs.Names.{within, named_slot, named, named_sided, function_index, recursion_index}
 use Rattle.inference.proofs.before_operands.Goals as goal
 
-module _ {types s : Bytes} {place b : ℕ} {w : Bytes} (v : Ready types s place b w) where
+module _ {types s : Bytes} {place b : ℕ} {w : Bytes} (v : CheckerInput types s place b w) where
   -- the room for one more binder
   level : answer_length * (b + 1) ≤ length w
   level = omega (arith, v.room, depth_positive v.tree)
@@ -45,12 +45,12 @@ module _ {types s : Bytes} {place b : ℕ} {w : Bytes} (v : Ready types s place 
 pub named-requires : goal.named-requires
 named-requires c =
     let v = c.requires in
-    (long v.tree v.is, within _ _ (function_named v c.in-Function.ensures))
+    record { node = long v.tree v.is; in_table = within _ _ (function_named v c.in-Function.ensures) }
 
 pub bind-requires : goal.bind-requires
 bind-requires c =
     let v = c.requires in
-    (named v.table (function_named v c.in-Function.ensures) c.named.ensures, level v)
+    record { slot = named v.table (function_named v c.in-Function.ensures) c.named.ensures; room = level v }
 
 pub returns-in-Function : goal.returns-in-Function
 unfolding before_first first_context
@@ -62,7 +62,7 @@ returns-in-Function c v =
 pub named-t-requires : goal.named-t-requires
 named-t-requires c =
     let v = c.requires in
-    (long v.tree v.is, within _ _ (recursion_named v c.in-Recursion.ensures).0)
+    record { node = long v.tree v.is; in_table = within _ _ (recursion_named v c.in-Recursion.ensures).0 }
 
 pub may_recur-asked-requires : goal.may_recur-asked-requires
 may_recur-asked-requires c =
@@ -74,13 +74,13 @@ may_recur-asked-requires c =
 pub bind-requires-in-Recursion : goal.bind-requires-in-Recursion
 bind-requires-in-Recursion c =
     let v = c.requires in
-    (named v.table (recursion_named v c.in-Recursion.ensures).0 c.named-t.ensures, level v)
+    record { slot = named v.table (recursion_named v c.in-Recursion.ensures).0 c.named-t.ensures; room = level v }
 
 pub returns-in-Recursion : goal.returns-in-Recursion
 unfolding first_context before_first
 returns-in-Recursion c v =
     let e = shape v c.in-Recursion.ensures in
-    let t = type_at c.args.types.now (number c.args.s.now 0) in
+    let t = type_at c.args.types.now (number c.args.part.now 0) in
     let h = named_slot v.table (recursion_named v c.in-Recursion.ensures).0 c.named-t.ensures in
     let S = properties_of c.args.groups.now in
     enters_as

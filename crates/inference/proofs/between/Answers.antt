@@ -8,7 +8,7 @@ use Rattle.rules.specs.Groups.{properties_of}
 use Rattle.rules.specs.Script.{kind, r, number}
 use Rattle.inference.specs.Operands.{operand_count}
 use Rattle.inference.specs.Memory.{Sized, Beside}
-use Rattle.inference.specs.Stages.{between, second_context, Some, Aside}
+use Rattle.inference.specs.Stages.{between, second_context, AfterFirst, Aside}
 use Rattle.inference.proofs.Regions.{stayed}
 use Rattle.inference.proofs.Shapes.{labelled, reckons, arity_of, case_left, of_fields, read_by}
 use Rattle.inference.proofs.Rules.{enters_as, enters_for}
@@ -22,7 +22,7 @@ front_aside o h = record { front = λ z. h; slot = λ z. absurd (omega arith) }
 slot_aside : {e : Term} {s : Ty} {b : ℕ} {w : Bytes} {n : ℕ} → operand_count e ≡ 3 → Beside s b w → Aside e s b w n
 slot_aside o h = record { front = λ z. absurd (omega arith); slot = λ z. h }
 
-module _ {s : Bytes} {b : ℕ} {w : Bytes} {n : ℕ} (v : Some s b w n) where
+module _ {s : Bytes} {b : ℕ} {w : Bytes} {n : ℕ} (v : AfterFirst s b w n) where
   -- the questions and the context of a node of a shape
   module _ {e : Term} (q : v.tree ≡ e) where
     asked : (S : Security) (place : ℕ) → between S place v.tree v.type ≡ between S place e v.type
@@ -37,33 +37,45 @@ module _ {s : Bytes} {b : ℕ} {w : Bytes} {n : ℕ} (v : Some s b w n) where
 
 pub returns-in-Pair : goal.returns-in-Pair
 unfolding between second_context operand_count
-returns-in-Pair c v =
-    let e = shape v c.in-Pair.ensures refl in
-    (enters_as (sym (asked v e (properties_of c.args.groups.now) c.args.place)) (context v e) (stayed v.binders v.holds), λ z. front_aside (ap operand_count e) v.sized)
+returns-in-Pair c =
+    let e = λ (v : AfterFirst c.args.part.now c.args.binders c.args.work.now c.args.count). shape v c.in-Pair.ensures refl in
+    record {
+      enters = λ v. enters_as (sym (asked v (e v) (properties_of c.args.groups.now) c.args.place)) (context v (e v)) (stayed v.binders v.holds);
+      kept = λ v z. front_aside (ap operand_count (e v)) v.sized;
+    }
 
 pub returns-in-Application : goal.returns-in-Application
 unfolding between second_context operand_count
-returns-in-Application c v =
-    let e = shape v c.in-Application.ensures c.reader.ensures in (
-      enters_as (c.may_read.ensures v.type v.sized.held ∙ sym (asked v e (properties_of c.args.groups.now) c.args.place)) (context v e) (stayed v.binders v.holds),
-      λ z. front_aside (ap operand_count e) v.sized,
-    )
+returns-in-Application c =
+    let e = λ (v : AfterFirst c.args.part.now c.args.binders c.args.work.now c.args.count). shape v c.in-Application.ensures c.reader.ensures in
+    record {
+      enters = λ v.
+          enters_as (c.may_read.ensures v.type v.sized.held ∙ sym (asked v (e v) (properties_of c.args.groups.now) c.args.place)) (context v (e v))
+          (stayed v.binders v.holds);
+      kept = λ v z. front_aside (ap operand_count (e v)) v.sized;
+    }
 
 pub returns-in-Sum : goal.returns-in-Sum
 unfolding between second_context operand_count
-returns-in-Sum c v =
-    let e = shape v c.kind_of.ensures c.reader-in-Sum.ensures ∙ (reckons _ _ v.tree c.in-Sum.is).1 in (
-      enters_as (c.may_read-in-Sum.ensures v.type v.sized.held ∙ sym (asked v e (properties_of c.args.groups.now) c.args.place)) (context v e) (stayed v.binders v.holds),
-      λ z. front_aside (ap operand_count e) v.sized,
-    )
+returns-in-Sum c =
+    let e = λ (v : AfterFirst c.args.part.now c.args.binders c.args.work.now c.args.count). shape v c.kind_of.ensures c.reader-in-Sum.ensures ∙ (reckons _ _ v.tree c.in-Sum.is).1 in
+    record {
+      enters = λ v.
+          enters_as (c.may_read-in-Sum.ensures v.type v.sized.held ∙ sym (asked v (e v) (properties_of c.args.groups.now) c.args.place))
+          (context v (e v)) (stayed v.binders v.holds);
+      kept = λ v z. front_aside (ap operand_count (e v)) v.sized;
+    }
 
 pub returns-in_default : goal.returns-in_default
 unfolding between second_context operand_count
-returns-in_default c v =
+returns-in_default c =
     let f = c.kind_of.ensures in
+    let e = λ (v : AfterFirst c.args.part.now c.args.binders c.args.work.now c.args.count).
     let a = arity_of v.tree v.is f in
     let z = case_left _ (omega (arith, a, v.some)) c.in_default.not-Pair c.in_default.not-Application c.in_default.not-Sum c.in_default.not-Less in
-    let e = shape v (sym z ∙ f) c.reader-in_default.ensures in
-    let h = c.test.ensures v.ctx v.type v.sized v.binders v.holds in
-    let q = asked v e (properties_of c.args.groups.now) c.args.place in
-    (enters_for q (context v e) h.0, λ y. slot_aside (ap operand_count e) (h.1 (sym q ∙ y)))
+    shape v (sym z ∙ f) c.reader-in_default.ensures in
+    let q = λ (v : AfterFirst c.args.part.now c.args.binders c.args.work.now c.args.count). asked v (e v) (properties_of c.args.groups.now) c.args.place in
+    record {
+      enters = λ v. enters_for (q v) (context v (e v)) (c.test.ensures.enters v.ctx v.type v.sized v.binders v.holds);
+      kept = λ v y. slot_aside (ap operand_count (e v)) (c.test.ensures.kept v.ctx v.type v.sized v.binders v.holds (sym (q v) ∙ y));
+    }

@@ -5,4 +5,4 @@ use Rattle.inference.proofs.bind.Goals as goal
 
 pub returns : goal.returns
 returns c = λ Γ t q l h.
-    slot_written q.small refl c.requires.1 (c.copy_type.ensures t q.held).1 l h
+    slot_written q.small refl c.requires.room (c.copy_type.ensures.work t q.held) l h

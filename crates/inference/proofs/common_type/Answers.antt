@@ -7,11 +7,11 @@ use Rattle.rules.specs.Typing.{found_or}
 use Rattle.answer.specs.declared.Question.TheVariants.{CommonType}
 use Rattle.common_types.specs.Walks.{TwoTypes, Walked}
 use Rattle.types.proofs.Parts.{type_length}
-use Rattle.inference.specs.Memory.{Both, Gives, refuses}
+use Rattle.inference.specs.Memory.{TwoTypesHeld, Gives, meets_refusal}
 use Rattle.inference.proofs.Regions.{written}
 use Rattle.inference.proofs.common_type.Goals as goal
 
-abbrev two_types : {w : Bytes} → Both w → TwoTypes w 0 type_limit
+abbrev two_types : {w : Bytes} → TwoTypesHeld w → TwoTypes w 0 type_limit
 two_types v =
     record {
       first = v.first;
@@ -24,7 +24,7 @@ two_types v =
 -- what is found, by whether there is a common type
 found : (o : math.Option Ty) (place : ℕ) {s : Ty} {w w' : Bytes} {x : Option ℕ} → Walked o s 0 w x w' → size_t s ≤ type_limit
     → Gives (found_or place o) w (ok_or x (record { question = CommonType; place = place })) w'
-found math.none place h m = λ b l. rw h.says refuses
+found math.none place h m = λ b l. rw h.says meets_refusal
 found (math.some u) place h m = rw h.says (written refl (omega (arith, ap length (h.is u refl), type_length u, h.within)) (h.is u refl) h.wrote)
 
 pub returns : goal.returns

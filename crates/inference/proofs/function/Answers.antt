@@ -16,14 +16,14 @@ returns-in_err-ask c s t p q =
 
 pub slice_bounds-put-end : goal.slice_bounds-put-end
 slice_bounds-put-end c =
-    let p = c.requires.0 in
+    let p = c.requires.parameter in
     sym (taken_length p.slot.held _ (c.type_records-m.ensures p.type p.slot.held))
 
 pub put-requires : goal.put-requires
 put-requires c =
-    let p = c.requires.0 in
+    let p = c.requires.parameter in
     let e = c.type_records-m.ensures p.type p.slot.held in
-    omega (arith, taken_length p.slot.held _ e, c.shift.auto.w, in_limit 24 c.args.place c.in_ok-ask.ensures, c.requires.1.1)
+    omega (arith, taken_length p.slot.held _ e, c.shift.auto.buffer, in_limit 24 c.args.place c.in_ok-ask.ensures, c.requires.room)
 
 pub returns : goal.returns
 returns c s t p q =
@@ -32,4 +32,4 @@ returns c s t p q =
     let e = c.type_records-m.ensures s p.held in
     passed (c.in_ok-ask.ensures ∙ asks_24 o.place _ function k s t (omega (arith, e, q.count)))
     (function_given k _ o.n s t (omega (arith, in_limit 24 c.args.place c.in_ok-ask.ensures, e, q.count)) e q.count
-    (held_bytes p.held _ e) (held_bytes q.held o.n q.count) c.requires.1.1 c.shift.ensures c.put.ensures c.put-2.ensures)
+    (held_bytes p.held _ e) (held_bytes q.held o.n q.count) c.requires.room c.shift.ensures c.put.ensures c.put-2.ensures)

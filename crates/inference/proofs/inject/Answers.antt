@@ -10,8 +10,8 @@ use Rattle.inference.proofs.inject.Goals as goal
 
 pub is_subtype-fits-requires : goal.is_subtype-fits-requires
 is_subtype-fits-requires c =
-    let p = c.requires.0 in
-    (rw to_end c.requires.1.0, record { type = _; held = c.side_of.ensures p.type p.slot.held })
+    let p = c.requires.sum in
+    record { first = rw to_end c.requires.operand; second = record { type = _; held = c.side_of.ensures p.type p.slot.held } }
 
 pub returns-in_err-ask : goal.returns-in_err-ask
 returns-in_err-ask c u t p h =

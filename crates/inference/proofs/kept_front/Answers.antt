@@ -22,5 +22,5 @@ returns-in_default c e p = kept e p c.in-Some.ensures (sym c.if-is_injection.fal
 
 pub returns-in_default-2 : goal.returns-in_default-2
 returns-in_default-2 c e p =
-    let h : kinds.less < kind c.args.s.now 0 = c.in_default.ensures in
+    let h : kinds.less < kind c.args.part.now 0 = c.in_default.ensures in
     absurd (omega (arith, stands_known _ _ e (at_front e p)))

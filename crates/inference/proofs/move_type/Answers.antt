@@ -17,23 +17,26 @@ module _ (from : ℕ) (w : Bytes) (p : Starts (drop from w)) where
   fits e = omega (arith, held_within from w p.held)
 
 pub slice_bounds-type_records-count : goal.slice_bounds-type_records-count
-slice_bounds-type_records-count c = within _ _ c.requires.0
+slice_bounds-type_records-count c = within _ _ c.requires.starts
 
 pub slice_bounds-type_records-start : goal.slice_bounds-type_records-start
-slice_bounds-type_records-start c = within _ _ c.requires.0
+slice_bounds-type_records-start c = within _ _ c.requires.starts
 
 pub overflow_mul-n : goal.overflow_mul-n
 overflow_mul-n c =
-    let p = c.requires.0 in
-    omega (arith, fits c.args.from c.args.w.now p (c.type_records-n.ensures p.type (rw to_end p.held)))
+    let p = c.requires.starts in
+    omega (arith, fits c.args.from c.args.work.now p (c.type_records-n.ensures p.type (rw to_end p.held)))
 
 pub shift-requires : goal.shift-requires
 shift-requires c =
-    let p = c.requires.0 in
-    let q = fits c.args.from c.args.w.now p (c.type_records-n.ensures p.type (rw to_end p.held)) in
-    (q, omega (arith, q))
+    let p = c.requires.starts in
+    let q = fits c.args.from c.args.work.now p (c.type_records-n.ensures p.type (rw to_end p.held)) in
+    record { source = q; target = omega (arith, q) }
 
 pub returns : goal.returns
-returns c t h =
-    let e = c.type_records-n.ensures t (rw to_end h) in
-    (e, c.shift.ensures ∙ ap (λ y. splice c.args.to y c.args.w.now) (held_bytes h _ e))
+returns c =
+    record {
+      count = λ t h. c.type_records-n.ensures t (rw to_end h);
+      work = λ t h.
+          c.shift.ensures ∙ ap (λ y. splice c.args.to y c.args.work.now) (held_bytes h _ (c.type_records-n.ensures t (rw to_end h)));
+    }

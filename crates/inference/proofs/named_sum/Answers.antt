@@ -12,9 +12,8 @@ use Rattle.inference.proofs.named_sum.Goals as goal
 pub returns : goal.returns
 returns c u p =
     let k = said_property c.args.property in
-    let m = c.copy_type-n.ensures u p.held in
-    let o = c.requires.0 in
+    let o = c.requires.sum in
     let two = two_of (record { type = o.type; held = o.slot.held; two = o.two }) u p.held in
     let z = other_size u k two in
-    written (m.0 ∙ sym z) (omega (arith, z, p.small)) refl
-    (c.put.ensures ∙ ap (splice 0 (type_record (former_kind sum) k)) m.1 ∙ other_record u k c.args.w.now two)
+    written (c.copy_type-n.ensures.count u p.held ∙ sym z) (omega (arith, z, p.small)) refl
+    (c.put.ensures ∙ ap (splice 0 (type_record (former_kind sum) k)) (c.copy_type-n.ensures.work u p.held) ∙ other_record u k c.args.work.now two)

@@ -1,6 +1,6 @@
 use Rattle.rules.specs.Groups.{properties_of}
 use Rattle.lattice.specs.Said.{said_influence}
-use Rattle.inference.specs.Memory.{finds}
+use Rattle.inference.specs.Memory.{meets_type}
 use Rattle.inference.proofs.Rules.{raise_wrote, unchanged}
 use Rattle.inference.proofs.protect.Goals as goal
 
@@ -8,4 +8,4 @@ pub returns : goal.returns
 returns c = λ t h b l.
     let a = c.args in
     let raised = c.raise.ensures in
-    finds (raise_wrote (properties_of a.groups.now) (said_influence a.by) (unchanged h) (raised.0 t h.held) raised.1 l)
+    meets_type (raise_wrote (properties_of a.groups.now) (said_influence a.by) (unchanged h) (raised.raised t h.held) raised.size l)

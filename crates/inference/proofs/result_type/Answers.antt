@@ -7,15 +7,15 @@ use Rattle.rules.specs.Groups.{properties_of}
 use Rattle.rules.specs.Types.{type_at}
 use Rattle.rules.specs.Script.{number, own_at}
 use Rattle.types.specs.Held.{Held}
-use Rattle.inference.specs.Memory.{Both}
-use Rattle.inference.specs.Stages.{Branches}
+use Rattle.inference.specs.Memory.{TwoTypesHeld}
+use Rattle.inference.specs.Stages.{BranchesTyped}
 use Rattle.inference.proofs.Names.{within, named, owns}
 use Rattle.inference.proofs.Rules.{result_own, gives_of}
 use Rattle.inference.proofs.result_type.Goals as goal
 
-module _ {types s w : Bytes} (v : Branches types s w) where
+module _ {types s w : Bytes} (v : BranchesTyped types s w) where
   -- where the second branch's type stands
-  abbrev both : own_at s 0 ≡ true → Both w
+  abbrev both : own_at s 0 ≡ true → TwoTypesHeld w
   both e =
       record {
         first = v.first;
@@ -36,17 +36,21 @@ returns-then-finds_own c v =
     let f = c.finds_own.ensures in
     let q = c.if-finds_own.true in
     gives_of
-    (result_own (properties_of c.args.groups.now) c.args.place (type_at c.args.types.now) (number c.args.s.now 0) v.first v.second (own_is v f q))
+    (result_own (properties_of c.args.groups.now) c.args.place (type_at c.args.types.now) (number c.args.part.now 0) v.first v.second (own_is v f q))
     (c.common_type.ensures (both v (sym f ∙ q)))
 
 pub named-requires : goal.named-requires
 named-requires c =
     let v = c.requires in
-    (v.node.long, within _ _ (v.node.named (own_is v c.finds_own.ensures c.if-finds_own.false)))
+    record { node = v.node.long; in_table = within _ _ (v.node.named (own_is v c.finds_own.ensures c.if-finds_own.false)) }
 
 pub adopt-requires : goal.adopt-requires
 adopt-requires c =
     let v = c.requires in
     let f = c.finds_own.ensures in
     let q = c.if-finds_own.false in
-    (named v.node.table (v.node.named (own_is v f q)) c.named.ensures, (record { type = v.second; held = front v (sym f ∙ q) }, v.room))
+    record {
+      wanted = named v.node.table (v.node.named (own_is v f q)) c.named.ensures;
+      starts = record { type = v.second; held = front v (sym f ∙ q) };
+      room = v.room;
+    }

@@ -8,12 +8,11 @@ pub move_type-requires : goal.move_type-requires
 move_type-requires c =
     let a = c.args in
     let v = c.requires in
-    let q = slot_at a.i a.b a.w.now v.ctx v.binders v.holds v.below (omega (arith, v.room)) in
-    (record { type = get_or v.ctx a.i no_type; held = q.held }, omega arith)
+    let q = slot_at a.i a.binders a.work.now v.ctx v.binders v.holds v.below (omega (arith, v.room)) in
+    record { starts = record { type = get_or v.ctx a.i no_type; held = q.held }; down = omega arith }
 
 pub returns : goal.returns
 returns c Γ l h =
     let a = c.args in
-    let q = slot_at a.i a.b a.w.now Γ l h c.requires.below (omega (arith, c.requires.room)) in
-    let m = c.move_type.ensures (get_or Γ a.i no_type) q.held in
-    written m.0 q.small refl m.1 a.b c.requires.room
+    let q = slot_at a.i a.binders a.work.now Γ l h c.requires.below (omega (arith, c.requires.room)) in
+    written (c.move_type.ensures.count (get_or Γ a.i no_type) q.held) q.small refl (c.move_type.ensures.work (get_or Γ a.i no_type) q.held) a.binders c.requires.room

@@ -4,4 +4,4 @@ use Rattle.lattice.proofs.Words.{bit_by_division}
 use Rattle.lattice.proofs.bit.Goals as goal
 
 pub returns : goal.returns
-returns c = bit_by_division c.args.word c.args.h (omega arith)
+returns c = bit_by_division c.args.word c.args.group (omega arith)

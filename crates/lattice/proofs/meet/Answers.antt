@@ -5,7 +5,7 @@ use Rattle.lattice.proofs.meet.Goals as goal
 pub loop-k-init : goal.loop-k-init
 loop-k-init c =
     let e = c.rows_to_search-k.ensures in
-    (e.0, past_table c.args.groups.now c.args.g c.args.h _ e.0 e.1)
+    (e.within, past_table c.args.groups.now c.args.g c.args.h _ e.within e.zeros)
 
 pub returns-then-below_both : goal.returns-then-below_both
 returns-then-below_both c =

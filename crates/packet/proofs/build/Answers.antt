@@ -1,7 +1,5 @@
 -- Three pieces, one after the other.
-use Rattle.std.proofs.Common.{rules}
-use Rattle.std.proofs.Common.{◌≡◌, ap₂, ◌∙◌, ◌++◌, ℕ}
-use Rattle.std.proofs.Common.{subst as transport}
+use Rattle.std.proofs.Common.{rules, ◌≡◌, ap₂, ◌∙◌, ◌++◌, ℕ, subst as transport}
 use Rattle.rules.specs.Answer.{Bytes}
 use Rattle.rules.specs.Packet.{application}
 use Rattle.memory.specs.Splice.{splice}
@@ -18,5 +16,5 @@ returns c =
     transport (λ (b : Bytes). Written (b ++ (a.script.now ++ a.entry.now)) c.new-out.result c.put-3.new.self) c.record.ensures
     (then c.put.ensures (then c.put-2.ensures c.put-3.ensures)) in
     let h : c.put-3.new.self.out.now ≡ splice 0 whole a.first.now =
-    m.holds ∙ ap₂ (λ (n : ℕ) (o : MutBor Bytes). splice n whole o.now) c.new-out.ensures.0 c.new-out.ensures.1 in
+    m.holds ∙ ap₂ (λ (n : ℕ) (o : MutBor Bytes). splice n whole o.now) c.new-out.ensures.empty c.new-out.ensures.lent in
     search rules

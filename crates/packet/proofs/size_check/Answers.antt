@@ -11,11 +11,11 @@ unfolding size_check
 returns-in_default c group =
     let a = c.args in
     let whole = application group a.script.now a.entry.now in
-    at_no (q13 (a.first ∷ a.scratch ∷ []) whole) (q18_whole whole) c.in_default.is (c.question_13-fits.ensures group)
+    at_no (q13 (a.first ∷ a.scratch ∷ []) whole) (q18_whole whole) c.in_default.is (c.ask_script_length-fits.ensures group)
 
 pub returns : goal.returns
 unfolding size_check
 returns c group =
     let a = c.args in
     let whole = application group a.script.now a.entry.now in
-    after_yes (q13 (a.first ∷ a.scratch ∷ []) whole) (q18_whole whole) c.in-Ok.is (c.question_13-fits.ensures group) (c.question_18.ensures group)
+    after_yes (q13 (a.first ∷ a.scratch ∷ []) whole) (q18_whole whole) c.in-Ok.is (c.ask_script_length-fits.ensures group) (c.ask_depth.ensures group)

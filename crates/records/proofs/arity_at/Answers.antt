@@ -7,4 +7,4 @@ pub returns : goal.returns
 unfolding arity
 returns c =
     let e = c.from.ensures ∙ ap (λ f. f.operands) c.signature_at.ensures in
-    (e, omega (arith, arity_small (kind c.args.script.now c.args.i)))
+    record { value = e; small = omega (arith, arity_small (kind c.args.script.now c.args.index)) }

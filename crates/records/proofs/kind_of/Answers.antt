@@ -19,4 +19,4 @@ pub unwrap-requires : goal.unwrap-requires
 unwrap-requires c = named _ _ (stands_known _ _ c.requires.tree c.requires.at) c.kind_at.ensures
 
 pub returns : goal.returns
-returns c = let P : Option Kind → Type 0 = KindIs (kind c.args.script.now c.args.i) in subst P c.unwrap.ensures c.kind_at.ensures
+returns c = let P : Option Kind → Type 0 = KindIs (kind c.args.script.now c.args.index) in subst P c.unwrap.ensures c.kind_at.ensures

@@ -10,14 +10,14 @@ loop-i-init c = (omega arith, omega arith, refl)
 pub returns-then-pending-eq0 : goal.returns-then-pending-eq0
 returns-then-pending-eq0 c =
     sym (comes_to_end _ _ _ _ (omega arith))
-    ∙ next_record _ _ _ _ _ (omega arith) (omega arith) c.arity_at.ensures.0
+    ∙ next_record _ _ _ _ _ (omega arith) (omega arith) c.arity_at.ensures.value
     ∙ c.loop-i.invariant.2
 
 pub loop-i-preserved : goal.loop-i-preserved
 loop-i-preserved c = (
   omega arith,
   omega arith,
-  next_record _ _ _ _ _ (omega arith) (omega arith) c.arity_at.ensures.0 ∙ c.loop-i.invariant.2,
+  next_record _ _ _ _ _ (omega arith) (omega arith) c.arity_at.ensures.value ∙ c.loop-i.invariant.2,
 )
 
 pub returns : goal.returns

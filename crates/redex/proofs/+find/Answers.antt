@@ -1,6 +1,5 @@
 -- An operand's place, depth and answer come from its position in the term.
-use Rattle.std.proofs.Common.{◌≡◌, ℕ, ◌+◌, refl, arith}
-use Rattle.std.proofs.Math.Bool.{So}
+use Rattle.std.proofs.Common.{◌≡◌, ℕ, ◌+◌, refl, arith, IsTrue}
 use Rattle.calculus.specs.Terms.{Term, is_value}
 use Rattle.rules.specs.Groups.{properties_of}
 use Rattle.rules.specs.Types.{type_at}
@@ -10,15 +9,15 @@ use Rattle.records.specs.Operands.{first_operand, second_operand}
 use Rattle.records.proofs.Weights.{weights, stands_weight}
 use Rattle.records.proofs.Stands.{there}
 use Rattle.redex.specs.Found.{finds_value}
-use Rattle.redex.proofs.Forms.{Second, alone_value, function_value, pair_value, injection_value}
-use Rattle.redex.proofs.Forms.{one_turn, lone_turn}
+use Rattle.redex.proofs.Forms.{Second, alone_value, function_value, pair_value, injection_value, one_turn, lone_turn}
 use Rattle.redex.proofs.Searches.{position_shallow, lift, fired}
-use Rattle.redex.proofs.Stages.{kind_read, alone_read, lone_read, Opened, opened, is_kind, injects, of_one, first_at, first_of, FirstValue, first_value, second_of, second_at, both_turn, value_found}
+use Rattle.redex.proofs.Stages.{kind_read, alone_read, lone_read, Opened, opened, is_kind, injects, of_one, first_at}
+use Rattle.redex.proofs.Stages.{first_of, FirstValue, first_value, second_of, second_at, both_turn, value_found}
 use Rattle.redex.proofs.+find.Goals as goal
 use Rattle.redex.proofs.+find.Goals.{In_default, In-Value, In_default-kind, In-Value-second, In_default-kind-2}
 
--- What the search knows of a node that stands there, arm by arm: its first operand comes next; that one is a value; the second comes next,
--- and is a value too.
+-- What the search knows of a node that stands there, arm by arm: its first operand comes next; that one is a value; the
+-- second comes next, and is a value too.
 module _ (t : ℕ) {e : Term} where
   evaluating : (c : In_default t) → At c.args.script.now c.args.at e → Opened c.args.script.now c.args.at c.kind_of-kind.result e
   evaluating c a = opened c.kind_of-kind.ensures c.in_default.not-Variable c.in_default.not-Unit c.in_default.not-Literal c.in_default.not-Function c.in_default.not-Recursion a
@@ -33,7 +32,7 @@ module _ (t : ℕ) {e : Term} where
       second_of f d.not-FirstInjection d.not-SecondInjection d.not-FirstProjection d.not-SecondProjection d.not-Case d.not-Protect
 
   second_is : (c : In-Value-second t) → FirstValue c.args.script.now c.args.at c.kind_of-kind.result e c.in-Value.next → Second e
-      → So (is_value (second_operand e)) × (c.in-Value-second.end ≡ c.in-Value.next + size (second_operand e))
+      → IsTrue (is_value (second_operand e)) × (c.in-Value-second.end ≡ c.in-Value.next + size (second_operand e))
   second_is c f x = value_found (c.find-second.ensures (second_operand e) (second_at f x)) c.in-Value-second.is
 
 pub turn-requires : goal.turn-requires
@@ -63,15 +62,15 @@ pub find-first-requires : goal.find-first-requires
 find-first-requires t c =
     let q = c.requires in
     let o = evaluating t (goal.at.find-first-requires t c).In_default q.at in
-    let h = position_shallow c.args.depth (first_of o c.weight.ensures.0) q.shallow in (
-      omega (arith, c.decreases, h, c.weight.ensures.0, stands_weight q.at, (weights q.tree).0),
+    let h = position_shallow c.args.depth (first_of o c.weight.ensures.value) q.shallow in (
+      omega (arith, c.decreases, h, c.weight.ensures.value, stands_weight q.at, (weights q.tree).0),
       record { tree = first_operand q.tree; at = first_at o; shallow = h },
     )
 
 pub returns-in_default-first : goal.returns-in_default-first
 returns-in_default-first t c e a =
     let o = evaluating t (goal.at.returns-in_default-first t c).In_default a in
-    lift (properties_of c.args.groups.now) (type_at c.args.types.now) c.args.at c.args.depth e (c.args.at + 1) refl (first_of o c.weight.ensures.0)
+    lift (properties_of c.args.groups.now) (type_at c.args.types.now) c.args.at c.args.depth e (c.args.at + 1) refl (first_of o c.weight.ensures.value)
     (c.find-first.ensures (first_operand e) (first_at o)) c.in_default-first.not-Value
 
 pub returns-in-FirstInjection : goal.returns-in-FirstInjection

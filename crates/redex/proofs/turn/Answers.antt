@@ -1,6 +1,5 @@
 -- The kind of the node tells which operands are read.
-use Rattle.std.proofs.Common.{◌≡◌, sym, ap, ◌∙◌, ℕ, ◌+◌, ◌⊎◌, inl, inr, arith}
-use Rattle.std.proofs.Math.Bool.{So}
+use Rattle.std.proofs.Common.{◌≡◌, sym, ap, ◌∙◌, ℕ, ◌+◌, ◌⊎◌, inl, inr, arith, IsTrue}
 use Rattle.calculus.specs.Terms.{Term}
 use Rattle.rules.specs.Answer.{Bytes}
 use Rattle.rules.specs.Groups.{properties_of}
@@ -10,23 +9,25 @@ use Rattle.records.specs.Numbers.{kind_number}
 use Rattle.records.specs.Operands.{first_operand}
 use Rattle.records.specs.Place.{At}
 use Rattle.records.specs.declared.Kind.{Kind}
-use Rattle.records.specs.declared.Kind.TheVariants.{Application, FirstProjection, SecondProjection, Case, Protect, Recursion, Sum, Less}
+use Rattle.records.specs.declared.Kind.TheVariants.{Application, FirstProjection, SecondProjection, Case, Protect}
+use Rattle.records.specs.declared.Kind.TheVariants.{Recursion, Sum, Less}
 use Rattle.records.proofs.Numbered.{same_kind}
 use Rattle.records.proofs.Stands.{kind_of, there, here, stands_kind, at_first, at_second}
-use Rattle.redex.specs.Found.{is_destructor, is_reckoning, Reckons}
-use Rattle.redex.proofs.Forms.{variable_fate, variable_left, protect_fate, reckoned_operands, application_reads, one_reads}
+use Rattle.redex.specs.Found.{is_destructor, is_reckoning, ReckonAt}
+use Rattle.redex.proofs.Forms.{variable_fate, variable_left, protect_fate, reckoned_operands, application_reads}
+use Rattle.redex.proofs.Forms.{one_reads}
 use Rattle.redex.proofs.Stages.{kind_read}
 use Rattle.redex.proofs.turn.Goals as goal
 
 module _ {s : Bytes} {at : ℕ} {k : Kind} {e : Term} (is : kind_number k ≡ kind s at) (a : At s at e) where
-  reckons : (k ≡ Sum) ⊎ (k ≡ Less) → So (is_reckoning (kind_of e))
+  reckons : (k ≡ Sum) ⊎ (k ≡ Less) → IsTrue (is_reckoning (kind_of e))
   reckons (inl h) = rw (kind_read is a h)
   reckons (inr h) = rw (kind_read is a h)
 
   left_at : (k ≡ Sum) ⊎ (k ≡ Less) → At s (at + 1) (first_operand e)
   left_at h = at_first s at e a (omega (arith, reckoned_operands e (reckons h)))
 
-  reckoning_at : (k ≡ Sum) ⊎ (k ≡ Less) → {next : ℕ} → next ≡ at + 1 + size (first_operand e) → Reckons s at next e
+  reckoning_at : (k ≡ Sum) ⊎ (k ≡ Less) → {next : ℕ} → next ≡ at + 1 + size (first_operand e) → ReckonAt s at next e
   reckoning_at h n =
       record {
         at = a;
@@ -39,7 +40,7 @@ module _ {s : Bytes} {at : ℕ} {k : Kind} {e : Term} (is : kind_number k ≡ ki
 abbrev Destructor : Kind → Type 0
 Destructor k = (k ≡ Application) ⊎ ((k ≡ FirstProjection) ⊎ ((k ≡ SecondProjection) ⊎ (k ≡ Case)))
 
-destructs : (n : ℕ) (k : Kind) → kind_number k ≡ n → Destructor k → So (is_destructor n)
+destructs : (n : ℕ) (k : Kind) → kind_number k ≡ n → Destructor k → IsTrue (is_destructor n)
 destructs n k is (inl h) = rw (sym is ∙ ap kind_number h) application_reads
 destructs n k is (inr (inl h)) = one_reads _ (inl (sym is ∙ ap kind_number h))
 destructs n k is (inr (inr (inl h))) = one_reads _ (inr (inl (sym is ∙ ap kind_number h)))
@@ -58,7 +59,8 @@ reckoning-requires c =
     record { tree = c.requires.tree; stands = reckoning_at c.kind_of.ensures a c.in-Sum.is n }
 
 pub reading-requires : goal.reading-requires
-reading-requires c = (here c.requires.stands, destructs _ _ c.kind_of.ensures c.in-Application.is)
+reading-requires c =
+    record { here = here c.requires.stands; destructor = destructs _ _ c.kind_of.ensures c.in-Application.is }
 
 pub returns-in-Protect : goal.returns-in-Protect
 returns-in-Protect c e a h =

@@ -10,20 +10,26 @@ returns-in_err-script_check c =
     let a = c.args in
     let e = err_from_is_err_and c.from_residual.result c.from_residual.ensures.1 in
     let h = move_refused a.groups.now a.types.now a.script.now a.written.now (preview_of a.preview) _ c.in_err-script_check.ensures in
-    rw (e.1, e.2) (h.0, h.1, h.2, promised a.groups.now a.types.now a.script.now a.written.now (preview_of a.preview) _ a.written.now h)
+    rw (e.1, e.2) (record {
+      outcome = record { answer = h.0; steps_is = h.1; written_is = h.2 };
+      promise = promised a.groups.now a.types.now a.script.now a.written.now (preview_of a.preview) _ a.written.now h;
+    })
 
 pub plan_step-next-requires : goal.plan_step-next-requires
 plan_step-next-requires c =
     startable [] c.args.groups.now c.args.types.now c.args.script.now (λ k. omega (arith, c.type_inv.groups k)) (λ k. omega (arith, c.type_inv.script k)) (sym c.in_ok-script_check.ensures)
 
-pub returns-in_err-question_35 : goal.returns-in_err-question_35
-returns-in_err-question_35 c =
+pub returns-in_err-ask_preview : goal.returns-in_err-ask_preview
+returns-in_err-ask_preview c =
     let a = c.args in
-    let e = err_from_is_err_and c.from_residual-in_err-question_35.result c.from_residual-in_err-question_35.ensures.1 in
+    let e = err_from_is_err_and c.from_residual-in_err-ask_preview.result c.from_residual-in_err-ask_preview.ensures.1 in
     let h = move_unlike a.groups.now a.types.now a.script.now (sym c.in_ok-script_check.ensures) a.written.now a.preview c.report-report.result _
     (reports a.groups.now a.types.now a.script.now (length a.written.now) c.plan_step-next.ensures c.record_count.ensures c.counted.ensures c.report-report.ensures)
-    c.in_err-question_35.ensures in
-    rw (e.1, e.2) (h.0, h.1, h.2, promised a.groups.now a.types.now a.script.now a.written.now (preview_of a.preview) _ a.written.now h)
+    c.in_err-ask_preview.ensures in
+    rw (e.1, e.2) (record {
+      outcome = record { answer = h.0; steps_is = h.1; written_is = h.2 };
+      promise = promised a.groups.now a.types.now a.script.now a.written.now (preview_of a.preview) _ a.written.now h;
+    })
 
 pub take_step-requires : goal.take_step-requires
 take_step-requires c = c.plan_step-next.ensures
@@ -34,5 +40,8 @@ returns c =
     let h = move_made a.groups.now a.types.now a.script.now (sym c.in_ok-script_check.ensures) a.written.now c.take_step.new.written a.preview
     (record { report = c.report-report.result; steps = c.raised.result })
     (reports a.groups.now a.types.now a.script.now (length a.written.now) c.plan_step-next.ensures c.record_count.ensures c.counted.ensures c.report-report.ensures)
-    c.in_ok-question_35.ensures c.raised.ensures c.take_step.ensures in
-    (h.0, h.1, h.2, promised a.groups.now a.types.now a.script.now a.written.now (preview_of a.preview) _ c.take_step.new.written h)
+    c.in_ok-ask_preview.ensures c.raised.ensures c.take_step.ensures in
+    record {
+      outcome = record { answer = h.0; steps_is = h.1; written_is = h.2 };
+      promise = promised a.groups.now a.types.now a.script.now a.written.now (preview_of a.preview) _ c.take_step.new.written h;
+    }

@@ -8,14 +8,14 @@ use Rattle.rules.specs.Types.{type_at}
 use Rattle.rules.specs.Script.{records, term, size}
 use Rattle.rules.specs.Step.{exceeds}
 use Rattle.records.proofs.Stands.{here, start_records}
-use Rattle.demands.proofs.Steps.{within_limits}
+use Rattle.promises.proofs.Steps.{within_limits}
 use Rattle.redex.specs.Fates.{contractum}
 use Rattle.redex.proofs.Turns.{site_moves}
 use Rattle.substitution.proofs.Nodes.{depth_size}
 use Rattle.contraction.specs.declared.Plan.{Plan}
 use Rattle.substitution.specs.declared.Size.{Size}
-use Rattle.contraction.specs.Plans.{Fires, Planned, Ready, Measures}
-use Rattle.reduction.specs.Steps.{Sited, Placing, foresees_step, foresees_stop, told}
+use Rattle.contraction.specs.Plans.{Fires, Planned, PlannedRedex, Measures}
+use Rattle.reduction.specs.Steps.{Sited, Placing, foresees_step, foresees_stop, step_records}
 use Rattle.contraction.proofs.Redexes.{left_side}
 use Rattle.contraction.proofs.Plans.{contractum_limit}
 use Rattle.contraction.proofs.Rooms.{contractum_few}
@@ -39,7 +39,7 @@ module _ {g t s : Bytes} {at around : ℕ} (q : Sited g t s at around) where
     left = left_side (properties_of g) (type_at t) q.site.redex q.site.turn q.site.goes;
   }
 
-  abbrev ready : {p : Plan} → ((f : Fires s at) → Planned s f.tree p) → Ready s at p
+  abbrev ready : {p : Plan} → ((f : Fires s at) → Planned s f.tree p) → PlannedRedex s at p
   ready plan = record {
     tree = q.site.redex;
     stands = redex_at (started q.start) q.site;
@@ -121,7 +121,7 @@ returns-then-exceeds c g t q =
     let m = c.measure-size.ensures (ready q c.plan_of-plan.ensures) S tab in
     let n = total q (c.end_of-end.ensures _ (redex_at (started q.start) q.site)) c.record_count.ensures m in
     let big = c.exceeds.ensures ∙ exceeds_is (started q.start) q.site c.args.room _ _ (part q) n m.deep in
-    foresees_stop (ap told (ends_too_big S tab (term c.args.script.now) c.args.room (whole q) (site_moves S tab q.site) (sym big ∙ c.if-exceeds.true)))
+    foresees_stop (ap step_records (ends_too_big S tab (term c.args.script.now) c.args.room (whole q) (site_moves S tab q.site) (sym big ∙ c.if-exceeds.true)))
 
 pub returns : goal.returns
 returns c g t q =

@@ -1,5 +1,4 @@
-use Rattle.std.proofs.Common.{ℕ, ◌≡◌, ap, arith}
-use Rattle.std.proofs.Common.{subst as transport}
+use Rattle.std.proofs.Common.{ℕ, ◌≡◌, ap, arith, subst as transport}
 use Rattle.rules.specs.Script.{term}
 use Rattle.records.proofs.Stands.{at_start}
 use Rattle.calculus.specs.Security.{Security}
@@ -7,7 +6,7 @@ use Rattle.calculus.specs.Types.{Ty}
 use Rattle.calculus.specs.Terms.{Term}
 use Rattle.redex.specs.Found.{Finds}
 use Rattle.redex.specs.declared.Found.{Found}
-use Rattle.reduction.specs.Steps.{told, foresees_stop}
+use Rattle.reduction.specs.Steps.{step_records, foresees_stop}
 use Rattle.reduction.proofs.Starts.{started}
 use Rattle.reduction.proofs.Ends.{ends_value, ends_denied, ends_stuck, found_site}
 use Rattle.reduction.proofs.plan_step.Goals as goal
@@ -33,7 +32,7 @@ plan_at-requires c = record {
 
 pub returns-in-Value : goal.returns-in-Value
 returns-in-Value c =
-    foresees_stop (ap told (ends_value c.args.room (found c.in-Value.is (c.find.ensures _ (at_start _ (started c.requires).encoded)))))
+    foresees_stop (ap step_records (ends_value c.args.room (found c.in-Value.is (c.find.ensures _ (at_start _ (started c.requires).encoded)))))
 
 pub returns-in-Redex : goal.returns-in-Redex
 returns-in-Redex c =
@@ -42,8 +41,8 @@ returns-in-Redex c =
 
 pub returns-in-Denied : goal.returns-in-Denied
 returns-in-Denied c =
-    foresees_stop (ap told (ends_denied c.args.room (found c.in-Denied.is (c.find.ensures _ (at_start _ (started c.requires).encoded)))))
+    foresees_stop (ap step_records (ends_denied c.args.room (found c.in-Denied.is (c.find.ensures _ (at_start _ (started c.requires).encoded)))))
 
 pub returns-in-Stuck : goal.returns-in-Stuck
 returns-in-Stuck c =
-    foresees_stop (ap told (ends_stuck c.args.room (found c.in-Stuck.is (c.find.ensures _ (at_start _ (started c.requires).encoded)))))
+    foresees_stop (ap step_records (ends_stuck c.args.room (found c.in-Stuck.is (c.find.ensures _ (at_start _ (started c.requires).encoded)))))

@@ -10,8 +10,8 @@ use Rattle.reduction.proofs.step.Goals as goal
 pub returns-in_err-script_check : goal.returns-in_err-script_check
 returns-in_err-script_check c =
     let e = err_from_is_err_and c.from_residual.result c.from_residual.ensures.1 in
-    rw (e.1, e.2)
-    (refused_keeps c.args.groups.now c.args.types.now c.args.script.now c.args.written.now (length c.args.written.now) _ c.in_err-script_check.ensures)
+    let h = refused_keeps c.args.groups.now c.args.types.now c.args.script.now c.args.written.now (length c.args.written.now) _ c.in_err-script_check.ensures in
+    rw (e.1, e.2) (record { answer = h.0; written = h.1 })
 
 pub step_term-requires : goal.step_term-requires
 step_term-requires c =
@@ -19,7 +19,8 @@ step_term-requires c =
 
 pub returns : goal.returns
 returns c =
-    let h = passed_step c.args.groups.now c.args.types.now c.args.script.now (length c.args.written.now) (sym c.in_ok-script_check.ensures) in (
-      rw (c.report.ensures, c.record_count-own.ensures) (made_report c.args.script.now c.step_term.ensures.0 h),
-      c.step_term.ensures.1 ∙ sym (ap (λ (o : Answer End). written_after o c.args.written.now) h),
-    )
+    let h = passed_step c.args.groups.now c.args.types.now c.args.script.now (length c.args.written.now) (sym c.in_ok-script_check.ensures) in
+    record {
+      answer = rw (c.report.ensures, c.record_count-own.ensures) (made_report c.args.script.now c.step_term.ensures.answer h);
+      written = c.step_term.ensures.written ∙ sym (ap (λ (o : Answer End). written_after o c.args.written.now) h);
+    }

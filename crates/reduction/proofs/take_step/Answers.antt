@@ -1,5 +1,4 @@
-use Rattle.std.proofs.Common.{◌≡◌, sym, ap, ◌∙◌, ℕ, Result, Ok, Err, length}
-use Rattle.std.proofs.Common.{subst as transport}
+use Rattle.std.proofs.Common.{◌≡◌, sym, ap, ◌∙◌, ℕ, Result, Ok, Err, length, subst as transport}
 use Rattle.rules.specs.Answer.{Bytes}
 use Rattle.rules.specs.Groups.{properties_of}
 use Rattle.rules.specs.Types.{type_at}
@@ -10,16 +9,11 @@ use Rattle.memory.proofs.Laws.{splice_front}
 use Rattle.reduction.specs.Steps.{Foresees, foresees_step, foresees_stop, Placing}
 use Rattle.reduction.specs.declared.NextStep.{NextStep}
 use Rattle.reduction.specs.declared.Stop.{Stop}
-use Rattle.reduction.proofs.Ends.{stays}
 use Rattle.reduction.proofs.take_step.Goals as goal
 
 -- a plan that moves, and one that doesn't
 planned : {g t s : Bytes} {room : ℕ} {n : NextStep} → Foresees g t s room (Ok n) → Placing g t s room n
 planned (foresees_step q) = q
-
-stopped : {g t s : Bytes} {room : ℕ} {stop : Stop} (w : Bytes) → Foresees g t s room (Err stop)
-    → w ≡ front_after (step_in (properties_of g) (type_at t) room (term s)) w
-stopped {g} {t} {s} {room} w (foresees_stop h) = stays (step_in (properties_of g) (type_at t) room (term s)) w h
 
 pub write_new-requires : goal.write_new-requires
 write_new-requires c =

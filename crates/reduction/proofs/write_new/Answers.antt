@@ -1,6 +1,5 @@
-use Rattle.std.proofs.Common.{rules}
-use Rattle.std.proofs.Common.{◌≡◌, refl, ap, ap₂, ◌∙◌, ◌++◌, ℕ, ◌*◌, ◌-◌, ◌≤◌, arith, length, take, drop, length-take-le}
-use Rattle.std.proofs.Common.{subst as transport}
+use Rattle.std.proofs.Common.{rules, ◌≡◌, refl, ap, ap₂, ◌∙◌, ◌++◌, ℕ, ◌*◌, ◌-◌, ◌≤◌, arith, length, take, drop}
+use Rattle.std.proofs.Common.{length-take-le, subst as transport}
 use Rattle.calculus.specs.Terms.{Term}
 use Rattle.rules.specs.Answer.{Bytes}
 use Rattle.rules.specs.Limits.{script_width}
@@ -15,7 +14,7 @@ use Rattle.memory.specs.Written.{Room, Written}
 use Rattle.memory.specs.declared.Writer.{Writer}
 use Rattle.memory.proofs.Placed.{then, room_first, room_next}
 use Rattle.substitution.proofs.Reading.{term_length}
-use Rattle.contraction.specs.Plans.{Fit}
+use Rattle.contraction.specs.Plans.{ContractumRoom}
 use Rattle.reduction.specs.Steps.{Placing}
 use Rattle.reduction.specs.declared.NextStep.{NextStep}
 use Rattle.reduction.proofs.Starts.{started, named_sides}
@@ -51,7 +50,7 @@ module _ {g t s : Bytes} {room : ℕ} {n : NextStep} (q : Placing g t s room n) 
       → Room (encode new ++ after q.site.context) out'
   next_room out e l m = room_next (encode new ++ after q.site.context) (front_written m) (begun_room out e l)
 
-  abbrev fit : (out : Writer) → Room (encode new ++ after q.site.context) out → Fit g t s n.place n.plan out
+  abbrev fit : (out : Writer) → Room (encode new ++ after q.site.context) out → ContractumRoom g t s n.place n.plan out
   fit out r = record {
     order = (started q.start).order;
     ready = record {
@@ -83,10 +82,10 @@ slice_bounds-put-end c =
 pub put-requires : goal.put-requires
 put-requires c =
     let q = c.requires in
-    rw (front_is (started q.start) q.site) (room_first (before q.site.context) _ c.new-out.result (begun_room q c.new-out.result c.new-out.ensures refl))
+    rw (front_is (started q.start) q.site) (room_first (before q.site.context) _ c.new-out.result (begun_room q c.new-out.result (c.new-out.ensures.empty, c.new-out.ensures.lent) refl))
 
 pub write_contractum-requires : goal.write_contractum-requires
-write_contractum-requires c = fit c.requires c.put.new.self (next_room c.requires c.new-out.result c.new-out.ensures refl c.put.ensures)
+write_contractum-requires c = fit c.requires c.put.new.self (next_room c.requires c.new-out.result (c.new-out.ensures.empty, c.new-out.ensures.lent) refl c.put.ensures)
 
 pub overflow_mul-next-2 : goal.overflow_mul-next-2
 overflow_mul-next-2 c = omega (arith, inside c.requires)
@@ -100,13 +99,13 @@ slice_bounds-put-start c = omega (arith, inside c.requires)
 pub put-requires-2 : goal.put-requires-2
 put-requires-2 c =
     let q = c.requires in
-    let r = next_room q c.new-out.result c.new-out.ensures refl c.put.ensures in
+    let r = next_room q c.new-out.result (c.new-out.ensures.empty, c.new-out.ensures.lent) refl c.put.ensures in
     rw (rest_is (started q.start) q.site c.args.next.end q.end_is) (room_next _ (c.write_contractum.ensures (fit q c.put.new.self r)) r)
 
 pub returns : goal.returns
 returns c q =
-    let r = next_room q c.new-out.result c.new-out.ensures refl c.put.ensures in
+    let r = next_room q c.new-out.result (c.new-out.ensures.empty, c.new-out.ensures.lent) refl c.put.ensures in
     let m = whole_written q c.put.ensures (c.write_contractum.ensures (fit q c.put.new.self r)) c.put-2.ensures in
     let h : c.put-2.new.self.out.now ≡ splice 0 (encode q.whole) c.args.written.now =
-    m.holds ∙ ap₂ (λ (n : ℕ) (o : MutBor Bytes). splice n (encode q.whole) o.now) c.new-out.ensures.0 c.new-out.ensures.1 in
+    m.holds ∙ ap₂ (λ (n : ℕ) (o : MutBor Bytes). splice n (encode q.whole) o.now) c.new-out.ensures.empty c.new-out.ensures.lent in
     search rules

@@ -19,8 +19,8 @@ decreases-settle l = 2 * (depth_limit - l.around) + 1
 abbrev pub invariant-settle-loop-focus : goal.invariant-settle-loop-focus
 invariant-settle-loop-focus l =
     (whole : Term) (E : Context) (e : Term)
-    → Stands l.groups l.types (length l.fn.b) l.budget whole E e [] (encode e) l.fn.point l.fn.a l.fn.b → l.around ≡ level E
-    → Going l.groups l.types (length l.fn.b) l.budget whole E l.at (left_to_do l.budget (Ahead l.fn.point)) l.a l.b l.focus
+    → Stands l.groups l.types (length l.fn.back) l.budget whole E e [] (encode e) l.fn.point l.fn.front l.fn.back → l.around ≡ level E
+    → Going l.groups l.types (length l.fn.back) l.budget whole E l.at (left_to_do l.budget (Ahead l.fn.point)) l.front l.back l.focus
 
 abbrev pub decreases-settle-loop-focus : goal.decreases-settle-loop-focus
 decreases-settle-loop-focus l = left_to_do l.budget l.focus

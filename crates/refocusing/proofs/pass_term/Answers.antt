@@ -13,17 +13,18 @@ counted end right n h = omega arith
 pub pass-requires : goal.pass-requires
 pass-requires c =
     let q = c.requires in
-    let n = counted _ _ _ (c.end_of.ensures q.0 q.1) in
-    (omega (arith, n, room _ _ _ q.1), omega (arith, n, q.2))
+    let n = counted _ _ _ (c.end_of.ensures q.term q.stands) in
+    record { from = omega (arith, n, room _ _ _ q.stands); to = omega (arith, n, q.room) }
 
 pub returns : goal.returns
 returns c e a =
     let n = counted _ _ _ (c.end_of.ensures e a) in
-    let h = c.pass.ensures in (
-      omega (arith, n, h.0),
-      omega (arith, n, h.1),
-      h.2,
-      h.3
-          ∙ ap (λ (n : ℕ). splice (script_width * c.args.point.left) (take (script_width * n) (drop (script_width * c.args.point.right) c.args.b.now)) c.args.a.now) n
-          ∙ ap (λ (z : Bytes). splice (script_width * c.args.point.left) z c.args.a.now) (term_taken a),
-    )
+    let h = c.pass.ensures in
+    record {
+      left = omega (arith, n, h.left);
+      right = omega (arith, n, h.right);
+      steps = h.steps;
+      front = h.front
+          ∙ ap (λ (n : ℕ). splice (script_width * c.args.point.left) (take (script_width * n) (drop (script_width * c.args.point.right) c.args.back.now)) c.args.front.now) n
+          ∙ ap (λ (z : Bytes). splice (script_width * c.args.point.left) z c.args.front.now) (term_taken a);
+    }

@@ -8,27 +8,30 @@ use Rattle.memory.specs.Splice.{splice}
 use Rattle.substitution.proofs.Reading.{size_from}
 use Rattle.contraction.specs.Plans.{protection}
 use Rattle.refocusing.proofs.Shifts.{moved_behind, protect_bytes}
+use Rattle.refocusing.specs.Moves.{Component}
 use Rattle.refocusing.proofs.project.Goals as goal
 
 pub protect_record-own-requires : goal.protect_record-own-requires
-protect_record-own-requires c = let q = c.requires.0 in (c.requires.2, omega (arith, q.2, size_from q.0))
+protect_record-own-requires c = let q = c.requires.component in record { order = c.requires.order; operand = omega (arith, q.room, size_from q.term) }
 
 pub overflow_mul-part : goal.overflow_mul-part
-overflow_mul-part c = let q = c.requires.0 in omega (arith, room _ _ _ q.1)
+overflow_mul-part c = let q = c.requires.component in omega (arith, room _ _ _ q.stands)
 
 pub shift-requires : goal.shift-requires
 shift-requires c =
-    let q = c.requires.0 in
-    let e = c.end_of.ensures q.0 q.1 in
-    (omega (arith, room _ _ _ q.1, e), omega (arith, q.2, e))
+    let q = c.requires.component in
+    let e = c.end_of.ensures q.term q.stands in
+    record { source = omega (arith, room _ _ _ q.stands, e); target = omega (arith, q.room, e) }
 
 pub returns : goal.returns
-returns c v a l =
-    let k : c.end_of.result - c.args.part ≡ size v = omega (arith, c.end_of.ensures v a) in (
-      omega (arith, k),
-      refl,
-      refl,
-      moved_behind a c.args.at _ k c.protect_record-own.result (omega arith) c.put.ensures (omega (arith, l)) c.shift.ensures
-          ∙ ap (λ (z : Bytes). splice (script_width * c.args.at) (z ++ encode v) c.args.a.now) c.protect_record-own.ensures
-          ∙ ap (λ (z : Bytes). splice (script_width * c.args.at) z c.args.a.now) (protect_bytes (protection c.args.groups.now c.args.a.now c.args.at) v),
-    )
+returns c =
+    let k : (q : Component c.args.front.now c.args.at c.args.part) → c.end_of.result - c.args.part ≡ size q.term = λ q. omega (arith, c.end_of.ensures q.term q.stands) in
+    record {
+      left = λ q. omega (arith, k q);
+      right = refl;
+      steps = refl;
+      front = λ q.
+          moved_behind q.stands c.args.at _ (k q) c.protect_record-own.result (omega arith) c.put.ensures (omega (arith, q.room)) c.shift.ensures
+          ∙ ap (λ (z : Bytes). splice (script_width * c.args.at) (z ++ encode q.term) c.args.front.now) c.protect_record-own.ensures
+          ∙ ap (λ (z : Bytes). splice (script_width * c.args.at) z c.args.front.now) (protect_bytes (protection c.args.groups.now c.args.front.now c.args.at) q.term);
+    }

@@ -24,11 +24,13 @@ room_for x out e l =
 pub write_contractum-requires : goal.write_contractum-requires
 write_contractum-requires c =
     let q = c.requires in
-    fit q.2 c.new-out.result (room_for (encode (part q.2)) c.new-out.result c.new-out.ensures (omega (arith, q.3, term_length (part q.2))))
+    fit q.contracts c.new-out.result
+    (room_for (encode (part q.contracts)) c.new-out.result (c.new-out.ensures.empty, c.new-out.ensures.lent) (omega (arith, q.fills, term_length (part q.contracts))))
 
 pub returns : goal.returns
-returns c E e q l =
-    let k : length c.args.room.now ≡ length (encode (part q)) = omega (arith, l, term_length (part q)) in
-    let w = c.write_contractum.ensures (fit q c.new-out.result (room_for (encode (part q)) c.new-out.result c.new-out.ensures k)) in
-    let h : c.write_contractum.new.out.out.now ≡ encode (part q) = filled {x = encode (part q)} c.new-out.ensures k w in
+returns c q =
+    let e = part q.contracts in
+    let k : length c.args.room.now ≡ length (encode e) = omega (arith, q.fills, term_length e) in
+    let w = c.write_contractum.ensures (fit q.contracts c.new-out.result (room_for (encode e) c.new-out.result (c.new-out.ensures.empty, c.new-out.ensures.lent) k)) in
+    let h : c.write_contractum.new.out.out.now ≡ encode e = filled {x = encode e} (c.new-out.ensures.empty, c.new-out.ensures.lent) k w in
     search rules

@@ -15,8 +15,8 @@ refusal_line-requires c = refusal_fits _ _ _ _ (omega (arith, c.requires))
 
 pub returns-in-Ok : goal.returns-in-Ok
 returns-in-Ok c =
-    rw (script_accepted c.args.words.now c.args.groups.now c.args.types.now c.args.script.now _ c.in-Ok.ensures.0) (then c.accepted_line.ensures c.run_text.ensures)
+    rw (script_accepted c.args.words.now c.args.groups.now c.args.types.now c.args.script.now _ c.in-Ok.ensures.outcome.says) (then c.accepted_line.ensures c.run_text.ensures)
 
 pub returns-in-Err : goal.returns-in-Err
 returns-in-Err c =
-    rw (script_refused c.args.words.now c.args.groups.now c.args.types.now c.args.script.now _ _ c.in-Err.ensures.0) c.refusal_line.ensures
+    rw (script_refused c.args.words.now c.args.groups.now c.args.types.now c.args.script.now _ _ c.in-Err.ensures.outcome.says) c.refusal_line.ensures

@@ -1,24 +1,26 @@
-use Rattle.std.proofs.Common.{Option, None, Some, not, true, false, true≢false, refl, ◌≡◌, ℕ, ◌*◌, ◌≤◌, length, take, sym, ap, arith}
+use Rattle.std.proofs.Common.{Option, None, Some, not, true, false, true≢false, refl, ◌≡◌, ℕ, ◌*◌, ◌≤◌, length, take}
+use Rattle.std.proofs.Common.{sym, ap, arith}
 use Rattle.std.proofs.lemmas.List.{length-take-le}
 use Rattle.rules.specs.Answer.{Bytes, Octets, Answer, accepted}
 use Rattle.rules.specs.Limits.{sheet_width, report_sheet}
-use Rattle.rules.specs.Calls.{sheeting, sheet_records, sheet_after}
+use Rattle.rules.specs.Calls.{sheet_call, sheet_records, sheet_after}
 use Rattle.rules.specs.Report.{sheet_lines, sheet_text}
 use Rattle.memory.proofs.Placed.{nothing}
 use Rattle.std.specs.Option.{option_eq}
 use Rattle.reduction.specs.contracts.StopPartialEq.TheImpl.{eq-value}
 use Rattle.reduction.specs.declared.Stop.{Stop}
 use Rattle.reduction.specs.declared.Stop.TheVariants.{Value, MayNot, WrongKind, TooBig}
-use Rattle.reduction.specs.Steps.{end_number}
+use Rattle.reduction.specs.Steps.{reported_end}
 use Rattle.report.specs.Room.{value_room}
 use Rattle.report.proofs.SheetBytes.{value_octets}
-use Rattle.report.proofs.Texts.{page_fits, count_within, counted_lines, sheet_refusal, no_value, a_value, refusal_fits, sheet_room}
+use Rattle.report.proofs.Texts.{page_fits, count_within, counted_lines, sheet_refusal, no_value, a_value, refusal_fits}
+use Rattle.report.proofs.Texts.{sheet_room}
 use Rattle.report.proofs.value_text.Goals as goal
 
 -- a value's sheet was written, of n records
-module _ (g t v : Bytes) {n : ℕ} (counted : accepted n ≡ sheet_records (sheeting g t v 0 report_sheet)) where
+module _ (g t v : Bytes) {n : ℕ} (counted : accepted n ≡ sheet_records (sheet_call g t v 0 report_sheet)) where
   abbrev answer : Answer Bytes
-  answer = sheeting g t v 0 report_sheet
+  answer = sheet_call g t v 0 report_sheet
 
   within : sheet_width * n ≤ report_sheet
   within = count_within answer n report_sheet counted (page_fits g t v 0 report_sheet)
@@ -33,19 +35,13 @@ module _ (g t v : Bytes) {n : ℕ} (counted : accepted n ≡ sheet_records (shee
         omega (arith, ap length lines, sheet_room w answer (λ b h. (page_fits g t v 0 report_sheet b h, value_octets g t v 0 report_sheet o p b h)))
 
 -- the test of a stop is one of its number
-value_stop : (stop : Option Stop) → not (option_eq eq-value.it stop (Some Value)) ≡ false → end_number stop ≡ 0
-value_stop None e = absurd (true≢false e)
+value_stop : (stop : Option Stop) → not (option_eq eq-value.it stop (Some Value)) ≡ false → reported_end stop ≡ 0
 value_stop (Some Value) e = refl
-value_stop (Some MayNot) e = absurd (true≢false e)
-value_stop (Some WrongKind) e = absurd (true≢false e)
-value_stop (Some TooBig) e = absurd (true≢false e)
+value_stop _ e = absurd (true≢false e)
 
-other_stop : (stop : Option Stop) → not (option_eq eq-value.it stop (Some Value)) ≡ true → end_number stop ≡ 0 → ⊥
-other_stop None e z = omega arith
+other_stop : (stop : Option Stop) → not (option_eq eq-value.it stop (Some Value)) ≡ true → reported_end stop ≡ 0 → ⊥
 other_stop (Some Value) e z = true≢false (sym e)
-other_stop (Some MayNot) e z = omega arith
-other_stop (Some WrongKind) e z = omega arith
-other_stop (Some TooBig) e z = omega arith
+other_stop _ e z = omega arith
 
 pub returns-then-ne : goal.returns-then-ne
 returns-then-ne c x e h =
@@ -54,20 +50,20 @@ returns-then-ne c x e h =
     rw none (nothing a.text.now (omega (arith, c.requires)))
 
 pub overflow_mul-sheet : goal.overflow_mul-sheet
-overflow_mul-sheet c = omega (arith, within c.args.groups.now c.args.types.now c.args.value.now c.in-Ok.ensures.0)
+overflow_mul-sheet c = omega (arith, within c.args.groups.now c.args.types.now c.args.value.now c.in-Ok.ensures.answer)
 
 pub slice_bounds-sheet-end : goal.slice_bounds-sheet-end
-slice_bounds-sheet-end c = omega (arith, within c.args.groups.now c.args.types.now c.args.value.now c.in-Ok.ensures.0)
+slice_bounds-sheet-end c = omega (arith, within c.args.groups.now c.args.types.now c.args.value.now c.in-Ok.ensures.answer)
 
 pub slice_bounds-sheet_lines-end : goal.slice_bounds-sheet_lines-end
 slice_bounds-sheet_lines-end c =
-    let l = within c.args.groups.now c.args.types.now c.args.value.now c.in-Ok.ensures.0 in
+    let l = within c.args.groups.now c.args.types.now c.args.value.now c.in-Ok.ensures.answer in
     sym (length-take-le (sheet_width * c.in-Ok.count) c.page.new.sheet (omega (arith, l)))
 
 pub sheet_lines-requires : goal.sheet_lines-requires
 sheet_lines-requires c =
     let a = c.args in
-    let l = lines_length a.groups.now a.types.now a.value.now c.in-Ok.ensures.0 a.words.now _ c.in-Ok.ensures.1
+    let l = lines_length a.groups.now a.types.now a.value.now c.in-Ok.ensures.answer a.words.now _ c.in-Ok.ensures.sheet
     (λ j. omega (arith, c.type_inv.groups j)) (λ j. omega (arith, c.type_inv.value j)) in
     omega (arith, l, c.requires)
 
@@ -77,13 +73,13 @@ refusal_line-requires c = refusal_fits _ _ _ _ (omega (arith, c.requires))
 pub returns-in-Ok : goal.returns-in-Ok
 returns-in-Ok c x e h =
     let a = c.args in
-    let l = lines a.groups.now a.types.now a.value.now c.in-Ok.ensures.0 a.words.now _ c.in-Ok.ensures.1 in
+    let l = lines a.groups.now a.types.now a.value.now c.in-Ok.ensures.answer a.words.now _ c.in-Ok.ensures.sheet in
     let v = a_value a.words.now a.groups.now a.types.now a.value.now x _ e (value_stop a.stop (sym c.if-ne.ensures)) h in
     rw (v, ← l) c.sheet_lines.ensures
 
 pub returns-in-Err : goal.returns-in-Err
 returns-in-Err c x e h =
     let a = c.args in
-    let l = sheet_refusal a.words.now _ _ _ c.in-Err.ensures.0 in
+    let l = sheet_refusal a.words.now _ _ _ c.in-Err.ensures.answer in
     let v = a_value a.words.now a.groups.now a.types.now a.value.now x _ e (value_stop a.stop (sym c.if-ne.ensures)) h in
     rw (v, ← l) c.refusal_line.ensures

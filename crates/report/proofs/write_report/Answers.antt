@@ -11,9 +11,9 @@ refusal_line-requires c = refusal_fits _ _ _ _ (omega (arith, c.requires))
 
 pub returns-in-Ok : goal.returns-in-Ok
 returns-in-Ok c =
-    let table = c.in-Ok.ensures in
-    rw (c.in-Some.is, ← own_report c.in-Some.supplied.now c.args.groups.now c.args.types.now c.args.script.now table.0, ← table.1) c.script_text-in-Ok.ensures
+    let checked = c.in-Ok.ensures in
+    rw (c.in-Some.is, ← own_report c.in-Some.supplied.now c.args.groups.now c.args.types.now c.args.script.now checked.accepted, ← checked.table) c.script_text-in-Ok.ensures
 
 pub returns-in-Err : goal.returns-in-Err
 returns-in-Err c =
-    rw (c.in-Some.is, ← words_refused c.in-Some.supplied.now c.args.groups.now c.args.types.now c.args.script.now _ _ c.in-Err.ensures) c.refusal_line.ensures
+    rw (c.in-Some.is, ← words_refused c.in-Some.supplied.now c.args.groups.now c.args.types.now c.args.script.now _ _ c.in-Err.ensures.refused) c.refusal_line.ensures

@@ -7,4 +7,4 @@ loop-i-init c = none_widened
 
 pub loop-i-preserved : goal.loop-i-preserved
 loop-i-preserved c =
-    one_widened c.requires.1 c.loop-i-test.true c.requires.4 c.requires.5 c.loop-i.invariant (simp add-sub_cancel_left at c.put.ensures) c.put-in-loop-i.ensures
+    one_widened c.requires.within c.loop-i-test.true c.requires.there c.requires.room c.loop-i.invariant (simp add-sub_cancel_left at c.put.ensures) c.put-in-loop-i.ensures

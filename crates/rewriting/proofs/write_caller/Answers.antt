@@ -11,11 +11,11 @@ returns-then-not-recursion_of_type c =
 
 pub reader-caller-requires : goal.reader-caller-requires
 reader-caller-requires c =
-    let a = c.args in (
-      c.requires.0,
-      there a.type_width _ c.number-named.result (omega (arith, c.requires.0))
-          (names_type a.type_width a.types.now c.kind.result c.number-named.result (sym c.recursion_of_type.ensures ∙ c.if-not-recursion_of_type.false)),
-    )
+    let a = c.args in record {
+      wide = c.requires.types_wide;
+      there = there a.type_width _ c.number-named.result (omega (arith, c.requires.types_wide))
+          (names_type a.type_width a.types.now c.kind.result c.number-named.result (sym c.recursion_of_type.ensures ∙ c.if-not-recursion_of_type.false));
+    }
 
 pub returns : goal.returns
 returns c =

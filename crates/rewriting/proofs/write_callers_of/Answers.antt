@@ -15,4 +15,5 @@ loop-i-preserved c =
     )
 
 pub returns : goal.returns
-returns c = all_passed _ _ c.requires.1 _ (omega arith) (c.loop-i.invariant.2 c.requires.1)
+returns c =
+    let p = all_passed _ _ c.requires.wide _ (omega arith) (c.loop-i.invariant.2 c.requires.wide) in record { count = p.0; script = p.1 }

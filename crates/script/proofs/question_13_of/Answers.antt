@@ -1,4 +1,4 @@
-use Rattle.std.proofs.Common.{◌∙◌, rules, tests, length, leb}
+use Rattle.std.proofs.Common.{◌∙◌, rules, tests, length, nat_le}
 use Rattle.std.proofs.lemmas.Iterator.{YieldsList-from_slice}
 use Rattle.std.proofs.lemmas.Iterator.Search.{all_from_yields_List}
 use Rattle.script.proofs.Rooms.{asked}
@@ -9,4 +9,4 @@ returns c =
     let a = c.args in
     c.ask.ensures
     ∙ asked a.width a.buffers.now a.script.now c.whole-whole.ensures
-    (all_from_yields_List (leb (length a.script.now)) _ _ c.all-fits.result c.all-fits.ensures.ran (YieldsList-from_slice a.buffers.now cc) (λ x b q k. search (rules, tests)))
+    (all_from_yields_List (nat_le (length a.script.now)) _ _ c.all-fits.result c.all-fits.ensures.ran (YieldsList-from_slice a.buffers.now cc) (λ x b q k. search (rules, tests)))

@@ -8,9 +8,11 @@ use Rattle.records.specs.Kinds as kinds
 use Rattle.records.specs.Place.{At}
 use Rattle.records.specs.Operands.{first_operand, second_operand}
 use Rattle.records.proofs.Stands.{here, there, at_first, at_second}
-use Rattle.sheet.specs.Value.{looked}
+use Rattle.sheet.specs.Value.{value_found}
 use Rattle.sheet.specs.declared.Reached.{Reached}
-use Rattle.sheet.proofs.Values.{kind_is, view, own, own_at, at_most_one, Found, found, lost, looked_no, looked_yes, no_object, no_parts, first_part, injects, pairs, look_injection, look_pair, lines_size, plain, of_injection, no_object_kind}
+use Rattle.sheet.proofs.Values.{kind_is, view, own, own_at, at_most_one, ValueLines, found, lost, looked_no, looked_yes}
+use Rattle.sheet.proofs.Values.{no_object, no_parts, first_part, injects, pairs, look_injection, look_pair, lines_size}
+use Rattle.sheet.proofs.Values.{plain, of_injection, no_object_kind}
 use Rattle.sheet.proofs.+look.Goals as goal
 
 own_most : (shown : Bool) (n : ℕ) {own_line : ℕ} → own_line ≡ n + cond shown 1 0 → own_line ≤ n + 1
@@ -30,36 +32,36 @@ module _ (g : Bytes) (group : ℕ) (shown : Bool) (n : ℕ) {is_open : Bool} {s 
 
   -- an injection's part is all
   injected : kinds.function < k → k ≤ kinds.second_injection → (k ≡ kinds.pair → ⊥) → (u : Term) → At s i u
-      → looked g group (shown && is_open) (first_operand u) (i + 1) own_line ≡ looked g group shown u i n
+      → value_found g group (shown && is_open) (first_operand u) (i + 1) own_line ≡ value_found g group shown u i n
   injected l m h u w =
       let e = kind_is u kind_read w in
       look_injection g group shown (shown && is_open) u i n own_line counts (inside_is u w) (injects (view u) (omega (arith, e)) (omega (arith, e)) (λ x. h (e ∙ x)))
 
   -- the first part of a pair is a value
-  module _ {x : Reached} (is_pair : k ≡ kinds.pair) (u : Term) (w : At s i u) (first_found : Found g group (shown && is_open) (first_operand u) (i + 1) own_line x) where
+  module _ {x : Reached} (is_pair : k ≡ kinds.pair) (u : Term) (w : At s i u) (first_found : ValueLines g group (shown && is_open) (first_operand u) (i + 1) own_line x) where
     second_at : At s x.next (second_operand u)
     second_at = at_second s i u w x.next (pairs (view u) (sym (kind_is u kind_read w) ∙ is_pair)).two first_found.end
 
-    second_looked : looked g group (shown && is_open) (second_operand u) x.next x.line ≡ looked g group shown u i n
+    second_looked : value_found g group (shown && is_open) (second_operand u) x.next x.line ≡ value_found g group shown u i n
     second_looked =
         look_pair g group shown (shown && is_open) u i n own_line counts (inside_is u w) x (pairs (view u) (sym (kind_is u kind_read w) ∙ is_pair)) first_found
 
 pub counted-own-requires : goal.counted-own-requires
-counted-own-requires t c = omega (arith, there _ _ _ c.requires.0.at, c.requires.1)
+counted-own-requires t c = omega (arith, there _ _ _ c.requires.here.at, c.requires.before)
 
 pub is_open-requires : goal.is_open-requires
-is_open-requires t c = there _ _ _ c.requires.0.at
+is_open-requires t c = there _ _ _ c.requires.here.at
 
 pub look-requires : goal.look-requires
 look-requires t c =
     let n = of_injection c.in-FirstInjection.is in
-    let p = first_at c.kind_of.ensures n.0 n.1 _ c.requires.0.at in
-    (omega (arith, c.decreases, there _ _ _ c.requires.0.at), (here p, omega (arith, c.requires.1, own_most c.args.shown c.args.count c.counted-own.ensures)))
+    let p = first_at c.kind_of.ensures n.0 n.1 _ c.requires.here.at in
+    (omega (arith, c.decreases, there _ _ _ c.requires.here.at), (here p, omega (arith, c.requires.before, own_most c.args.shown c.args.count c.counted-own.ensures)))
 
 pub look-requires-in-Pair : goal.look-requires-in-Pair
 look-requires-in-Pair t c =
-    let p = first_at c.in-Pair.ensures (omega arith) (omega arith) _ c.requires.0.at in
-    (omega (arith, c.decreases, there _ _ _ c.requires.0.at), (here p, omega (arith, c.requires.1, own_most c.args.shown c.args.count c.counted-own.ensures)))
+    let p = first_at c.in-Pair.ensures (omega arith) (omega arith) _ c.requires.here.at in
+    (omega (arith, c.decreases, there _ _ _ c.requires.here.at), (here p, omega (arith, c.requires.before, own_most c.args.shown c.args.count c.counted-own.ensures)))
 
 pub returns-in_err-first-in-Pair : goal.returns-in_err-first-in-Pair
 returns-in_err-first-in-Pair t c u w =
@@ -73,13 +75,13 @@ pub look-requires-in-Pair-2 : goal.look-requires-in-Pair-2
 look-requires-in-Pair-2 t c =
     let g = c.args.groups.now in
     let group = c.args.group.0 in
-    let u = c.requires.0.tree in
-    let w = c.requires.0.at in
+    let u = c.requires.here.tree in
+    let w = c.requires.here.at in
     let p = first_at c.in-Pair.ensures (omega arith) (omega arith) u w in
     let f = found g group _ (first_operand u) _ _ _ (c.in_ok-first-in-Pair.ensures (first_operand u) p) in
     let q = second_at g group c.args.shown c.args.count c.in-Pair.ensures c.counted-own.ensures c.is_open.ensures (omega arith) u w f in (
       omega (arith, c.decreases, there _ _ _ w, f.end, there _ _ _ q),
-      (here q, omega (arith, c.requires.1, f.end, f.count, own_most c.args.shown c.args.count c.counted-own.ensures, lines_size g group (c.args.shown && c.is_open.result) (first_operand u))),
+      (here q, omega (arith, c.requires.before, f.end, f.count, own_most c.args.shown c.args.count c.counted-own.ensures, lines_size g group (c.args.shown && c.is_open.result) (first_operand u))),
     )
 
 pub returns-in-Unit : goal.returns-in-Unit

@@ -1,5 +1,6 @@
 -- The questions in order; the value stands at the script's start.
-use Rattle.std.proofs.Common.{◌≡◌, ℕ, ◌*◌, ◌≤◌, true, length, sym, ap, ◌∙◌, arith, rules, leb-true, Option, Some, None, Err, ok_or}
+use Rattle.std.proofs.Common.{◌≡◌, ℕ, ◌*◌, ◌≤◌, true, length, sym, ap, ◌∙◌, arith, rules, leb-true, Option, Some, None}
+use Rattle.std.proofs.Common.{Err, ok_or}
 use Rattle.calculus.specs.Terms.{Term, is_value}
 use Rattle.rules.specs.Answer.{Bytes, Octets, accepted}
 use Rattle.rules.specs.Limits.{script_width}
@@ -10,7 +11,7 @@ use Rattle.rules.proofs.Asked.{ask_true}
 use Rattle.answer.specs.declared.Refusal.{Refusal}
 use Rattle.answer.proofs.Passed.{returned}
 use Rattle.sheet.specs.Before.{before_26}
-use Rattle.sheet.specs.Value.{lines, looked}
+use Rattle.sheet.specs.Value.{lines, value_found}
 use Rattle.sheet.specs.declared.Reached.{Reached}
 use Rattle.sheet.proofs.Values.{found, lost, lines_size}
 use Rattle.sheet.proofs.Sheets.{sheet_length}
@@ -28,7 +29,7 @@ module _ (g t s : Bytes) (group : ℕ) (yes : accepted tt ≡ before_26 g t s gr
   stands : At s 0 (term s)
   stands = at_start s (encoded g t s group s (sym yes) octets)
 
-  counted : {x : Reached} → ((e : Term) → At s 0 e → Some x ≡ looked g group true e 0 0) → Counted g s group x.line
+  counted : {x : Reached} → ((e : Term) → At s 0 e → Some x ≡ value_found g group true e 0 0) → Counted g s group x.line
   counted {x} look =
       let f = found g group true (term s) 0 0 x (look (term s) stands) in
       record {
@@ -42,7 +43,7 @@ pub returns-in_err-asked : goal.returns-in_err-asked
 returns-in_err-asked c =
     let a = c.args in
     let q = stopped a.groups.now a.types.now a.value.now a.group a.sheet.now c.in_err-asked.ensures in
-    rw (returned _ c.from_residual.ensures.1) (q.answer, q.after)
+    record { answer = rw (returned _ c.from_residual.ensures.1) q.answer; sheet = q.after }
 
 pub overflow_cast-reader : goal.overflow_cast-reader
 overflow_cast-reader c =
@@ -53,7 +54,10 @@ overflow_cast-reader c =
 pub look-requires : goal.look-requires
 look-requires c =
     let a = c.args in
-    (here (stands a.groups.now a.types.now a.value.now a.group c.in_ok-asked.ensures (λ j. omega (arith, c.type_inv.value j))), omega arith)
+    record {
+      here = here (stands a.groups.now a.types.now a.value.now a.group c.in_ok-asked.ensures (λ j. omega (arith, c.type_inv.value j)));
+      before = omega arith;
+    }
 
 -- what a value that is missing is refused with
 refused_with : (o : Option Reached) {e r : Refusal} → o ≡ None → Err e ≡ ok_or o r → e ≡ r
@@ -69,7 +73,7 @@ returns-in_err-end c =
     let v = lost _ _ true (term s) _ _ (sym o ∙ c.look.ensures (term s) at) in
     let p = no_value a.groups.now a.types.now s a.group a.sheet.now (sym c.in_ok-asked.ensures) v in
     let e = refused_with c.look.result o c.in_err-end.ensures.value in
-    rw (returned _ c.from_residual-in_err-end.ensures.1, e) (p.answer, p.after)
+    record { answer = rw (returned _ c.from_residual-in_err-end.ensures.1, e) p.answer; sheet = p.after }
 
 pub overflow_mul-end : goal.overflow_mul-end
 overflow_mul-end c =
@@ -84,7 +88,7 @@ returns-in_err-ask c =
     let n = counted a.groups.now a.types.now a.value.now a.group c.in_ok-asked.ensures (λ j. omega (arith, c.type_inv.value j))
     (λ e w. sym c.in_ok-end.ensures.ok_part ∙ c.look.ensures e w) in
     let p = room_asked a.groups.now a.types.now a.value.now a.group a.sheet.now (sym c.in_ok-asked.ensures) n.value n.count_is c.in_err-ask.ensures in
-    rw (returned _ c.from_residual-in_err-ask.ensures.1) (p.answer, p.after)
+    record { answer = rw (returned _ c.from_residual-in_err-ask.ensures.1) p.answer; sheet = p.after }
 
 pub write-requires : goal.write-requires
 write-requires c =
@@ -96,7 +100,7 @@ write-requires c =
       at = n.at;
       value = n.value;
       fits = omega
-          (arith, c.new-out.ensures.0, ap (λ b. length b.now) c.new-out.ensures.1, n.count_is, sheet_length a.groups.now a.group (term a.value.now), leb-true _ _ (ask_true 27 0 _ (sym c.in_ok-ask.ensures)));
+          (arith, c.new-out.ensures.empty, ap (λ b. length b.now) c.new-out.ensures.lent, n.count_is, sheet_length a.groups.now a.group (term a.value.now), leb-true _ _ (ask_true 27 0 _ (sym c.in_ok-ask.ensures)));
     }
 
 pub returns : goal.returns
@@ -105,8 +109,8 @@ returns c =
     let s = a.value.now in
     let n = counted a.groups.now a.types.now s a.group c.in_ok-asked.ensures (λ j. omega (arith, c.type_inv.value j))
     (λ e w. sym c.in_ok-end.ensures.ok_part ∙ c.look.ensures e w) in
-    let w = (c.write.ensures (term s) n.at n.value).1 in
+    let w = (c.write.ensures (term s) n.at n.value).wrote in
     let p = written a.groups.now a.types.now s a.group a.sheet.now (sym c.in_ok-asked.ensures) n.value
-    (omega (arith, n.count_is, leb-true _ _ (ask_true 27 0 _ (sym c.in_ok-ask.ensures)))) _ n.count_is _ (rw (c.new-out.ensures.0, c.new-out.ensures.1) at w.holds) in
+    (omega (arith, n.count_is, leb-true _ _ (ask_true 27 0 _ (sym c.in_ok-ask.ensures)))) _ n.count_is _ (rw (c.new-out.ensures.empty, c.new-out.ensures.lent) at w.holds) in
     let h = p.after in
-    (p.answer, search rules)
+    record { answer = p.answer; sheet = search rules }

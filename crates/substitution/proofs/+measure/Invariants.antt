@@ -7,7 +7,7 @@ use Rattle.substitution.proofs.Counting.{Counted}
 use Rattle.substitution.proofs.+measure.Given as goal
 
 abbrev pub decreases-measure : goal.decreases-measure
-decreases-measure l = length l.script.now - l.i
+decreases-measure l = length l.script.now - l.at
 
 abbrev pub invariant-loop-j : goal.invariant-loop-j
-invariant-loop-j l = (e v : Term) → At l.script l.i e → l.value.records ≡ size v → l.value.depth ≡ depth v → Counted l.i l.n e v l.j l.next l.sum l.below
+invariant-loop-j l = (e v : Term) → At l.script l.at e → l.value.records ≡ size v → l.value.depth ≡ depth v → Counted l.at l.variable e v l.j l.next l.sum l.below

@@ -1,6 +1,5 @@
 -- The loop has written the first j operands.
-use Rattle.std.proofs.Common.{◌≡◌, ℕ, ◌+◌, ◌∙◌, arith}
-use Rattle.std.proofs.Common.{subst as transport}
+use Rattle.std.proofs.Common.{◌≡◌, ℕ, ◌+◌, ◌∙◌, arith, subst as transport}
 use Rattle.calculus.specs.Terms.{Term}
 use Rattle.rules.specs.Answer.{Bytes}
 use Rattle.rules.proofs.Prefix.{joined}
@@ -34,7 +33,8 @@ head_written {w = w} {w' = w'} a m = transport (λ (b : Bytes). Written b w w') 
 
 pub write_record-requires : goal.write_record-requires
 write_record-requires t c =
-    let q = c.requires in (there _ _ _ q.at, record_room q (other_kind _ c.if-eq.ensures c.kind_of-kind.ensures q.at))
+    let q = c.requires in
+    record { inside = there _ _ _ q.at; room = record_room q (other_kind _ c.if-eq.ensures c.kind_of-kind.ensures q.at) }
 
 pub loop-j-init : goal.loop-j-init
 loop-j-init t c = λ u v a e. copied_none _ _ u v c.write_record.new.out (omega (arith, c.write_record.new.out.within))
@@ -43,19 +43,19 @@ pub write-next-requires : goal.write-next-requires
 write-next-requires t c =
     let q = c.requires in
     let p = c.loop-j.invariant _ _ q.at q.pieces in
-    let n = ahead p.passed (omega (arith, c.loop-j-test.true, count_is c.kind_of-kind.ensures q.at c.arity-j-end.ensures.0)) in
-    let z = operand_given q p n (c.args.n + c.from.result) (head_written q.at c.write_record.ensures) (other_kind _ c.if-eq.ensures c.kind_of-kind.ensures q.at)
-    (level_is c.kind_of-kind.ensures q.at c.args.n c.loop-j.j (c.from.ensures ∙ c.binders.ensures.0)) (omega (arith, c.from.ensures, c.binders.ensures.1)) in
+    let n = ahead p.passed (omega (arith, c.loop-j-test.true, count_is c.kind_of-kind.ensures q.at c.arity-j-end.ensures.value)) in
+    let z = operand_given q p n (c.args.variable + c.from.result) (head_written q.at c.write_record.ensures) (other_kind _ c.if-eq.ensures c.kind_of-kind.ensures q.at)
+    (level_is c.kind_of-kind.ensures q.at c.args.variable c.loop-j.j (c.from.ensures ∙ c.binders.ensures.value)) (omega (arith, c.from.ensures, c.binders.ensures.small)) in
     (omega (arith, c.decreases, p.passed.next_is, there _ _ _ z.at), z)
 
 pub loop-j-preserved : goal.loop-j-preserved
 loop-j-preserved t c u v a e =
     let p = c.loop-j.invariant u v a e in
-    let n = ahead p.passed (omega (arith, c.loop-j-test.true, count_is c.kind_of-kind.ensures a c.arity-j-end.ensures.0)) in
-    copied_more p n _ (level_is c.kind_of-kind.ensures a c.args.n c.loop-j.j (c.from.ensures ∙ c.binders.ensures.0))
+    let n = ahead p.passed (omega (arith, c.loop-j-test.true, count_is c.kind_of-kind.ensures a c.arity-j-end.ensures.value)) in
+    copied_more p n _ (level_is c.kind_of-kind.ensures a c.args.variable c.loop-j.j (c.from.ensures ∙ c.binders.ensures.value))
     (c.write-next.ensures n.operand v (operand_here p.passed n a) e)
 
 pub returns : goal.returns
 returns t c u v a e =
     copied_all (c.loop-j.invariant u v a e) (other_kind _ c.if-eq.ensures c.kind_of-kind.ensures a)
-    (omega (arith, c.loop-j-test.false, count_is c.kind_of-kind.ensures a c.arity-j-end.ensures.0)) (head_written a c.write_record.ensures)
+    (omega (arith, c.loop-j-test.false, count_is c.kind_of-kind.ensures a c.arity-j-end.ensures.value)) (head_written a c.write_record.ensures)

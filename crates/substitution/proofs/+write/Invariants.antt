@@ -7,9 +7,9 @@ use Rattle.substitution.proofs.Writing.{Copied}
 use Rattle.substitution.proofs.+write.Given as goal
 
 abbrev pub decreases-write : goal.decreases-write
-decreases-write l = length l.script.now - l.i
+decreases-write l = length l.script.now - l.at
 
 abbrev pub invariant-loop-j : goal.invariant-loop-j
 invariant-loop-j l =
-    (e v : Term) → At l.script l.i e → l.front ++ (l.mid ++ l.back) ≡ encode v
-    → Copied l.i l.n e v l.initial.out l.j l.next l.out
+    (e v : Term) → At l.script l.at e → l.front ++ (l.mid ++ l.back) ≡ encode v
+    → Copied l.at l.variable e v l.initial.out l.j l.next l.out

@@ -9,6 +9,8 @@ slice_bounds-result-count c = long c.requires.held
 pub slice_bounds-result-start : goal.slice_bounds-result-start
 slice_bounds-result-start c = long c.requires.held
 
-pub returns : goal.returns
-returns c =
-    (λ t h. rw to_end (sided_left c.requires t h), rw to_end (simp length-drop (omega (arith, long c.requires.held))))
+pub returns-clause-side : goal.returns-clause-side
+returns-clause-side c t h = rw to_end (sided_left c.requires t h)
+
+pub returns-clause-shorter : goal.returns-clause-shorter
+returns-clause-shorter c = rw to_end (simp length-drop (omega (arith, long c.requires.held)))

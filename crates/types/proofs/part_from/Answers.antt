@@ -4,4 +4,4 @@ use Rattle.types.proofs.Parts.{to_end}
 use Rattle.types.proofs.part_from.Goals as goal
 
 pub returns : goal.returns
-returns c = to_end (type_width * c.args.i) c.args.types.now
+returns c = to_end (type_width * c.args.index) c.args.types.now

@@ -14,11 +14,11 @@ pub returns : goal.returns
 returns c =
     let S = properties_of c.args.groups.now in
     let m = said_influence c.args.by in
-    let put = c.put_property.ensures in (
-      λ t h.
+    let put = c.put_property.ensures in record {
+      raised = λ t h.
           put
-          ∙ ap (λ (x : security.Property). with_property c.args.s.now 0 x)
+          ∙ ap (λ (x : security.Property). with_property c.args.part.now 0 x)
           (c.raised-raised.ensures ∙ ap (λ (x : security.Property). S.raise x m) (c.property.ensures t h))
-          ∙ raised S t m h,
-      ap length put ∙ with_property_length c.args.s.now 0 (said_property c.raised-raised.result),
-    )
+          ∙ raised S t m h;
+      size = ap length put ∙ with_property_length c.args.part.now 0 (said_property c.raised-raised.result);
+    }

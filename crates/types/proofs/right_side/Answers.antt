@@ -15,6 +15,8 @@ slice_bounds-result-count c = omega (arith, counted_fits c.requires)
 pub slice_bounds-result-start : goal.slice_bounds-result-start
 slice_bounds-result-start c = omega (arith, counted_fits c.requires)
 
-pub returns : goal.returns
-returns c =
-    (λ t h. rw to_end (counted_right c.requires t h), rw to_end (simp length-drop (omega (arith, counted_fits c.requires))))
+pub returns-clause-side : goal.returns-clause-side
+returns-clause-side c t h = rw to_end (counted_right c.requires t h)
+
+pub returns-clause-shorter : goal.returns-clause-shorter
+returns-clause-shorter c = rw to_end (simp length-drop (omega (arith, counted_fits c.requires)))

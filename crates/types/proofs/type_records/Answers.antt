@@ -11,7 +11,7 @@ loop-pending-init c = (omega arith, omega arith, refl)
 pub pending_after-pending-requires : goal.pending_after-pending-requires
 pending_after-pending-requires c =
     let w = c.loop-pending in
-    (in_range c.requires w.pending w.i w.invariant.2 (omega arith), w.invariant.1)
+    record { there = in_range c.requires w.pending w.i w.invariant.2 (omega arith); few = w.invariant.1 }
 
 pub loop-pending-smaller : goal.loop-pending-smaller
 loop-pending-smaller c =
@@ -21,7 +21,7 @@ loop-pending-smaller c =
 
 pub loop-pending-preserved : goal.loop-pending-preserved
 loop-pending-preserved c =
-    let s = c.args.s.now in
+    let s = c.args.part.now in
     let w = c.loop-pending in
     let there = in_range c.requires w.pending w.i w.invariant.2 (omega arith) in (
       omega arith,

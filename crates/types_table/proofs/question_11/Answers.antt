@@ -8,7 +8,7 @@ loop-i-init c = nothing_read _ _ _ c.default-pass.ensures.1
 pub loop-i-preserved : goal.loop-i-preserved
 loop-i-preserved c =
     let w = c.loop-i in
-    let h = read _ _ w.pass.start w.pass.pending w.i (omega arith) w.invariant _ _ c.after-pass.ensures.0 c.after-pass.ensures.1 in
+    let h = read _ _ w.pass.start w.pass.pending w.i (omega arith) w.invariant _ _ c.after-pass.ensures.start c.after-pass.ensures.pending in
     again _ _ _ _ _ (skips_11 _) h (ends_11 _ _ _ _ h)
 
 pub returns : goal.returns

@@ -11,13 +11,13 @@ loop-i-init c = nothing_read _ _ _ c.default-pass.ensures.1
 pub returns-in_err-ask : goal.returns-in_err-ask
 returns-in_err-ask c =
     let w = c.loop-i in
-    let h = read _ _ w.pass.start w.pass.pending w.i (omega arith) w.invariant _ _ c.after-pass.ensures.0 c.after-pass.ensures.1 in
+    let h = read _ _ w.pass.start w.pass.pending w.i (omega arith) w.invariant _ _ c.after-pass.ensures.start c.after-pass.ensures.pending in
     left_by _ _ _ _ (c.in_err-ask.ensures ∙ ap (ask 12 _) c.is_short.ensures) c.from_residual.ensures.1 ∙ asked_12 _ _ _ _ h (omega arith)
 
 pub loop-i-preserved : goal.loop-i-preserved
 loop-i-preserved c =
     let w = c.loop-i in
-    let h = read _ _ w.pass.start w.pass.pending w.i (omega arith) w.invariant _ _ c.after-pass.ensures.0 c.after-pass.ensures.1 in
+    let h = read _ _ w.pass.start w.pass.pending w.i (omega arith) w.invariant _ _ c.after-pass.ensures.start c.after-pass.ensures.pending in
     again _ _ _ _ _ (skips_12 _) h (short_12 _ _ _ _ h (c.in_ok-ask.ensures ∙ ap (ask 12 _) c.is_short.ensures))
 
 pub returns : goal.returns

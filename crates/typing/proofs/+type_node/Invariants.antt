@@ -3,4 +3,4 @@ use Rattle.std.proofs.Common.{length}
 use Rattle.typing.proofs.+type_node.Given as goal
 
 abbrev pub decreases-type_node : goal.decreases-type_node
-decreases-type_node l = length l.s.now
+decreases-type_node l = length l.part.now

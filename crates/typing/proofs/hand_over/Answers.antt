@@ -8,7 +8,7 @@ use Rattle.memory.specs.Splice.{splice}
 use Rattle.memory.proofs.Laws.{splice_front}
 use Rattle.inference.specs.Memory.{Meets}
 use Rattle.inference.proofs.Front.{held_bytes, taken_length}
-use Rattle.inference.proofs.Rules.{TypedAs, typed_as}
+use Rattle.inference.proofs.Rules.{TypedAs, typed_as, refused_as}
 use Rattle.typing.specs.Answers.{Answers}
 use Rattle.typing.proofs.hand_over.Goals as goal
 
@@ -18,13 +18,13 @@ type_of {w = w} v e = typed_as (subst (λ y. Meets v.answer 0 v.old y w) e v.mee
 
 pub slice_bounds-put-end : goal.slice_bounds-put-end
 slice_bounds-put-end c =
-    let a = (type_of c.requires.0 c.in-Ok.is).wrote.sized in
+    let a = (type_of c.requires.found c.in-Ok.is).wrote.sized in
     sym (taken_length a.held _ a.count)
 
 pub put-requires : goal.put-requires
 put-requires c =
-    let a = (type_of c.requires.0 c.in-Ok.is).wrote.sized in
-    omega (arith, taken_length a.held _ a.count, a.count, a.small, c.requires.1)
+    let a = (type_of c.requires.found c.in-Ok.is).wrote.sized in
+    omega (arith, taken_length a.held _ a.count, a.count, a.small, c.requires.room)
 
 pub returns-in-Ok : goal.returns-in-Ok
 returns-in-Ok c v =
@@ -33,3 +33,8 @@ returns-in-Ok c v =
     c.put.ensures ∙ ap (λ x. splice 0 x old) (held_bytes a.wrote.sized.held _ a.wrote.sized.count)
     ∙ splice_front (encode_type a.type) old
     ∙ sym (ap (λ o. answer_after o old) a.is)
+
+pub returns-in_default : goal.returns-in_default
+returns-in_default c v =
+    let m = subst (λ y. Meets v.answer 0 v.old y c.args.work.now) c.in_default.is v.meets in
+    sym (ap (λ o. answer_after o c.args.answer.now) (refused_as m))

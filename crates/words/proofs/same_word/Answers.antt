@@ -5,5 +5,5 @@ use Rattle.words.proofs.same_word.Goals as goal
 
 pub returns : goal.returns
 returns c =
-    words_same (record { whole = c.told-words; there = c.requires.0; is = c.word.ensures }) (record { whole = c.told-words; there = c.requires.1; is = c.word-2.ensures }) _
+    words_same (record { whole = c.told-words; there = c.requires.first; is = c.word.ensures }) (record { whole = c.told-words; there = c.requires.second; is = c.word-2.ensures }) _
     (slice_eq-Decides (λ a b. (eqb-true a b, eq-eqb a b)) _ _ _ c.eq.ensures)

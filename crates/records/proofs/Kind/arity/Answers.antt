@@ -7,4 +7,4 @@ use Rattle.records.proofs.Kind.arity.Goals as goal
 pub returns : goal.returns
 unfolding arity
 returns c =
-    let e = c.from.ensures ∙ ap (λ f. f.operands) c.signature.ensures in (e, omega (arith, arity_small (kind_number c.args.self)))
+    let e = c.from.ensures ∙ ap (λ f. f.operands) c.signature.ensures in record { value = e; small = omega (arith, arity_small (kind_number c.args.self)) }
