@@ -1,7 +1,7 @@
 //! Every call as its caller sees it: byte slices and numbers in, an answer and lent bytes out.
 //!
-//! "A refusal leaves all lent memory unchanged, except that in a call that has begun typing
-//! (question 20 and on) the work buffer is left all zeros."
+//! A refusal leaves all lent memory as it was, but for the work buffer of a call that has begun typing (questions 20 to
+//! 24 and 31), which is left all zeros, and for the run buffers of a packet refused by 27 (manual, 9.4).
 
 use crate::groups::{read_groups, Group};
 use crate::limits::{ANSWER_BYTES, SCRIPT_BYTES, SHEET_BYTES, WORK_BYTES};
@@ -20,17 +20,17 @@ pub use crate::rewriting::{rewrite_script, rewrite_types, write_callers};
 pub use crate::script::subterm;
 pub use crate::strip::{strip_script, strip_types};
 
-/// "Groups check: 2 to 7."
+/// Questions 2 to 7.
 pub fn groups_check(groups: &[u8]) -> Answer<()> {
     read_groups(groups).map(|_| ())
 }
 
-/// "Types check: 2 to 12."
+/// Questions 2 to 12.
 pub fn types_check(groups: &[u8], types: &[u8]) -> Answer<()> {
     read_tables(groups, types).map(|_| ())
 }
 
-/// "At or below, of two type indexes: 2 to 12, 25", which now answers same, below or neither.
+/// The comparison of the types at two indexes: questions 2 to 12 and 25.
 pub fn compare(groups: &[u8], types: &[u8], i: u64, j: u64) -> Answer<Comparison> {
     let tables = read_tables(groups, types)?;
     // 25. Is a given index or group in its table? (0, or 1 for a second one)
@@ -40,8 +40,8 @@ pub fn compare(groups: &[u8], types: &[u8], i: u64, j: u64) -> Answer<Comparison
     Ok(types::compare(&tables.groups, &s, &t))
 }
 
-/// "Checking: 1 to 24; it then gives the type's record count, fills the answer buffer's front with
-/// the type, keeps the bytes past it, and fills the work buffer with zeros."
+/// Checking, questions 1 to 24: the type's record count. The type fills the front of the answer buffer, later bytes
+/// stay, and the work buffer is filled with zeros.
 pub fn check(
     groups: &[u8],
     types: &[u8],
@@ -58,8 +58,7 @@ fn buffers_asked(work: &[u8], answer: &[u8]) -> Answer<()> {
     ask(work.len() >= WORK_BYTES && answer.len() >= ANSWER_BYTES, 1, 0)
 }
 
-/// Document 02, item 12: "The profile check is checking with 39 put after 19, at the first record
-/// of kind 11."
+/// Checking with 39 after 19, at the first record that is a recursion (manual, 7.6).
 pub fn check_profile(
     groups: &[u8],
     types: &[u8],
@@ -100,15 +99,15 @@ fn find(tables: &Tables, term: &Term, work: &mut [u8], answer: &mut [u8]) -> Ans
     Ok(found.size() as u32)
 }
 
-/// "A step reports its end and a record count, the script's own unless it moved."
+/// A step's end and record count, the script's own unless it moved.
 #[derive(Debug, Clone, Copy, PartialEq, Eq)]
 pub struct StepReport {
     pub end: End,
     pub records: u32,
 }
 
-/// "Step and run: 2 to 19." "On 1 the new term fills the front of the written buffer and later bytes
-/// keep their content; otherwise nothing is written."
+/// A step, questions 2 to 19. On end 1 the new term fills the front of the written buffer and later bytes keep their
+/// content; otherwise nothing is written.
 pub fn step(groups: &[u8], types: &[u8], script: &[u8], written: &mut [u8]) -> Answer<StepReport> {
     let tables = read_tables(groups, types)?;
     let term = read_script(&tables, script, &[])?;
@@ -120,7 +119,7 @@ pub fn step(groups: &[u8], types: &[u8], script: &[u8], written: &mut [u8]) -> A
     Ok(StepReport { end, records: next.size() as u32 })
 }
 
-/// A run "reports end, steps made and record count".
+/// A run's end, the steps made and the last term's record count.
 #[derive(Debug, Clone, Copy, PartialEq, Eq)]
 pub struct RunReport {
     pub end: End,
@@ -128,8 +127,8 @@ pub struct RunReport {
     pub records: u32,
 }
 
-/// "Afterwards the first buffer holds the last term, then zeros; the scratch is all zeros. Too big
-/// is judged with the shorter of the two buffers."
+/// A run, questions 2 to 19. Afterwards the first buffer holds the last term, then zeros, and the scratch is all zeros.
+/// Too big is judged with the shorter of the two buffers.
 pub fn run(
     groups: &[u8],
     types: &[u8],
@@ -159,8 +158,7 @@ pub fn run_over(
     Ok(RunReport { end: ran.end, steps: ran.steps, records: ran.last.size() as u32 })
 }
 
-/// "Sheet: 2 to 19, 25, 26, 27." "The answer is the sheet's record count; bytes past the sheet keep
-/// their content."
+/// A value's sheet, questions 2 to 19, 25, 26 and 27: its record count. Bytes past the sheet keep their content.
 pub fn sheet(
     groups: &[u8],
     types: &[u8],

@@ -1,4 +1,4 @@
-//! The inputs of cases A to L.
+//! The inputs of the worked cases A to L (manual, 10), and of a few more.
 
 use crate::generate::words;
 use crate::limits::{OWN_TYPE, SCRIPT_BYTES, TYPE_BYTES};
@@ -31,20 +31,19 @@ pub fn made<const WIDTH: usize>(mut record: [u8; WIDTH], c: u8, ic: u8) -> [u8; 
     record
 }
 
-/// "Groups 0 ⊑ 1 (words 3, 2)."
+/// Groups 0 ⊑ 1.
 pub fn two_groups() -> Vec<u8> {
     words(&[3, 2])
 }
 
-/// "Types: records 0 to 2 the sum (0,0) of units (0,0); 3 to 5 the function (0,0) from unit to unit,
-/// all (0,0)."
+/// Types: records 0 to 2 a sum of units, 3 to 5 a function from unit to unit, all groups 0.
 pub fn case_types() -> Vec<u8> {
     let of_units = |kind| [type_record(kind, 0, 0), UNIT_TYPE, UNIT_TYPE].concat();
     [of_units(1), of_units(3)].concat()
 }
 
-/// "The case term has 7 records: tested first injection of unit, branches first and second injection
-/// (0,0), every unit (0,0), type 0."
+/// The case term: a tested first injection of unit with these readers; branches a first and a second injection of unit,
+/// of type 0, all other groups 0.
 pub fn case_term(tested_r: u8, tested_ir: u8, case_r: u8) -> Vec<u8> {
     [
         record(9, case_r, 0, 0),
@@ -58,7 +57,7 @@ pub fn case_term(tested_r: u8, tested_ir: u8, case_r: u8) -> Vec<u8> {
     .concat()
 }
 
-/// "application of recursion (type 3) of function (type 4) of variable 1 applied to 0, to unit". Who
+/// The loop: a recursion of type 3 of a function of type 4, which applies variable 1 to 0, is applied to unit. Who
 /// its calls are made as is written in the recursion.
 pub fn loop_term(outer_r: u8, caller: u8) -> Vec<u8> {
     [
@@ -91,7 +90,7 @@ pub fn b() -> Inputs {
     with_script(case_term(1, 1, 1))
 }
 
-/// Document 02, item 3: B with a case that finds its own type, which is type 0 again.
+/// B with a case that finds its own type, which is type 0 again.
 pub fn b_with_own_type() -> Inputs {
     let mut inputs = b();
     inputs.script[4..6].copy_from_slice(&OWN_TYPE.to_le_bytes());
@@ -132,7 +131,7 @@ pub fn g_called_as(caller: u8) -> Inputs {
     with_script(loop_term(0, caller))
 }
 
-/// Document 02, item 6: "case I among them", with r of type 3 put in.
+/// The loop whose type 3 has (1,1), called as group 1.
 pub fn i() -> Inputs {
     i_called_as(1)
 }
@@ -196,7 +195,7 @@ pub fn every_word() -> Inputs {
     with_script(script)
 }
 
-/// Document 02, item 13: the tables of a page with numbers, over case J's groups. Records 0 to 2 are a sum of units
+/// The tables of a page with numbers, over case J's groups. Records 0 to 2 are a sum of units
 /// of which the first is for 1 and made by 2, 3 to 5 a function from number to number, 6 to 8 a sum of a unit and a
 /// number.
 pub fn number_types() -> Vec<u8> {
@@ -265,7 +264,7 @@ pub fn totals() -> Inputs {
     Inputs { types: number_types(), script, ..j() }
 }
 
-/// Document 02, item 10: a page with creators over case J's groups. A note (λx. <x, second of unit>) that
+/// A page with creators over case J's groups. A note (λx. <x, second of unit>) that
 /// both hands made is applied, as 1, to an entry made by 1 and protected by 2's hands, and the second
 /// recursion, called as 3, hands the unit it is given on.
 pub fn creators() -> Inputs {

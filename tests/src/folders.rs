@@ -122,8 +122,8 @@ fn tables_of_words() -> Vec<(&'static str, Vec<u8>)> {
     ]
 }
 
-/// Every file of `reports/`, by its path there. An empty one is left out, "missing is empty", but for an empty `words`, which is
-/// another thing than a missing one.
+/// Every file of `reports/`, by its path there. An empty one is left out, since missing is empty, but for an empty
+/// `words`, which is another thing than a missing one.
 pub fn files() -> Vec<(String, Vec<u8>)> {
     let mut files = Vec::new();
     let mut add = |name: &str, words: Option<Vec<u8>>, inputs: Inputs| {

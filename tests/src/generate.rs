@@ -287,7 +287,7 @@ pub fn words(rows: &[u32]) -> Vec<u8> {
 // Types
 
 /// The groups that fulfil a condition.
-fn groups_where(groups: &Groups, mut fits: impl FnMut(Group) -> bool) -> Vec<Group> {
+pub fn groups_where(groups: &Groups, mut fits: impl FnMut(Group) -> bool) -> Vec<Group> {
     (0..groups.count() as u8).filter(|&g| fits(g)).collect()
 }
 
@@ -1071,7 +1071,8 @@ pub fn untyped_script(rng: &mut Rng, tables: &Tables, fuel: usize) -> Rc<Term> {
     untyped(rng, tables, 0, fuel.min(200))
 }
 
-fn indexes_of_kind(tables: &Tables, kind: u8) -> Vec<u16> {
+/// The types of this kind.
+pub fn indexes_of_kind(tables: &Tables, kind: u8) -> Vec<u16> {
     (0..tables.types.count() as u16)
         .filter(|&index| tables.types.at(index.into()).kind() == kind)
         .collect()
@@ -1088,7 +1089,8 @@ fn any_caller(rng: &mut Rng, tables: &Tables, function: u16) -> Group {
     }
 }
 
-fn untyped(rng: &mut Rng, tables: &Tables, binders: usize, fuel: usize) -> Rc<Term> {
+/// The same of a term under so many binders, which it may use.
+pub fn untyped(rng: &mut Rng, tables: &Tables, binders: usize, fuel: usize) -> Rc<Term> {
     let leaf = |rng: &mut Rng| {
         if binders > 0 && !rng.one_in(3) {
             Term::Variable(rng.below(binders) as u16)
@@ -1324,7 +1326,7 @@ pub fn near_miss_types(rng: &mut Rng, world: &World) -> Vec<u8> {
     bytes
 }
 
-/// A table or script of records of this width in the form from before item 10, which lacks c and ic.
+/// A table or script of records of this width in its old form, which lacks c and ic.
 fn narrowed(bytes: &[u8], width: usize, old_width: usize) -> Vec<u8> {
     bytes.chunks(width).flat_map(|record| &record[..record.len().min(old_width)]).copied().collect()
 }
@@ -1339,7 +1341,7 @@ pub fn old_script(script: &[u8]) -> Vec<u8> {
     narrowed(script, SCRIPT_BYTES, OLD_SCRIPT_BYTES)
 }
 
-/// The old form of these inputs, as it was saved before item 6: 0 in byte 1 of every recursion.
+/// These inputs as form 1 saves them: without creators, and with 0 in byte 1 of every recursion.
 pub fn saved_before(inputs: &Inputs) -> Inputs {
     let mut old = old_form(inputs);
     for record in old.script.chunks_exact_mut(OLD_SCRIPT_BYTES).filter(|record| record[0] == 11) {
@@ -1348,7 +1350,7 @@ pub fn saved_before(inputs: &Inputs) -> Inputs {
     old
 }
 
-/// The old form of these inputs.
+/// These inputs as form 2 saves them: without creators.
 pub fn old_form(inputs: &Inputs) -> Inputs {
     Inputs {
         groups: inputs.groups.clone(),

@@ -6,7 +6,7 @@ use crate::refusal::{ask, Answer};
 /// A group, as the byte that names it in a record.
 pub type Group = u8;
 
-/// "Bit h of row g is set when g ⊑ h (h is at least as secret)."
+/// Bit h of row g is set exactly when g ⊑ h: h is at least as secret (manual, 2.1).
 #[derive(Debug, Clone, PartialEq, Eq)]
 pub struct Groups {
     rows: Vec<u32>,
@@ -37,7 +37,7 @@ impl Groups {
         self.has(g.into()) && self.has(h.into()) && bit(self.rows[g as usize], h as usize)
     }
 
-    /// "The join g ⊔ h is the lowest bit set in both rows."
+    /// The join g ⊔ h: the lowest bit that is set in both rows.
     pub fn join(&self, g: Group, h: Group) -> Group {
         let common = self.rows[g as usize] & self.rows[h as usize];
         lowest_bit(common).expect("question 6: any two groups have a join") as Group
@@ -57,7 +57,7 @@ pub fn read_groups(bytes: &[u8]) -> Answer<Groups> {
     // 2. Groups: whole rows, 1 to 32? (0)
     let count = bytes.len() / ROW_BYTES;
     ask(bytes.len() % ROW_BYTES == 0 && (1..=MOST_GROUPS).contains(&count), 2, 0)?;
-    // "each a little-endian word"
+    // Each row is a little-endian word.
     let rows: Vec<u32> = bytes
         .chunks(ROW_BYTES)
         .map(|row| u32::from_le_bytes(row.try_into().expect("whole rows")))

@@ -1,4 +1,4 @@
-//! Which script is in force (document 02, item 14): a studio's list of scripts, the list of its amendments, and the look-up.
+//! Which script is in force (manual, 7.7): a studio's list of scripts, the list of its amendments, and the look-up.
 
 use std::collections::{HashMap, HashSet};
 
@@ -18,8 +18,8 @@ fn numbers(bytes: &[u8]) -> Vec<u16> {
     bytes.chunks(2).map(|number| u16::from_le_bytes([number[0], number[1]])).collect()
 }
 
-/// "40 at place 0 for either list not of whole records or a studio's list over 65,535 scripts, then 25 at the script's
-/// index". Then "one entry after another".
+/// 40 of the lengths of both lists, at place 0, then 25 of each script, and then of one entry after another 40, 41 and
+/// 42.
 fn read_lists(tables: &Tables, scripts: &[u8], amendments: &[u8]) -> Answer<Amended> {
     let whole = scripts.len() % LISTED_BYTES == 0 && amendments.len() % ENTRY_BYTES == 0;
     ask(whole && scripts.len() / LISTED_BYTES <= MOST_LISTED_SCRIPTS, 40, 0)?;
@@ -32,14 +32,14 @@ fn read_lists(tables: &Tables, scripts: &[u8], amendments: &[u8]) -> Answer<Amen
     for (place, entry) in numbers(amendments).chunks(2).enumerate() {
         let (first, old) = (entry[0], entry[1]);
         let in_list = |index: u16| usize::from(index) < scripts.len();
-        // 40, "an index past the list or first number listed before, or a replaced one not yet listed": the entry lists its
-        // own first only afterwards
+        // 40. Is the first a script of the list that isn't listed yet, and the replaced one, if any, listed already?
+        // The entry lists its own first only afterwards.
         ask(in_list(first) && !read.listed.contains(&first), 40, place)?;
         if old != NO_SCRIPT {
             ask(in_list(old) && read.listed.contains(&old), 40, place)?;
-            // 41, "one already replaced"
+            // 41. Isn't it replaced yet?
             ask(!read.replaced_by.contains_key(&old), 41, place)?;
-            // and 42, "a type that is neither same nor below"
+            // 42. Is the first's type the same as the replaced one's, or below it?
             let type_of = |index: u16| tables.types.at(scripts[usize::from(index)].into());
             let related = compare(tables.security(), &type_of(first), &type_of(old));
             ask(related != Comparison::Neither, 42, place)?;
@@ -50,8 +50,8 @@ fn read_lists(tables: &Tables, scripts: &[u8], amendments: &[u8]) -> Answer<Amen
     Ok(read)
 }
 
-/// "From any script that an entry names first, the one in force is found by following replacements to the end .. Any other
-/// index has none", which is 65,535.
+/// From a script that an entry names first, the one in force is found by following replacements to the end. Any other
+/// index has none, which is 65,535.
 pub fn in_force(
     groups: &[u8],
     types: &[u8],

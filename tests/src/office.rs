@@ -1,6 +1,6 @@
-//! Scripts of the old office program (document 02, item 1): "records of 10 bytes, the first six as in
-//! document 01, then two 16-bit names, little-endian like all numbers here". Import, export, and item
-//! 6's rewriting of "old office scripts".
+//! Scripts of the old office program (manual, 7.9 and 7.10): records of 10 bytes, the first six of a script record,
+//! then two 16-bit names, lowest byte first. Import, export, and the callers that are put into recursions saved
+//! without.
 
 use std::rc::Rc;
 
@@ -27,7 +27,7 @@ impl OfficeRecord {
         OfficeRecord { record, first: name(6), second: name(8) }
     }
 
-    /// "Item 1 exports without them": without c and ic.
+    /// The old form has no c and ic.
     pub fn write(&self) -> [u8; OFFICE_BYTES] {
         let mut bytes = [0; OFFICE_BYTES];
         bytes[..OLD_SCRIPT_BYTES].copy_from_slice(&self.record.write()[..OLD_SCRIPT_BYTES]);
@@ -37,8 +37,8 @@ impl OfficeRecord {
     }
 }
 
-/// "A variable carries its name in the first", and "a function or recursion binds the first, a case's
-/// branches the first and second".
+/// A variable has its name in the first; a function and a recursion bind the first, a case's branches the first and
+/// the second.
 pub fn uses_first(kind: u8) -> bool {
     matches!(kind, 0 | 2 | 9 | 11)
 }
@@ -47,13 +47,13 @@ pub fn uses_second(kind: u8) -> bool {
     kind == 9
 }
 
-/// Question 28. "a length not of 1 to 6,000 whole records (place 0)".
+/// Question 28. Are there 1 to 6,000 whole records? (0)
 fn office_records(bytes: &[u8]) -> Answer<Vec<OfficeRecord>> {
     ask(are_whole(bytes.len(), OFFICE_BYTES, MOST_OFFICE_RECORDS), 28, 0)?;
     Ok(bytes.chunks(OFFICE_BYTES).map(OfficeRecord::read).collect())
 }
 
-/// Question 29. "an unused name or a variable's number that isn't 0".
+/// Question 29. Are the unused names and a variable's number 0?
 fn unused(records: &[OfficeRecord]) -> Answer<()> {
     for (index, &OfficeRecord { record, first, second }) in records.iter().enumerate() {
         let kind = record.kind;
@@ -65,9 +65,9 @@ fn unused(records: &[OfficeRecord]) -> Answer<()> {
     Ok(())
 }
 
-/// Question 30. "a name without a binder". Gives the term that the records from `index` on mean under the
-/// binders of these names, the outermost first, and the index after it: "A variable means the nearest
-/// binder of that name." Records stand in the order of this walk.
+/// Question 30. Has a variable's name a binder? Gives the term that the records from `index` on mean under the
+/// binders of these names, the outermost first, and the index after it: a variable means the nearest binder of
+/// its name. Records stand in the order of this walk.
 fn meant(
     records: &[OfficeRecord],
     index: usize,
@@ -99,7 +99,7 @@ fn meant(
     Ok((Rc::new(Term::build(record, operands)), at))
 }
 
-/// "Import asks 2 to 12, 28, 14 to 18, 29, 30, 27". The term that is imported, before 27.
+/// Questions 28, 14 to 18, 29 and 30: the term that is imported.
 pub fn read_office_script(tables: &Tables, old: &[u8]) -> Answer<Rc<Term>> {
     let records = office_records(old)?;
     let plain: Vec<Record> = records.iter().map(|record| record.record).collect();
@@ -108,15 +108,15 @@ pub fn read_office_script(tables: &Tables, old: &[u8]) -> Answer<Rc<Term>> {
     Ok(meant(&records, 0, &mut Vec::new())?.0)
 }
 
-/// "We need import, at most 6,000 records". "Both answer the record count written and keep the bytes past
-/// it."
+/// Questions 2 to 12, 28, 14 to 18, 29, 30 and 27: the record count written. Bytes past them stay.
 pub fn import(groups: &[u8], types: &[u8], old: &[u8], script: &mut [u8]) -> Answer<u32> {
     let tables = read_tables(groups, types)?;
     let term = read_office_script(&tables, old)?;
     put(&term.write(), SCRIPT_BYTES, script)
 }
 
-/// "names each binder by its count of binders outside it"; `outside` are outside of this term.
+/// The old records of a term in which each binder is named by its count of binders outside it; `outside` are
+/// outside of this term.
 pub fn named(term: &Term, outside: u16) -> Vec<u8> {
     let whole = term.record();
     let record = Record { number: if whole.kind == 0 { 0 } else { whole.number }, ..whole };
@@ -134,7 +134,8 @@ pub fn named(term: &Term, outside: u16) -> Vec<u8> {
     bytes
 }
 
-/// "export 2 to 19, 28, 27": 28 is more than 6,000 records.
+/// Questions 2 to 19, 28, which asks whether there are at most 6,000 records, and 27: the record count written. Bytes
+/// past them stay.
 pub fn export(groups: &[u8], types: &[u8], script: &[u8], old: &mut [u8]) -> Answer<u32> {
     let tables = read_tables(groups, types)?;
     let term = read_script(&tables, script, &[])?;
@@ -142,8 +143,8 @@ pub fn export(groups: &[u8], types: &[u8], script: &[u8], old: &mut [u8]) -> Ans
     put(&named(&term, 0), OFFICE_BYTES, old)
 }
 
-/// Item 6: "We rewrite existing scripts, old office scripts and case I among them, by putting in r of the
-/// recursion's type": in place, over types of the present form. Nothing is asked.
+/// Puts r of its type into each recursion, in place, over types of the present form (manual, 7.12). Nothing is
+/// asked. Gives how many records were written.
 pub fn write_office_callers(types: &[u8], old: &mut [u8]) -> u64 {
     let types: Vec<&[u8]> = types.chunks_exact(TYPE_BYTES).collect();
     let mut written = 0;

@@ -1,4 +1,4 @@
-//! The loan desk's packet (document 02, item 11): a script applied to an entry as the desk's group, and the sheet of what comes
+//! The loan desk's packet (manual, 7.8): a script applied to an entry as the desk's group, and the sheet of what comes
 //! of it.
 
 use std::rc::Rc;
@@ -13,7 +13,7 @@ use crate::steps::{is_value, run, End};
 use crate::types::{at_or_below, read_tables, Form, Tables, Type};
 use crate::typing::type_of;
 
-/// "It gives a script, an entry's value, the desk's group and a budget"; a profile of 0 is none.
+/// What the desk gives: a script, an entry's value, its group and a budget; a profile of 0 is none.
 #[derive(Debug, Clone, PartialEq, Eq)]
 pub struct Request {
     pub script: Vec<u8>,
@@ -39,7 +39,7 @@ pub struct PacketReport {
     pub records: u32,
 }
 
-/// 13 to 19, "13 without the run's buffers", and by item 12 39 after 19.
+/// Questions 13 to 19, 13 without the run's buffers, and under a profile 39 after 19.
 fn read(tables: &Tables, script: &[u8], profile: u64) -> Answer<Rc<Term>> {
     let term = read_script(tables, script, &[])?;
     if profile != 0 {
@@ -48,8 +48,8 @@ fn read(tables: &Tables, script: &[u8], profile: u64) -> Answer<Rc<Term>> {
     Ok(term)
 }
 
-/// "25 for the group, 37, the script's type isn't a function, 21, 38, the entry's type isn't at or below its left side, and 13 and 18
-/// for the application, all at place 0". The application is handed back.
+/// 25 of the group, 37, 21 of the script's type, 38, and 13 and 18 of the application, all at place 0. The application
+/// is handed back.
 fn apply(
     tables: &Tables,
     group: u64,
@@ -70,8 +70,9 @@ fn apply(
     Ok(whole)
 }
 
-/// "Both are checked by 1 to 24, as in checking .. but without an answer buffer, script first, and the entry then by 26." The run's
-/// buffers end as after a run, also where 27 comes after it; the work buffer is zeros once typing has begun.
+/// The questions in the manual's order (9.12): script and entry are asked as a check asks them, without an answer
+/// buffer, the script first, and the entry then by 26. The run's buffers end as after a run, also where 27 comes after
+/// it; the work buffer is zeros once typing has begun.
 pub fn packet(groups: &[u8], types: &[u8], request: &Request, lent: Lent) -> Answer<PacketReport> {
     let Request { script, entry, group, budget, profile } = request;
     ask(lent.work.len() >= WORK_BYTES, 1, 0)?;
@@ -91,7 +92,7 @@ pub fn packet(groups: &[u8], types: &[u8], request: &Request, lent: Lent) -> Ans
     lent.first[..bytes.len()].copy_from_slice(&bytes);
     lent.scratch.fill(0);
 
-    // "A packet is issued only when the run ends 0; otherwise the end is reported and no sheet written."
+    // A packet is issued only when the run ends 0; otherwise the end is reported and no sheet written.
     let mut records = ran.last.size();
     if ran.end == End::Value {
         let page = sheet_of(&tables.groups, &ran.last, *group as Group);

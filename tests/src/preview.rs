@@ -1,4 +1,4 @@
-//! Document 02, item 9: the preview of a step, and the move that takes it back.
+//! The preview of a step, and the move that takes it back (manual, 6.6).
 
 use crate::calls::{step, StepReport};
 use crate::limits::SCRIPT_BYTES;
@@ -7,8 +7,8 @@ use crate::script::read_script;
 use crate::steps::{self, End};
 use crate::types::read_tables;
 
-/// "The preview gives the end, the record count after the step (the script's own unless the end is 1) and the number of steps so
-/// far". What is handed back to a move may be any numbers.
+/// The end, the record count after the step, which is the script's own unless the end is 1, and the number of steps so
+/// far. What is handed back to a move may be any numbers.
 #[derive(Debug, Clone, Copy, PartialEq, Eq)]
 pub struct Preview {
     pub end: u64,
@@ -16,8 +16,8 @@ pub struct Preview {
     pub steps: u64,
 }
 
-/// The preview of the step that would write to a buffer of this length. It "writes nothing". "The number of steps so far is the
-/// caller's, of 64 bits; the preview repeats it".
+/// The preview of the step that would write to a buffer of this length. It writes nothing. The number of steps so far
+/// is the caller's and is repeated.
 pub fn preview(
     groups: &[u8],
     types: &[u8],
@@ -39,7 +39,7 @@ pub struct MoveReport {
     pub steps: u64,
 }
 
-/// "The move takes that preview back together with the script, and makes the step."
+/// The move is given a preview's numbers back, and makes the step of the script.
 pub fn move_on(
     groups: &[u8],
     types: &[u8],
@@ -48,10 +48,10 @@ pub fn move_on(
     written: &mut [u8],
 ) -> Answer<MoveReport> {
     let now = preview(groups, types, script, written.len() as u64, given.steps)?;
-    // "Refusal 35, place 0, comes after 19 when the end or count handed back isn't the one this script and this buffer give."
+    // 35. Are the end and the count those of the step of this script into this buffer? (0)
     ask(given.end == now.end && given.records == now.records, 35, 0)?;
     let step = step(groups, types, script, written)?;
-    // "a move with end 1 raises it by one, and the largest number stays"
+    // A move with end 1 raises the number of steps by one, and the largest number stays.
     let raised = step.end == End::Moved && given.steps != u64::MAX;
     let steps = if raised { given.steps + 1 } else { given.steps };
     Ok(MoveReport { step, steps })

@@ -1,4 +1,4 @@
-//! "The first no gives its number and the place."
+//! Refusals: of a call's questions the first that is answered no gives its number and the place (manual, 9.1).
 
 /// The question answered no, and where.
 #[derive(Debug, Clone, Copy, PartialEq, Eq)]

@@ -1,4 +1,4 @@
-//! The report program's text. Every line ends in a newline.
+//! The report program's text (manual, 7.3). Every line ends in a newline.
 
 use crate::calls::{check, run, sheet};
 use crate::limits::{
@@ -10,9 +10,9 @@ use crate::sheet::NUMBER;
 use crate::steps::End;
 use crate::words::{read_words, OURS};
 
-/// "checks, runs in two buffers [now of 65,536 bytes] with budget 1,000, sheet for group 0 in a buffer of
-/// 8,192 sheet records; numbers in decimal." A missing file is an empty slice, but for the words': "A missing file means ours.
-/// The table is tried before question 1, and the report prints only a refusal line if it fails."
+/// Checks, runs in two buffers of 65,536 bytes with budget 1,000, and shows the sheet for group 0 in a buffer of 8,192
+/// sheet records, numbers in decimal. A missing file is an empty slice, but for the words': without theirs the words
+/// are ours. The words are asked before question 1, and a refusal is all that is printed from there on.
 pub fn report(words: Option<&[u8]>, groups: &[u8], types: &[u8], script: &[u8]) -> Vec<u8> {
     let mut text = String::new();
     if let Err(refusal) = lines(words, groups, types, script, &mut text) {
@@ -38,14 +38,14 @@ fn lines(
     let ran = run(groups, types, script, REPORT_BUDGET, &mut first, &mut scratch)?;
     *text += &format!("end {} steps {} records {}\n", ran.end as u8, ran.steps, ran.records);
 
-    // "word, r, ir, only when the end is 0"
+    // A word, r and ir for each record, only when the end is 0.
     if ran.end == End::Value {
         let value = &first[..ran.records as usize * SCRIPT_BYTES];
         let mut seen = vec![0; REPORT_SHEET_BYTES];
         let count = sheet(groups, types, value, 0, &mut seen)?;
         for record in seen.chunks(SHEET_BYTES).take(count as usize) {
             *text += &format!("{} {} {}", words[record[0] as usize], record[1], record[2]);
-            // The number is "printed after ir", "unprinted for all but a shown literal".
+            // Of a shown literal alone the number follows.
             if record[0] == NUMBER {
                 *text += &format!(" {}", u16::from_le_bytes([record[4], record[5]]));
             }

@@ -1,5 +1,5 @@
-//! The forms from before item 10 of document 02, types of 4-byte records and scripts of 6-byte ones,
-//! and the three calls that read them: `write_callers` (item 6), `rewrite_types` and `rewrite_script`.
+//! The old form: types of 4-byte records and scripts of 6-byte ones, as forms 1 and 2 have them (manual, 7.11), and the
+//! three calls that read them: `write_callers`, which brings form 1 to form 2, `rewrite_types` and `rewrite_script`.
 
 use std::rc::Rc;
 
@@ -13,9 +13,8 @@ use crate::rules::Rules;
 use crate::script::{read_records, Record, Term};
 use crate::types::{read_type_records, Tables};
 
-/// Item 6: "We rewrite existing scripts […] by putting in r of the recursion's type": in place, in
-/// each whole record of kind 11 whose number is that of a whole record of the table. Nothing is
-/// asked, and all other bytes stay. Gives how many records were written.
+/// Puts r of its type into each recursion, in place: into each whole record of kind 11 whose number is that of a
+/// whole record of the table. Nothing is asked, and all other bytes stay. Gives how many records were written.
 pub fn write_callers(types: &[u8], script: &mut [u8]) -> u64 {
     let types: Vec<&[u8]> = types.chunks_exact(OLD_TYPE_BYTES).collect();
     let mut written = 0;
@@ -32,7 +31,7 @@ pub fn write_callers(types: &[u8], script: &mut [u8]) -> u64 {
     written
 }
 
-/// Records of the old form "with c and ic as group 0", which follow all other bytes in either form.
+/// Records of the old form with group 0 as c and ic, which follow all other bytes of types and scripts.
 fn widened(old: &[u8], old_width: usize) -> Vec<u8> {
     old.chunks(old_width).flat_map(|record| [record, &[0; 2]].concat()).collect()
 }
@@ -73,13 +72,13 @@ pub fn put(new: &[u8], width: usize, rewritten: &mut [u8]) -> Answer<u32> {
     Ok((new.len() / width) as u32)
 }
 
-/// Item 10: "rewrite a types table of 4-byte records (2 to 12, 27)".
+/// Rewrites a types table of 4-byte records: questions 2 to 12 and 27.
 pub fn rewrite_types(groups: &[u8], types: &[u8], rewritten: &mut [u8]) -> Answer<u32> {
     read_old_tables(groups, types)?;
     put(&widened_types(types), TYPE_BYTES, rewritten)
 }
 
-/// Item 10: "and a script of 6-byte records over such a table (2 to 19, 27)".
+/// Rewrites a script of 6-byte records over such a table: questions 2 to 19 and 27.
 pub fn rewrite_script(
     groups: &[u8],
     types: &[u8],

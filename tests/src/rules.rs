@@ -1,21 +1,21 @@
-//! Which rules are meant: those of both documents, or those of document 01, by which scripts were checked and run before items 6
-//! and 10 of document 02. Items that change nothing of older scripts hold in both.
+//! Which rules are meant: those of form 4, or those of form 1, by which its scripts were checked and run (manual,
+//! 7.11). Form 1 has neither creators nor a group in a recursion; all else holds in both.
 
 use crate::groups::{Group, Groups};
 use crate::types::{Bound, Marks, Raise};
 
 #[derive(Debug, Clone, Copy, PartialEq, Eq)]
 pub enum Rules {
-    /// Of documents 01 and 02.
+    /// Of form 4.
     Now,
-    /// Of document 01: a recursive call is "made as r of the recursion's type", the byte in which a
-    /// group is now written isn't read, and neither are creators.
+    /// Of form 1: a recursion's calls are made as r of its type, the byte in which a group is now
+    /// written isn't read, and neither are creators.
     Before,
 }
 
 impl Rules {
-    /// Whose group the application inside an unrolled recursion has in which `written` stands and whose
-    /// type has the readers `r`. Document 02, item 6: "Byte 1 of a recursion now holds it."
+    /// Whose group the application inside an unrolled recursion has in whose byte 1 `written` stands and
+    /// whose type has the readers `r`.
     pub fn caller(self, written: Group, r: Group) -> Group {
         match self {
             Rules::Now => written,
@@ -42,7 +42,7 @@ impl Security<'_> {
         self.rules == Rules::Now
     }
 
-    /// "r ⊑ r', ir ⊑ ir'", and "Below now also needs c' ⊑ c and ic' ⊑ ic."
+    /// κ ≤ κ': r ⊑ r', ir ⊑ ir', and creators the other way round, c' ⊑ c and ic' ⊑ ic (manual, 2.5).
     pub fn at_or_below(self, low: Marks, high: Marks) -> bool {
         let groups = self.groups;
         let readers = groups.below(low.r, high.r) && groups.below(low.ir, high.ir);
@@ -50,7 +50,7 @@ impl Security<'_> {
         readers && (!self.reads_creators() || creators())
     }
 
-    /// The groups of a common type's record: readers are joined or met, creators "turned round".
+    /// The groups of a common type's record: readers are joined or met, and creators met or joined.
     pub fn common(self, bound: Bound, one: Marks, other: Marks) -> Marks {
         let readers = |g, h| bound.group(self.groups, g, h);
         let (r, ir) = (readers(one.r, other.r), readers(one.ir, other.ir));
@@ -61,7 +61,7 @@ impl Security<'_> {
         Marks { r, ir, c: creators(one.c, other.c), ic: creators(one.ic, other.ic) }
     }
 
-    /// κ • g: g joined into both r and ir. "Raising by (g, m) also meets m into c and ic."
+    /// κ • (i, j): i joined into both r and ir, j met into both c and ic.
     pub fn raised(self, marks: Marks, by: Raise) -> Marks {
         let groups = self.groups;
         let (r, ir) = (groups.join(marks.r, by.ir), groups.join(marks.ir, by.ir));
@@ -71,16 +71,16 @@ impl Security<'_> {
         Marks { r, ir, c: groups.meet(marks.c, by.ic), ic: groups.meet(marks.ic, by.ic) }
     }
 
-    /// "Application, projection and case raise by ir and by ic ⊓ the node's group", ir and ic those of
-    /// the object that the node reads.
+    /// What an application, a projection or a case leaves on its result: ir of the object that it reads,
+    /// and the meet of that object's ic with the node's group.
     pub fn read_by(self, object: Marks, node: Group) -> Raise {
         let ic = if self.reads_creators() { self.groups.meet(object.ic, node) } else { 0 };
         Raise { ir: object.ir, ic }
     }
 
-    /// Document 02, item 13: "the result starts with r and ir 0 and the node's own group as c and ic, then
-    /// is raised by the left operand's ir and ic ⊓ that group, then by the right's". The rules of document
-    /// 01 have no numbers; without creators nothing but the readers is left of it.
+    /// What a node makes of two numbers (manual, 5.12): its result starts with r and ir 0 and the node's group
+    /// as c and ic, and is raised by what reading the left operand leaves, then by the right's. Form 1 has no
+    /// numbers; without creators nothing but the readers is left of it.
     pub fn counted(self, left: Marks, right: Marks, node: Group) -> Marks {
         let made = if self.reads_creators() { node } else { 0 };
         let fresh = Marks { r: 0, ir: 0, c: made, ic: made };
@@ -88,9 +88,8 @@ impl Security<'_> {
         self.raised(once, self.read_by(right, node))
     }
 
-    /// Question 23, of the groups of a recursion's type and of its result: "A recursion of type
-    /// (s1 → s2, (r, ir)) needs ir ⊑ the indirect readers of s2"; "also needs c of its result ⊑ ic ⊓ the
-    /// group written in it".
+    /// Question 23, of the groups of a recursion's type and of that type's result: ir of the type is at or
+    /// below ir of the result, and c of the result at or below ic of the type and the written group.
     pub fn recursion_holds(self, own: Marks, result: Marks, written: Group) -> bool {
         let groups = self.groups;
         let made = || groups.below(result.c, groups.meet(own.ic, written));

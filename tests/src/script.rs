@@ -1,4 +1,4 @@
-//! Scripts: trees, reading with questions 13 to 19, writing, the look-up of a subterm.
+//! Scripts (manual, 4): trees, reading with questions 13 to 19, writing, the look-up of a subterm.
 
 use std::rc::Rc;
 
@@ -14,11 +14,11 @@ pub enum Side {
     Second,
 }
 
-/// A term, one form for each row of the document's table. Operands are shared, never changed: a
+/// A term, a form for each kind (manual, 4.2). Operands are shared, never changed: a
 /// substituted value stands once in memory however often it occurs.
 #[derive(Debug, Clone, PartialEq, Eq)]
 pub enum Term {
-    /// Its number "counts binders outward, 0 the nearest".
+    /// Its number counts binders outward, 0 the nearest.
     Variable(u16),
     Unit(Marks),
     /// Parameter type, body.
@@ -35,9 +35,9 @@ pub enum Term {
     Recursion(Group, u16, Rc<Term>),
     /// Its number.
     Literal(Marks, u16),
-    /// "sum of two": a sum type is another thing.
+    /// The sum of two numbers; a sum type is another thing.
     Addition(Group, Rc<Term>, Rc<Term>),
-    /// Sum type; "first less than second".
+    /// Sum type; is the first operand less than the second?
     LessThan(Group, u16, Rc<Term>, Rc<Term>),
 }
 
@@ -54,7 +54,7 @@ pub struct Record {
 }
 
 impl Record {
-    /// "kind, r, ir, 0, a 16-bit little-endian number"; c and ic "in bytes 6 and 7".
+    /// Bytes 0 to 7: kind, r, ir, 0, the number's two, lowest first, c and ic.
     pub fn read(bytes: &[u8]) -> Record {
         let [kind, r, ir, zero, low, high, c, ic] = bytes[..SCRIPT_BYTES] else {
             panic!("a whole record");
@@ -67,13 +67,12 @@ impl Record {
         [self.kind, self.r, self.ir, self.zero, low, high, self.c, self.ic]
     }
 
-    /// "A case whose number is 65,535 takes the lowest type at or above both branches."
+    /// Is it a case whose number is 65,535? It has the lowest type at or above both branches.
     pub fn finds_own_type(&self) -> bool {
         self.kind == 9 && self.number == OWN_TYPE
     }
 
-    /// How much deeper its operands are: of a case that finds its type "its operands have its own depth
-    /// plus two", all three.
+    /// How much deeper its operands are: two levels where it is a case that finds its type, all three, else one.
     pub fn weight(&self) -> usize {
         if self.finds_own_type() {
             2
@@ -83,7 +82,7 @@ impl Record {
     }
 }
 
-/// The table's column "operands", by kind; the last three by document 02, item 13.
+/// How many operands each kind has.
 pub const OPERANDS: [usize; 15] = [0, 0, 1, 2, 1, 1, 2, 1, 1, 3, 1, 1, 0, 2, 2];
 
 /// The operands of a kind that passes question 14.
@@ -91,28 +90,28 @@ pub fn operand_count(kind: u8) -> usize {
     OPERANDS[kind as usize]
 }
 
-/// The table's column "fields": r; of a recursion, by document 02, item 6. By item 13 a literal has "its
-/// groups", 13 and 14 "carry the node's group".
+/// The kinds that name byte 1: an object's readers, the group that a node reads as, or who a recursion's calls
+/// are made as.
 pub fn names_r(kind: u8) -> bool {
     matches!(kind, 1..=9 | 11..=14)
 }
 
-/// The table's column "fields": ir.
+/// The kinds that name ir: objects, and a protect.
 pub fn names_ir(kind: u8) -> bool {
     is_object(kind) || kind == 10
 }
 
-/// Document 02, item 10: "Kinds 1 to 5 use both", and a literal.
+/// The kinds that name c: objects.
 pub fn names_c(kind: u8) -> bool {
     is_object(kind)
 }
 
-/// "protect uses ic", besides.
+/// The kinds that name ic: objects, and a protect.
 pub fn names_ic(kind: u8) -> bool {
     names_c(kind) || kind == 10
 }
 
-/// The table's column "fields": a parameter, sum, result or function type.
+/// The kinds that name a type: a parameter's, a sum, a result's or a function's.
 pub fn names_type(kind: u8) -> bool {
     matches!(kind, 2 | 4 | 5 | 9 | 11 | 14)
 }
@@ -122,14 +121,14 @@ pub fn names_number(kind: u8) -> bool {
     matches!(kind, 0 | 12) || names_type(kind)
 }
 
-/// The kinds that have all four groups, ordered: "15 and 36 take a literal like kind 1".
+/// The objects, which have all four groups, ordered as 15 and 36 ask.
 pub fn is_object(kind: u8) -> bool {
     matches!(kind, 1..=5 | 12)
 }
 
 impl Term {
-    /// The operands in order, each with the binders it stands under: "Kinds 2 and 11 bind one in
-    /// their operand, a case one in each branch (operands 2 and 3)."
+    /// The operands in order, each with the binders it stands under: a function and a recursion bind one in
+    /// their operand, a case one in each branch, its second and third operand.
     pub fn operands(&self) -> Vec<(&Rc<Term>, usize)> {
         match self {
             Term::Variable(_) | Term::Unit(_) | Term::Literal(..) => vec![],
@@ -203,13 +202,13 @@ impl Term {
         1 + self.operands().iter().map(|(operand, _)| operand.size()).sum::<usize>()
     }
 
-    /// "the outermost record has depth 1".
+    /// The depth of the deepest record; the outermost has depth 1.
     pub fn depth(&self) -> usize {
         let weight = self.record().weight();
         self.operands().iter().map(|(operand, _)| weight + operand.depth()).max().unwrap_or(1)
     }
 
-    /// "Each is followed by its operands in order."
+    /// The term's records: its own, then its operands in order.
     pub fn write(&self) -> Vec<u8> {
         let mut bytes = self.record().write().to_vec();
         for (operand, _) in self.operands() {
@@ -240,7 +239,7 @@ fn whole_records(bytes: &[u8], buffers: &[usize]) -> Answer<Vec<Record>> {
     Ok(bytes.chunks(SCRIPT_BYTES).map(Record::read).collect())
 }
 
-/// Question 14. Kind at most 11, unnamed fields 0? Kinds 12 to 14 pass by item 13.
+/// Question 14. Kind at most 14, byte 3 and unnamed fields 0?
 fn fields(records: &[Record]) -> Answer<()> {
     for (index, record) in records.iter().enumerate() {
         let clean = record.kind <= 14
@@ -255,8 +254,8 @@ fn fields(records: &[Record]) -> Answer<()> {
     Ok(())
 }
 
-/// Question 15. Named groups in table, and for kinds 1 to 5 ir ⊑ r? Then 36, "for kinds 1 to 5, after 15
-/// when ic ⊑ c fails at that record". Both of a literal too.
+/// Question 15. Named groups in table, and for objects ir ⊑ r? When all records have passed it, 36: for objects
+/// ic ⊑ c?
 fn named_groups(tables: &Tables, records: &[Record]) -> Answer<()> {
     let groups = &tables.groups;
     for (index, record) in records.iter().enumerate() {
@@ -273,8 +272,8 @@ fn named_groups(tables: &Tables, records: &[Record]) -> Answer<()> {
     Ok(())
 }
 
-/// Question 16. Does a named type exist, a sum for 4 and 5, a function for 11, "a sum of two units" for
-/// 14? 65,535 of a case passes.
+/// Question 16. Does a named type exist, a sum for 4 and 5, a function for 11, a sum of two units for 14? 65,535
+/// of a case passes.
 fn named_types(tables: &Tables, records: &[Record]) -> Answer<()> {
     for (index, record) in records.iter().enumerate() {
         if !names_type(record.kind) || record.finds_own_type() {
@@ -359,9 +358,8 @@ pub fn read_records(tables: &Tables, records: &[Record]) -> Answer<Rc<Term>> {
     Ok(term)
 }
 
-/// "The look-up of a subterm hands back that part of the caller's script, from its record to the
-/// end of its last operand. It gives the empty part when question 13, 14 or 17 is answered no or
-/// the index is past the end."
+/// The look-up of a subterm (manual, 4.8): that part of the caller's script, from its record to the end of its last
+/// operand. It is empty where question 13, 14 or 17 is answered no or the index is past the end.
 pub fn subterm(script: &[u8], index: u64) -> &[u8] {
     let Ok(records) = whole_records(script, &[]) else {
         return &[];

@@ -1,4 +1,4 @@
-//! Sheet: what a reader group may see of a value. Document 01, and items 5 and 13 of document 02.
+//! Sheets: what the readers of a group may see of a value (manual, 7.2).
 
 use crate::groups::{Group, Groups};
 use crate::limits::SHEET_BYTES;
@@ -6,13 +6,13 @@ use crate::script::{Side, Term};
 
 /// The kind of closed objects.
 pub const CLOSED: u8 = 5;
-/// "a literal's kind is 6": the only one with a number.
+/// The kind of literals, the only one with a number.
 pub const NUMBER: u8 = 6;
 
-/// "For a reader group g and a value, [now 6-byte] records: kind, r, ir, 0, in script order. Kinds 0 unit,
-/// 1 first, 2 second, 3 pair, 4 function, 5 closed." "the number last (.. 0 .. for all but a shown literal)".
+/// The value's records for the readers of group g, in the script's order: kind, r, ir, 0, number. Kinds are 0 unit, 1
+/// first, 2 second, 3 pair, 4 function, 5 closed and 6 number; the number is 0 of all but a shown literal.
 pub fn sheet_of(groups: &Groups, value: &Term, g: Group) -> Vec<[u8; SHEET_BYTES]> {
-    // "4 function (body not shown)": a function has no parts here.
+    // A function's body isn't shown: it has no parts here.
     let (kind, marks, number, parts) = match value {
         Term::Unit(marks) => (0, marks, 0, vec![]),
         Term::Injection(Side::First, marks, _, a) => (1, marks, 0, vec![a]),
@@ -23,7 +23,7 @@ pub fn sheet_of(groups: &Groups, value: &Term, g: Group) -> Vec<[u8; SHEET_BYTES
         _ => panic!("question 26: a value"),
     };
     let [low, high] = number.to_le_bytes();
-    // "An object with r ⋢ g is written closed with groups 0." "A closed record now stands for its object and every part of it."
+    // An object with r ⋢ g is closed, its groups 0, and stands for every part of it too.
     if !groups.below(marks.r, g) {
         return vec![[CLOSED, 0, 0, 0, 0, 0]];
     }

@@ -1,4 +1,4 @@
-//! Steps: table 1, left to right, and runs.
+//! Steps, left to right, and runs (manual, 6).
 
 use std::rc::Rc;
 
@@ -7,7 +7,8 @@ use crate::limits::{MOST_DEPTH, MOST_SCRIPT_RECORDS};
 use crate::script::{Side, Term};
 use crate::types::{Form, Marks, Raise, Tables};
 
-/// "A step ends 0 value, 1 moved, 2 the reader may not, 3 wrong kind, 4 too big."
+/// How a step ends: the term is a value, it moves, the reader may not, an operand is of the wrong kind, or what comes
+/// is too big.
 #[derive(Debug, Clone, Copy, PartialEq, Eq)]
 pub enum End {
     Value = 0,
@@ -17,7 +18,7 @@ pub enum End {
     TooBig = 4,
 }
 
-/// "Values: units, functions, and pairs and injections of values." Document 02, item 13: "literal, a value".
+/// Values: units, literals, functions, and pairs and injections of values.
 pub fn is_value(term: &Term) -> bool {
     match term {
         Term::Unit(_) | Term::Function(..) | Term::Literal(..) => true,
@@ -41,7 +42,7 @@ pub fn substitute(term: &Rc<Term>, value: &Rc<Term>, number: usize) -> Rc<Term> 
     Rc::new(Term::build(term.record(), operands))
 }
 
-/// v • g: the value's own groups raised.
+/// The value with its own groups raised.
 fn raise_value(tables: &Tables, value: &Term, by: Raise) -> Term {
     let raised = |marks: Marks| tables.security().raised(marks, by);
     match value {
@@ -58,7 +59,7 @@ fn raise_value(tables: &Tables, value: &Term, by: Raise) -> Term {
     }
 }
 
-/// What table 1 says of a term, sizes aside.
+/// What the reductions say of a term, sizes aside.
 enum Move {
     To(Rc<Term>),
     Stay(End),
@@ -86,8 +87,8 @@ fn destruct(
     }
 }
 
-/// "Table 1, left to right, never inside a function or branch."
-/// Kind is decided before reader: "3 wrong kind (decided before 2)".
+/// The reductions (manual, 6.3), left to right, never inside a function, a recursion or a branch. End 3, the wrong
+/// kind, is decided before end 2.
 fn reduce(tables: &Tables, term: &Rc<Term>) -> Move {
     match &**term {
         Term::Variable(_) => panic!("question 19: no free variable is reached"),
@@ -168,7 +169,7 @@ fn reduce(tables: &Tables, term: &Rc<Term>) -> Move {
             Move::To(substitute(body, &Rc::new(own), 0))
         }
 
-        // "a total over 65,535 being 65,535"
+        // A total over 65,535 is 65,535.
         Term::Addition(r, left, right) => count(
             tables,
             *r,
@@ -177,7 +178,7 @@ fn reduce(tables: &Tables, term: &Rc<Term>) -> Move {
             |marks, first, second| Term::Literal(marks, first.saturating_add(second)),
         ),
 
-        // "Less than gives the first injection, otherwise the second, of a unit with that side's groups."
+        // Where the left is less it is the first injection, otherwise the second, of a unit with that side's groups.
         Term::LessThan(r, sum, left, right) => count(
             tables,
             *r,
@@ -194,8 +195,8 @@ fn reduce(tables: &Tables, term: &Rc<Term>) -> Move {
     }
 }
 
-/// Document 02, item 13: what reads two numbers, which "evaluate left first, and read both operands in one
-/// step". There is no protect: what is made has its groups at once.
+/// What reads two numbers: the left is evaluated first, and both are read in one step. There is no protect: what
+/// is made has its groups at once.
 fn count(
     tables: &Tables,
     node: Group,
@@ -221,8 +222,9 @@ fn count(
     Move::To(Rc::new(result(marks, *first, *second)))
 }
 
-/// (λx : s1. ((μf : s. e) x)_g)_κ for s = (s1 → s2, κ), κ all its groups, where g is "the unrolled
-/// application's group": the written one. s1 starts right after s.
+/// What stands for the recursion (μf : s. e)_w in its body: (λx : s1. ((μf : s. e)_w x)_g)_κ for s = (s1 → s2, κ), κ
+/// all its groups, where g is who its calls are made as: w, the written group, unless the rules of form 1 are meant. s1
+/// starts right after s.
 fn unrolled(tables: &Tables, written: Group, function: u16, recursion: &Rc<Term>) -> Term {
     let own = tables.types.at(function.into());
     assert!(matches!(own.form, Form::Function(..)), "question 16: a function for 11");
@@ -231,8 +233,8 @@ fn unrolled(tables: &Tables, written: Group, function: u16, recursion: &Rc<Term>
     Term::Function(own.marks, function + 1, Rc::new(call))
 }
 
-/// "Too big means the new term has more than 8,192 records, more than the written buffer's length
-/// divided by 6, or depth over 256." `room` is that length divided by 8, as document 02's item 10 has it.
+/// Too big is a new term of more than 8,192 records, or of more than `room`, as many as the written buffer holds,
+/// or of a depth over 256.
 pub fn too_big(term: &Term, room: usize) -> bool {
     let size = term.size();
     size > MOST_SCRIPT_RECORDS || size > room || term.depth() > MOST_DEPTH
@@ -255,8 +257,8 @@ pub struct Ran {
     pub last: Rc<Term>,
 }
 
-/// "A run repeats steps […] 0, 2, 3 and 4 end it. When as many steps have moved as the budget has, a
-/// value ends 0 and any other term 1, also with budget 0."
+/// A run repeats steps; ends 0, 2, 3 and 4 end it. When as many steps have moved as the budget has, a value
+/// ends 0 and any other term 1, also with budget 0.
 pub fn run(tables: &Tables, start: &Rc<Term>, budget: u64, room: usize) -> Ran {
     let mut last = start.clone();
     let mut steps = 0;

@@ -1,5 +1,5 @@
-//! "Stripping a script, a term or a types table sets bytes 1 and 2 (r and ir) of each record to 0
-//! and keeps every other byte." Document 02, item 10: "Stripping clears the new bytes too".
+//! Stripping sets r, ir, c and ic of each record of a script, a term or a types table to 0 and keeps every other byte
+//! (manual, 7.1).
 
 use crate::limits::{SCRIPT_BYTES, TYPE_BYTES};
 
@@ -22,5 +22,5 @@ pub fn strip_types(types: &mut [u8]) {
     strip(types, TYPE_BYTES, [1, 2, 4, 5]);
 }
 
-/// "The one-group table is a single row, the word 1."
+/// The one-group table: a single row, the word 1.
 pub const ONE_GROUP: [u8; 4] = [1, 0, 0, 0];

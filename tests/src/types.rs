@@ -1,4 +1,5 @@
-//! Types: trees, the types table with questions 8 to 12, at or below, the comparison, raising.
+//! Types (manual, 3): trees, the types table with questions 8 to 12, at or below, the comparison, common types,
+//! raising.
 
 use std::rc::Rc;
 
@@ -7,7 +8,8 @@ use crate::limits::{are_whole, MOST_TABLE_RECORDS, MOST_TYPE_RECORDS, TYPE_BYTES
 use crate::refusal::{ask, refuse, Answer};
 use crate::rules::{Rules, Security};
 
-/// "(r, ir) are readers and indirect readers." Document 02, item 10: "creators c and indirect creators ic".
+/// The property of an object or a type: its readers and indirect readers, its creators and indirect creators (manual,
+/// 2.4).
 #[derive(Debug, Clone, Copy, PartialEq, Eq)]
 pub struct Marks {
     pub r: Group,
@@ -16,12 +18,12 @@ pub struct Marks {
     pub ic: Group,
 }
 
-/// "Raising by (g, m)": what reading an object, or a protect, adds to what comes of it.
+/// An influence: what reading an object, or a protect, adds to what comes of it (manual, 2.5).
 #[derive(Debug, Clone, Copy, PartialEq, Eq)]
 pub struct Raise {
-    /// g, joined into r and ir.
+    /// Joined into r and ir.
     pub ir: Group,
-    /// m, met into c and ic.
+    /// Met into c and ic.
     pub ic: Group,
 }
 
@@ -32,8 +34,8 @@ pub struct Type {
     pub form: Form,
 }
 
-/// "Kinds: 0 unit, 1 sum, 2 pair, 3 function; all but unit are followed by their left and then
-/// their right type." Document 02, item 13: "type kind 4, without sides".
+/// Kinds 0 unit, 1 sum, 2 pair, 3 function and 4 number. All but units and numbers are followed by their left and then
+/// their right type.
 #[derive(Debug, Clone, PartialEq, Eq)]
 pub enum Form {
     Unit,
@@ -85,8 +87,8 @@ impl Type {
     }
 }
 
-/// "At or below (table 2): same kind, r ⊑ r', ir ⊑ ir', both sides at or below; at a function the
-/// left sides are compared the other way round." A lattice alone means the rules as they are now.
+/// At or below (manual, 3.4): of the same kind, with properties at or below, and both sides at or below; at a function
+/// the left sides are compared the other way round. A lattice alone means the rules of form 4.
 pub fn at_or_below<'a>(security: impl Into<Security<'a>>, s: &Type, t: &Type) -> bool {
     let security = security.into();
     let sides = match (&s.form, &t.form) {
@@ -102,7 +104,7 @@ pub fn at_or_below<'a>(security: impl Into<Security<'a>>, s: &Type, t: &Type) ->
     security.at_or_below(s.marks, t.marks) && sides
 }
 
-/// "The comparison of types now answers same, below or neither." As numbers 2, 1 and 0.
+/// What the comparison of two types answers, and as which number (manual, 3.5).
 #[derive(Debug, Clone, Copy, PartialEq, Eq, PartialOrd, Ord)]
 pub enum Comparison {
     Neither = 0,
@@ -110,7 +112,7 @@ pub enum Comparison {
     Same = 2,
 }
 
-/// "Same means equal in every record."
+/// Same is equal in every record.
 pub fn compare<'a>(security: impl Into<Security<'a>>, s: &Type, t: &Type) -> Comparison {
     if s.write() == t.write() {
         Comparison::Same
@@ -124,9 +126,9 @@ pub fn compare<'a>(security: impl Into<Security<'a>>, s: &Type, t: &Type) -> Com
 /// Which of two types' common types is meant.
 #[derive(Debug, Clone, Copy, PartialEq, Eq)]
 pub enum Bound {
-    /// "the lowest type at or above both"
+    /// The lowest type at or above both.
     LowestAbove,
-    /// "highest common types too, for parameters"
+    /// The highest at or below both, for parameters.
     HighestBelow,
 }
 
@@ -146,7 +148,7 @@ impl Bound {
     }
 }
 
-/// The common type of two types, if they have one: by table 2 only types of equal kinds throughout are
+/// The common type of two types, if they have one (manual, 3.6): only types of equal kinds throughout are
 /// ever at or below one another, and a function's parameter counts the other way round.
 pub fn common<'a>(
     bound: Bound,
@@ -170,12 +172,12 @@ pub fn common<'a>(
     Some(Type { marks, form })
 }
 
-/// "s • g joins g into both r and ir of the first record of s, and nowhere deeper."
+/// The type with its first record raised, and nothing deeper.
 pub fn raise<'a>(security: impl Into<Security<'a>>, s: &Type, by: Raise) -> Type {
     Type { marks: security.into().raised(s.marks, by), form: s.form.clone() }
 }
 
-/// The types table. "Every record starts a type and is named by its index."
+/// The types table. Every record starts a type and is named by its index.
 #[derive(Debug, Clone, PartialEq, Eq)]
 pub struct Types {
     records: Vec<[u8; TYPE_BYTES]>,
@@ -249,11 +251,11 @@ pub fn read_types(groups: &Groups, bytes: &[u8]) -> Answer<Types> {
     read_type_records(groups, bytes)
 }
 
-/// Questions 9 to 12 of whole records, then the table. "36 is put directly after 10".
+/// Questions 9 to 12 of whole records, 36 directly after 10, then the table.
 pub fn read_type_records(groups: &Groups, bytes: &[u8]) -> Answer<Types> {
     let records = records_of(bytes);
 
-    // 9. Kind at most 3, byte 3 (counted from 0) equal to 0, groups in table? And kind 4 by item 13.
+    // 9. Kind at most 4, byte 3 (counted from 0) equal to 0, groups in table?
     for (index, &[kind, r, ir, zero, c, ic]) in records.iter().enumerate() {
         let in_table = [r, ir, c, ic].iter().all(|&group| groups.has(group.into()));
         ask(kind <= 4 && zero == 0 && in_table, 9, index)?;

@@ -1,8 +1,8 @@
-//! Typing: table 3 with the documents' departures, questions 20 to 24 and 31.
+//! Typing: the typing rules (manual, 5), questions 20 to 24 and 31.
 //!
-//! "Typing goes operands first, left to right; 20, 21 and 22 come as soon as the operand concerned
-//! has its type, 23 before the body, 24 last. The place is the node." A recursion has its type
-//! written, so its 21 comes at once. What reads two numbers is asked 20 and 21 of each.
+//! Operands come first, left to right. 20, 21 and 22 are asked as soon as the operand concerned has its type, 23 before
+//! the body, 24 last; the place is the node. A recursion has its type written, so its 21 comes at once. What reads two
+//! numbers is asked 20 and 21 of each.
 
 use std::rc::Rc;
 
@@ -45,8 +45,7 @@ fn find(tables: &Tables, context: &mut Vec<Type>, term: &Term, place: usize) -> 
             small(Type { marks: *marks, form: Form::Pair(Rc::new(first), Rc::new(second)) }, place)
         }
 
-        // [Inj], the sides given: "the injection's operand is at or below its side"; "that
-        // record's own groups aren't read".
+        // [Inj]: the named sum gives the two sides alone, its own groups aren't read.
         Term::Injection(side, marks, sum, operand) => {
             let found = find(tables, context, operand, place + 1)?;
             let Form::Sum(first, second) = tables.types.at((*sum).into()).form else {
@@ -80,7 +79,7 @@ fn find(tables: &Tables, context: &mut Vec<Type>, term: &Term, place: usize) -> 
             Ok(raise(security, part, security.read_by(found.marks, *r)))
         }
 
-        // [Case], the result given or found; "the case has s • ir of the tested operand".
+        // [Case]: the result is given or found, and then raised.
         Term::Case(r, result, tested, first, second) => {
             let found = find(tables, context, tested, place + 1)?;
             let Form::Sum(left, right) = &found.form else {
@@ -106,8 +105,7 @@ fn find(tables: &Tables, context: &mut Vec<Type>, term: &Term, place: usize) -> 
             Ok(raise(security, &found, *by))
         }
 
-        // [Rec]; "21 is put to the recursion before 23, with r of its type against the written
-        // group".
+        // [Rec]: 21 is asked of r of its type and the written group, before 23.
         Term::Recursion(written, function, body) => {
             let own = tables.types.at((*function).into());
             let Form::Function(_, result) = &own.form else {
@@ -120,15 +118,16 @@ fn find(tables: &Tables, context: &mut Vec<Type>, term: &Term, place: usize) -> 
             Ok(own)
         }
 
-        // Document 02, item 13.
+        // [Literal]
         Term::Literal(marks, _) => Ok(Type { marks: *marks, form: Form::Number }),
 
+        // [Sum of two]
         Term::Addition(r, left, right) => {
             let marks = find_counted(tables, context, *r, [left, right], place)?;
             Ok(Type { marks, form: Form::Number })
         }
 
-        // The sum's own groups aren't read, as at an injection.
+        // [Less than]: the named sum's own groups aren't read, as at an injection.
         Term::LessThan(r, sum, left, right) => {
             let marks = find_counted(tables, context, *r, [left, right], place)?;
             Ok(Type { marks, form: tables.types.at((*sum).into()).form })
@@ -136,7 +135,7 @@ fn find(tables: &Tables, context: &mut Vec<Type>, term: &Term, place: usize) -> 
     }
 }
 
-/// The groups of what a node of this group makes of two numbers: "20 and 21 are put to each operand", as
+/// The groups of what a node of this group makes of two numbers. 20 and 21 are asked of each operand as
 /// soon as it has its type.
 fn find_counted(
     tables: &Tables,
@@ -183,7 +182,7 @@ impl Branch<'_> {
     }
 }
 
-/// "both branches are at or below the result type s": each is asked as soon as it has its type.
+/// Both branches are at or below the result type: each is asked as soon as it has its type.
 fn given_result(
     tables: &Tables,
     context: &mut Vec<Type>,
@@ -198,8 +197,8 @@ fn given_result(
     Ok(result)
 }
 
-/// Document 02, item 3: "takes the lowest type at or above both branches", "22 is skipped for its
-/// branches, and 31 at the case's record follows the second branch when no common type exists".
+/// A case that finds its own type has the lowest at or above both branches. 22 is not asked of them; 31 is, at
+/// the case's record, when the second branch has its type: is there such a type?
 fn own_result(
     tables: &Tables,
     context: &mut Vec<Type>,

@@ -1,12 +1,12 @@
-//! The words of a report's sheet: ours, or a studio's own (document 02, item 7).
+//! The words of a report's sheet: ours, or a studio's own (manual, 7.4).
 
 use crate::limits::{WORDS_BYTES, WORD_BYTES};
 use crate::refusal::{ask, Answer};
 
-/// "whose words are unit, first, second, pair, function, closed", and `number`, by their kinds.
+/// Ours, by the kinds of a sheet's records.
 pub const OURS: [&str; 7] = ["unit", "first", "second", "pair", "function", "closed", "number"];
 
-/// "each 1 to 12 letters a to z, then zero bytes"
+/// The word of a record, if it is 1 to 12 letters a to z and then zero bytes.
 fn letters(record: &[u8]) -> Option<&str> {
     let end = record.iter().position(|&byte| byte == 0).unwrap_or(record.len());
     let (word, rest) = record.split_at(end);
@@ -18,16 +18,16 @@ fn letters(record: &[u8]) -> Option<&str> {
 
 /// The words of a table: 32, then 33 of all words, then 34.
 pub fn read_words(table: &[u8]) -> Answer<Vec<String>> {
-    // "Place 0 goes with 32 when the length isn't 72,": now "a length other than 84"
+    // 32. Is the length 84? (0)
     ask(table.len() == WORDS_BYTES, 32, 0)?;
-    // "and the record's index with 33 for a badly formed word"
+    // 33. Is the word well formed?
     let mut words = Vec::new();
     for (index, record) in table.chunks(WORD_BYTES).enumerate() {
         let word = letters(record);
         ask(word.is_some(), 33, index)?;
         words.extend(word.map(String::from));
     }
-    // "and, all words tried by 33 first, 34 for one equal to an earlier one."
+    // 34. Does it differ from every earlier one? Asked when all words have passed 33.
     for index in 0..words.len() {
         ask(!words[..index].contains(&words[index]), 34, index)?;
     }

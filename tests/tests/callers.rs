@@ -1,5 +1,5 @@
-//! Document 02, item 6: what the rewriting of scripts from before it writes, in scripts of 6-byte records
-//! over types of 4-byte records, the form that they have. `creators.rs` has how they are checked and run.
+//! What writing the callers leaves in scripts that were saved in form 1 (manual, 7.12): 6-byte records over types of
+//! 4-byte records. `creators.rs` has how they are checked and run.
 
 mod common;
 

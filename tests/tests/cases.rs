@@ -1,4 +1,4 @@
-//! Cases A to L of document 01, each whole, and the report's text.
+//! The worked cases A to L (manual, 10), each whole, and the report's text.
 
 mod common;
 
@@ -14,7 +14,7 @@ fn report_of(inputs: &Inputs) -> String {
 }
 
 #[test]
-fn shared_inputs_are_the_documents() {
+fn shared_inputs_are_the_manuals() {
     let inputs = cases::b();
     assert_eq!(inputs.groups, [3, 0, 0, 0, 2, 0, 0, 0]);
     assert_eq!(
@@ -42,7 +42,7 @@ fn case_b() {
     check_finds(&cases::b(), &[type_record(1, 1, 1), UNIT_TYPE, UNIT_TYPE].concat());
     let value = [record(4, 1, 1, 0), record(1, 0, 0, 0)].concat();
     run_reports(&cases::b(), 1000, 0, 2, 2, Some(&value));
-    // Document 02, item 5: "case B's report loses its last line."
+    // The closed injection has one line, and its part none.
     assert_eq!(report_of(&cases::b()), "accepted 3\nend 0 steps 2 records 2\nclosed 0 0\n");
 }
 

@@ -1,5 +1,5 @@
-//! Document 02, item 10: what was saved before it. Random scripts and tables of the old form are rewritten, and then checked, run
-//! and compared as document 01's rules did; what the rewriting calls write; and that creators decide nothing but types.
+//! Random scripts and tables as form 1 saves them are rewritten, and then checked, run and compared as the rules of
+//! form 1 do (manual, 7.12); what the rewriting calls write; and that creators decide nothing but types.
 
 mod common;
 
@@ -27,7 +27,7 @@ fn some_term(rng: &mut Rng, tables: &Tables) -> Rc<Term> {
     term.unwrap_or_else(|| some_typed(rng, tables, fuel))
 }
 
-/// A script with its tables, as it is, nearly so, or damaged, as it was saved before items 6 and 10.
+/// A script with its tables, as it is, nearly so, or damaged, as form 1 saves it.
 fn some_old_inputs(rng: &mut Rng) -> Inputs {
     let world = World::random(rng);
     let script = some_term(rng, &world.tables).write();
@@ -44,25 +44,25 @@ fn some_old_inputs(rng: &mut Rng) -> Inputs {
         1 => old.types = damaged(rng, &old.types),
         _ => {}
     }
-    // Damage may have made a recursion, whose byte was 0 then.
+    // Damage may have made a recursion, whose byte 1 is 0 in form 1.
     for record in old.script.chunks_exact_mut(OLD_SCRIPT_BYTES).filter(|record| record[0] == 11) {
         record[1] = 0;
     }
     old
 }
 
-/// The tables of the old form, for the rules of document 01.
+/// The tables of the old form, for the rules of form 1.
 fn tables_before(old: &Inputs) -> Answer<Tables> {
     let tables = read_old_tables(&old.groups, &old.types)?;
     Ok(Tables { rules: Rules::Before, ..tables })
 }
 
-/// The question of document 01, 2 to 19, that the old form is refused by.
+/// The question, 2 to 19, that the old form is refused by.
 fn refused_before(old: &Inputs) -> Option<Refusal> {
     tables_before(old).and_then(|tables| read_old_script(&tables, &old.script)).err()
 }
 
-/// The script with the callers of item 6 written in the old form.
+/// The script with its callers written, in the old form.
 fn with_callers(types: &[u8], script: &[u8]) -> Vec<u8> {
     let mut script = script.to_vec();
     write_callers(types, &mut script);

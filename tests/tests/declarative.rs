@@ -1,5 +1,5 @@
-//! Table 3 read the other way: as the set of all types its rules, subsumption included, give a term.
-//! Typing must accept whenever that set has a member, and find its lowest one.
+//! The typing rules read the other way, as a relation (manual, 5.13): the set of all types that they, subsumption
+//! included, give a term. Typing must accept whenever that set has a member, and find its lowest one.
 //!
 //! The sets are taken within a small universe: all types of up to 3 records over a few groups, either
 //! with all readers, or with all creators. What a rule asks of the two is asked of each apart, so no

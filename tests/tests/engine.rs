@@ -482,7 +482,7 @@ fn every_pair_of_small_types() {
 }
 
 #[test]
-fn demand_3_of_the_engine() {
+fn drawn_accepted_runs_of_the_engine_keep_their_promise() {
     // The stripped run beside the other; `run_with` compares each with the second implementation.
     comparisons(some(1500), |rng| {
         let world = World::random(rng);

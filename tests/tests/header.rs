@@ -196,7 +196,7 @@ const SHEETS: (&str, &[(&str, &str)]) = (
     ],
 );
 
-/// Where a record has its fields, by the document's text: header, value, engine.
+/// Where a record has its fields, by the manual: header, value, engine.
 const FIELDS: [(&str, usize, &str); 10] = [
     ("AT_KIND", 0, ""),
     ("AT_READERS", 1, "types::R"),
@@ -210,7 +210,7 @@ const FIELDS: [(&str, usize, &str); 10] = [
     ("SHEET_AT_NUMBER", 4, ""),
 ];
 
-/// What the document's text alone gives: header, value.
+/// What the manual alone gives: header, value.
 const TEXT: [(&str, usize); 14] = [
     ("END_VALUE", End::Value as usize),
     ("END_SPENT", End::Moved as usize),
@@ -325,7 +325,7 @@ fn every_constant_is_the_engines() {
 }
 
 #[test]
-fn as_many_kinds_as_the_document_has() {
+fn as_many_kinds_as_the_manual_has() {
     assert_eq!(KINDS.1.len(), OPERANDS.len());
     let words: Vec<String> = SHEETS.1.iter().map(|(name, _)| name.to_lowercase()).collect();
     assert_eq!(words, OURS);

@@ -1,4 +1,5 @@
-//! Which script is in force: questions 40, 25, 40, 41 and 42 of both lists with their places and order, and the look-up.
+//! Which script is in force (manual, 7.7): questions 40, 25, 40, 41 and 42 of both lists with their places and order,
+//! and the look-up.
 
 mod common;
 
@@ -231,7 +232,8 @@ fn replacement(lists: &Lists, script: u16) -> Option<u16> {
     found
 }
 
-/// What item 14 says of lists that pass, from every script.
+/// Of lists that pass, from every script: following its replacements ends, with what the look-up gives, of its type or
+/// one below. A script that isn't listed has none.
 fn holds_of(studio: &Studio, lists: &Lists, tables: &Tables) {
     for index in 0..=lists.scripts.len() as u16 {
         let found = in_force(studio, index.into()).expect("the lists pass");

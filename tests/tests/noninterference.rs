@@ -1,17 +1,21 @@
-//! Document 02, item 8: nothing is learned from what may not be seen. In accepted scripts a closed part is exchanged for another of the
-//! same reported type; where the type of the whole doesn't let its reader see what the part may influence, runs that end 0 end alike.
+//! Nothing is learned from what may not be seen (manual, 11). In accepted scripts a closed part is exchanged for
+//! another of the same reported type; where the type of the whole doesn't let its reader see what the part may
+//! influence, runs that end 0 end alike. And its dual: so they do where that type doesn't let others than its indirect
+//! creators have had a hand in it, and the part does.
 
 mod common;
 
 use std::rc::Rc;
 
+use common::runs::{over, value_of};
 use common::*;
 use wigneld_tests::cases::{self, type_record, Inputs, UNIT_TYPE};
+use wigneld_tests::exchange::accepted;
 use wigneld_tests::generate::*;
 use wigneld_tests::groups::{Group, Groups};
 use wigneld_tests::limits::*;
 use wigneld_tests::refusal::Answer;
-use wigneld_tests::script::{read_script, Record, Side, Term};
+use wigneld_tests::script::{Record, Side, Term};
 use wigneld_tests::steps::End;
 use wigneld_tests::types::{at_or_below, read_type, Form, Marks, Type};
 use wigneld_tests::typing::type_of;
@@ -36,24 +40,50 @@ fn all_marks(s: &Type) -> Option<Vec<Marks>> {
     Some(all)
 }
 
-/// The lowest type (t', (r', ir')) at or above this one whose "readers are all ⊑ r', its indirect readers all
-/// ⊑ ir'", unless it holds a function: a whole script has it by subsumption.
-fn read_whole(groups: &Groups, s: &Type) -> Option<Type> {
-    let all = all_marks(s)?;
-    let joined = |of: fn(&Marks) -> Group| all.iter().fold(0, |g, marks| groups.join(g, of(marks)));
-    let marks = Marks { r: joined(|marks| marks.r), ir: joined(|marks| marks.ir), ..s.marks };
-    let whole = Type { marks, form: s.form.clone() };
-    assert!(at_or_below(groups, s, &whole));
-    Some(whole)
+/// Which of the two is claimed, of readers or of creators.
+#[derive(Debug, Clone, Copy, PartialEq, Eq)]
+enum Claim {
+    Unseen,
+    MadeByOthers,
 }
 
-/// The last term of a run that ends 0, and the steps that it made, in buffers of any length.
-fn value_of(rng: &mut Rng, inputs: &Inputs) -> Option<(Vec<u8>, u64)> {
-    let budget = if rng.one_in(8) { rng.below(16) } else { 200 + rng.below(200) } as u64;
-    let [first, scratch] = [(); 2].map(|_| REPORT_RUN_BYTES - SCRIPT_BYTES * rng.below(3000));
-    let (report, first, _) = run_in(inputs, budget, first, scratch);
-    let report = report.ok().filter(|report| report.end == End::Value)?;
-    Some((first[..report.records as usize * SCRIPT_BYTES].to_vec(), report.steps))
+impl Claim {
+    /// The lowest type at or above this one whose readers are all ⊑ its outermost ones and whose indirect readers all ⊑
+    /// its outermost indirect ones, or whose indirect creators are all ⊒ its outermost ones; unless it holds a
+    /// function. A whole script has it by subsumption.
+    fn whole(self, groups: &Groups, s: &Type) -> Option<Type> {
+        let all = all_marks(s)?;
+        let joined =
+            |of: fn(&Marks) -> Group| all.iter().fold(0, |g, marks| groups.join(g, of(marks)));
+        let marks = match self {
+            Claim::Unseen => {
+                Marks { r: joined(|marks| marks.r), ir: joined(|marks| marks.ir), ..s.marks }
+            }
+            Claim::MadeByOthers => {
+                let ic = all.iter().fold(highest(groups), |g, marks| groups.meet(g, marks.ic));
+                Marks { ic, ..s.marks }
+            }
+        };
+        let whole = Type { marks, form: s.form.clone() };
+        assert!(at_or_below(groups, s, &whole));
+        Some(whole)
+    }
+
+    /// The groups of an object with this one as its ir, or as its ic, if they are ordered.
+    fn marks_with(self, groups: &Groups, marks: Marks, g: Group) -> Option<Marks> {
+        match self {
+            Claim::Unseen => groups.below(g, marks.r).then_some(Marks { ir: g, ..marks }),
+            Claim::MadeByOthers => groups.below(g, marks.c).then_some(Marks { ic: g, ..marks }),
+        }
+    }
+
+    /// May a part of such a type have no influence on such a whole?
+    fn parted(self, groups: &Groups, part: Marks, whole: &Type) -> bool {
+        match self {
+            Claim::Unseen => !groups.below(part.ir, whole.marks.ir),
+            Claim::MadeByOthers => !groups.below(whole.marks.ic, part.ic),
+        }
+    }
 }
 
 /// The closed parts of a script that are accepted by themselves: where they start and end, and their types. Not the whole script,
@@ -61,9 +91,7 @@ fn value_of(rng: &mut Rng, inputs: &Inputs) -> Option<(Vec<u8>, u64)> {
 fn closed_parts(world: &World, script: &[u8]) -> Vec<(usize, usize, Type)> {
     let part = |at: usize| {
         let part = subterm(script, (at / SCRIPT_BYTES) as u64);
-        let term = read_script(&world.tables, part, &[]).ok()?;
-        let found = type_of(&world.tables, &term).ok()?;
-        Some((at, at + part.len(), found))
+        Some((at, at + part.len(), accepted(&world.tables, part)?))
     };
     (SCRIPT_BYTES..script.len()).step_by(SCRIPT_BYTES).filter_map(part).collect()
 }
@@ -90,46 +118,63 @@ struct Seen {
     told_apart: u32,
 }
 
-/// Exchanges a closed part of an accepted script, whose type is `whole`, for two others of one type: mostly such that the whole's
-/// reader may not see what the part influences.
-fn exchange(rng: &mut Rng, world: &World, script: &[u8], whole: &Type, seen: &mut Seen) {
-    let tables = &world.tables;
-    let groups = &tables.groups;
+/// A closed part to exchange, and the type of what is put in its place: mostly one that may not influence a whole of this type.
+fn drawn_part(
+    rng: &mut Rng,
+    world: &World,
+    claim: Claim,
+    (script, whole): (&[u8], &Type),
+) -> Option<(usize, usize, Type)> {
+    let groups = &world.tables.groups;
     let parts = closed_parts(world, script);
     if parts.is_empty() {
-        return;
+        return None;
     }
     let (start, end, found) = rng.pick(&parts).clone();
     // Whoever may read the part may read it still, so the nodes around it pass 21.
     let any = rng.one_in(8);
-    let hidden =
-        |g: Group| groups.below(g, found.marks.r) && (any || !groups.below(g, whole.marks.ir));
-    let hidden: Vec<Group> = (0..groups.count() as Group).filter(|&g| hidden(g)).collect();
+    let all = (0..groups.count() as Group).filter_map(|g| claim.marks_with(groups, found.marks, g));
+    let parted = |&marks: &Marks| any || claim.parted(groups, marks, whole);
+    let hidden: Vec<Marks> = all.filter(parted).collect();
     if hidden.is_empty() {
-        return;
+        return None;
     }
-    let secret = Type { marks: Marks { ir: *rng.pick(&hidden), ..found.marks }, form: found.form };
+    Some((start, end, Type { marks: *rng.pick(&hidden), form: found.form }))
+}
+
+/// Two scripts of this reported type.
+fn drawn_two(rng: &mut Rng, world: &World, own: &Type) -> Option<[Inputs; 2]> {
     let mut draw = || {
         let fuel = rng.below(20);
-        typed_exactly(rng, tables, &secret, fuel).map(|term| term.write())
+        typed_exactly(rng, &world.tables, own, fuel).map(|term| over(world, &term.write()))
     };
-    let (Some(one), Some(other)) = (draw(), draw()) else { return };
-
-    let of = |script: Vec<u8>| {
-        let World { groups, types, .. } = world.clone();
-        Inputs { groups, types, script }
-    };
-    let parts = [one, other].map(of);
-    for part in &parts {
-        assert_eq!(reported(part), Ok(secret.clone()));
+    let two = [draw()?, draw()?];
+    for script in &two {
+        assert_eq!(reported(script), Ok(own.clone()));
     }
-    let scripts =
-        parts.each_ref().map(|part| of([&script[..start], &part.script, &script[end..]].concat()));
+    Some(two)
+}
+
+/// Exchanges a closed part of an accepted script, whose type is `whole`, for two others of one type.
+fn exchange(
+    rng: &mut Rng,
+    world: &World,
+    claim: Claim,
+    (script, whole): (&[u8], &Type),
+    seen: &mut Seen,
+) {
+    let groups = &world.tables.groups;
+    let drawn = drawn_part(rng, world, claim, (script, whole));
+    let Some((start, end, secret)) = drawn else { return };
+    let Some(parts) = drawn_two(rng, world, &secret) else { return };
+    let around = [&script[..start], &script[end..]];
+    let put = |part: &Inputs| over(world, &[around[0], &part.script, around[1]].concat());
+    let scripts = parts.each_ref().map(put);
     // Either may be too deep. Typing asks of a part nothing but its type.
     let [Ok(found), Ok(other)] = scripts.each_ref().map(reported) else { return };
     assert_eq!(found, other);
-    let Some(whole) = read_whole(groups, &found) else { return };
-    let unseen = !groups.below(secret.marks.ir, whole.marks.ir);
+    let Some(whole) = claim.whole(groups, &found) else { return };
+    let unseen = claim.parted(groups, secret.marks, &whole);
     let ran = scripts.each_ref().map(|script| value_of(rng, script));
     let [Some((value, steps)), Some((other, other_steps))] = &ran else {
         seen.one_ended += (unseen && ran.iter().any(Option::is_some)) as u32;
@@ -141,42 +186,56 @@ fn exchange(rng: &mut Rng, world: &World, script: &[u8], whole: &Type, seen: &mu
     }
 
     assert_eq!(value, other, "a part of type {secret:?} is learned of by {whole:?}");
-    let values = [value, other].map(|value| of(value.clone()));
+    same_sheets(groups, [value, other].map(|value| over(world, value)));
+    let apart = parts.each_ref().map(|part| value_of(rng, part).map(|(value, _)| value));
+    let different = apart[0] != apart[1] && apart.iter().all(Option::is_some);
+    seen.pairs += 1;
+    seen.different += different as u32;
+    seen.by_other_steps += (different && steps != other_steps) as u32;
+    seen.by_subsumption += (whole != found) as u32;
+    count_kinds(value, &around.concat(), seen);
+}
+
+/// The sheets for every group are the same.
+fn same_sheets(groups: &Groups, values: [Inputs; 2]) {
     for group in 0..groups.count() as u64 {
         let room = values[0].script.len() / SCRIPT_BYTES * SHEET_BYTES;
         let [sheet, other] = values.each_ref().map(|value| sheet_in(value, group, room));
         assert!(sheet.0.is_ok());
         assert_eq!(sheet, other);
     }
-    seen.pairs += 1;
-    if let [Some((one, _)), Some((other, _))] = parts.each_ref().map(|part| value_of(rng, part)) {
-        seen.different += (one != other) as u32;
-        seen.by_other_steps += (one != other && steps != other_steps) as u32;
-    }
-    seen.by_subsumption += (whole != found) as u32;
+}
+
+/// Counts what the value has, and what stands around the exchanged part.
+fn count_kinds(value: &[u8], around: &[u8], seen: &mut Seen) {
     let any = |script: &[u8], of: fn(Record) -> bool| {
         script.chunks(SCRIPT_BYTES).any(|record| of(Record::read(record))) as u32
     };
-    seen.with_numbers += any(&values[0].script, |record| record.kind == 12);
-    let around = [&script[..start], &script[end..]].concat();
-    seen.recursions += any(&around, |record| record.kind == 11);
-    seen.own_types += any(&around, |record| record.finds_own_type());
-    seen.created += any(&around, |record| record.c != 0);
+    seen.with_numbers += any(value, |record| record.kind == 12);
+    seen.recursions += any(around, |record| record.kind == 11);
+    seen.own_types += any(around, |record| record.finds_own_type());
+    seen.created += any(around, |record| record.c != 0);
 }
 
-#[test]
-fn what_may_not_be_seen_changes_no_value() {
+/// Tries the claim on so many scripts.
+fn tried(claim: Claim, usual: u64) -> (bool, Seen) {
     let mut seen = Seen::default();
-    let enough = examples(3000, |rng| {
+    let enough = examples(usual, |rng| {
         let world = World::random(rng);
         let fuel = rng.below(60);
         let script = some_typed(rng, &world.tables, fuel);
         let found = type_of(&world.tables, &script).expect("typed by construction");
-        let Some(whole) = read_whole(&world.tables.groups, &found) else { return };
+        let Some(whole) = claim.whole(&world.tables.groups, &found) else { return };
         for _ in 0..4 {
-            exchange(rng, &world, &script.write(), &whole, &mut seen);
+            exchange(rng, &world, claim, (&script.write(), &whole), &mut seen);
         }
     });
+    (enough, seen)
+}
+
+#[test]
+fn what_may_not_be_seen_changes_no_value() {
+    let (enough, seen) = tried(Claim::Unseen, 3000);
     let drawn = [
         (seen.pairs, 300),
         (seen.different, 150),
@@ -188,6 +247,24 @@ fn what_may_not_be_seen_changes_no_value() {
         (seen.created, 200),
         (seen.one_ended, 0),
         (seen.told_apart, 100),
+    ];
+    assert!(!enough || drawn.iter().all(|(count, least)| count > least), "{seen:?}");
+}
+
+#[test]
+fn what_others_made_changes_no_value() {
+    let (enough, seen) = tried(Claim::MadeByOthers, 2000);
+    let drawn = [
+        (seen.pairs, 150),
+        (seen.different, 80),
+        (seen.by_other_steps, 50),
+        (seen.by_subsumption, 0),
+        (seen.with_numbers, 60),
+        (seen.recursions, 0),
+        (seen.own_types, 80),
+        (seen.created, 150),
+        (seen.one_ended, 0),
+        (seen.told_apart, 60),
     ];
     assert!(!enough || drawn.iter().all(|(count, least)| count > least), "{seen:?}");
 }

@@ -1,5 +1,5 @@
-//! Document 02, item 13: numbers. What a sum and a comparison of two give, their groups and numbers worked out anew; ends, contexts and
-//! the order of their questions; counting recursions; what a sheet and a report show of numbers.
+//! Numbers (manual, 7.5). What a sum and a comparison of two give, their groups and numbers worked out anew; ends,
+//! contexts and the order of their questions; counting recursions; what a sheet and a report show of numbers.
 
 mod common;
 

@@ -1,5 +1,5 @@
-//! Scripts of the old office program: questions 28 to 30 with their places and order, what a name means,
-//! import and export back and forth, and the callers of item 6 in them.
+//! Scripts of the old office program (manual, 7.9 and 7.10): questions 28 to 30 with their places and order, what a
+//! name means, import and export back and forth, and the callers that are put into them.
 
 mod common;
 
@@ -467,7 +467,7 @@ fn callers_are_put_into_old_scripts() {
                 _ => untyped_script(rng, &world.tables, fuel),
             };
             let mut old = office_script(rng, &term);
-            // As document 01 saved it.
+            // As the old program saved it.
             for record in old.chunks_exact_mut(OFFICE_BYTES).filter(|record| record[0] == 11) {
                 record[1] = 0;
             }

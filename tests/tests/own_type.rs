@@ -1,4 +1,4 @@
-//! Document 02, item 3: cases that find their own type. That the type is the lowest of all at or above both branches, what is
+//! Cases that find their own type (manual, 5.8). That the type is the lowest of all at or above both branches, what is
 //! asked of such a case and in which order, how deep its operands are, and that steps and stripping keep its number.
 
 mod common;

@@ -1,5 +1,5 @@
-//! Document 02, item 11: the loan desk's packet. Its questions with their places and order, its ends, what its five buffers hold
-//! afterwards, and that it is what building the application by hand gives.
+//! The loan desk's packet (manual, 7.8). Its questions with their places and order, its ends, what its five buffers
+//! hold afterwards, and that it is what building the application by hand gives.
 
 mod common;
 

@@ -1,5 +1,5 @@
-//! Document 02, item 9: previews and the moves that take them back. What a preview gives and that nothing is written but by a move
-//! that moves; question 35, its place and its order; stale and forged previews; the number of steps so far.
+//! Previews and the moves that take them back (manual, 6.6). What a preview gives and that nothing is written but by a
+//! move that moves; question 35, its place and its order; stale and forged previews; the number of steps so far.
 
 mod common;
 

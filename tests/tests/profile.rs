@@ -1,5 +1,5 @@
-//! Document 02, item 12: the check of page scripts that always finish. "The profile check is checking with 39 put after 19, at the
-//! first record of kind 11."
+//! The check of scripts that always finish (manual, 7.6): checking with 39 after 19, at the first record that is a
+//! recursion.
 
 mod common;
 
@@ -78,7 +78,7 @@ fn it_comes_after_19_and_before_typing() {
 // ---------------------------------------------------------------------------------------------
 // Drawn
 
-/// "checking with 39 put after 19": without a recursion the two are one; with one, what comes before 39 is asked as ever.
+/// Without a recursion it is checking; with one, what comes before 39 is asked as ever.
 #[test]
 fn the_profile_check_is_checking_but_for_39() {
     let (mut same, mut refused, mut earlier) = (0, 0, 0);
@@ -115,8 +115,8 @@ fn the_profile_check_is_checking_but_for_39() {
     assert!(!enough || (same > 0 && refused > 0 && earlier > 0), "{same} {refused} {earlier}");
 }
 
-/// "Of every accepted script in it, there must be a number of steps of the rules after which a value stands": with a budget that no
-/// drawn script uses up, each run ends with a value or at a limit.
+/// What it accepts comes to a value after some number of steps: with a budget that no drawn script uses up, each run
+/// ends with a value or at a limit.
 #[test]
 fn accepted_scripts_in_the_profile_finish() {
     let (mut values, mut limits, mut longest) = (0, 0, 0);

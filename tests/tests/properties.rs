@@ -275,7 +275,7 @@ fn comparison_of_types_in_one_table() {
 
 #[test]
 fn raising_is_monotone_and_commutes() {
-    // Propositions A.1 and A.2 of the source.
+    // Raising goes up, keeps the order, and is joining: neither order nor repetition matters.
     examples(1500, |rng| {
         let world = World::random(rng);
         let groups = groups_of(&world);
@@ -460,7 +460,7 @@ fn a_subterm_is_one_whole_part() {
 }
 
 // ---------------------------------------------------------------------------------------------
-// Typing, and demand 3
+// Typing, and what runs of accepted scripts keep to
 
 #[test]
 fn scripts_made_to_be_typed_are_accepted() {
@@ -486,8 +486,10 @@ fn scripts_made_to_be_typed_are_accepted() {
     );
 }
 
+/// The run of an accepted script is not refused and doesn't end 2 or 3, and each term that it reaches is accepted with
+/// a type at or below the reported one. Stripped, over the one-group table, it goes the same way.
 #[test]
-fn demand_3_holds_of_whole_runs() {
+fn drawn_accepted_runs_keep_their_promise() {
     let mut ends = [0; 5];
     let (mut longest, mut by_another, mut own_type, mut creators) = (0, 0, 0, 0);
     let mut counted = 0;
@@ -553,7 +555,7 @@ fn demand_3_holds_of_whole_runs() {
 }
 
 #[test]
-fn demand_3_holds_of_large_scripts() {
+fn drawn_accepted_large_runs_keep_their_promise() {
     let mut largest = 0;
     let enough = long_examples(12, |rng| {
         let world = World::random(rng);
@@ -589,7 +591,7 @@ fn readers_recur(inputs: &Inputs, at: Refusal) -> bool {
 }
 
 #[test]
-fn near_misses_that_pass_obey_demand_3_too() {
+fn near_misses_that_pass_keep_the_promise_too() {
     let (mut passed, mut by_another) = (0, 0);
     let (mut refused, mut refused_recursion, mut by_creators) = ([0; LAST_QUESTION + 1], 0, 0);
     let mut refused_numbers = [0; LAST_QUESTION + 1];
@@ -1004,7 +1006,7 @@ fn only_values_have_sheets() {
 // Damage
 
 #[test]
-fn refusals_leave_lent_memory_as_the_document_says() {
+fn refusals_leave_lent_memory_as_the_manual_says() {
     let mut refused = [0; LAST_QUESTION + 1];
     let enough = examples(6000, |rng| {
         let world = World::random(rng);

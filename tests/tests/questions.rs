@@ -134,7 +134,7 @@ fn question_1_work_and_answer_buffer() {
             (96_768, 0),
             (0, 0),
             (378, 96_768),
-            // As much as was asked before item 10.
+            // As much as types of 4-byte records would take.
             (64_512, 252),
         ] {
             let (result, work_after, answer_after) = check_in(inputs, work, answer);
@@ -1416,7 +1416,8 @@ fn questions_8_and_13_of_the_rewriting_ask_for_the_old_widths() {
 
 #[test]
 fn the_rewriting_asks_what_is_asked_today() {
-    // Item 6's byte, item 3's number and item 13's kinds pass in the old form too; other kinds are refused as ever.
+    // A recursion's own group, a case that finds its type and numbers pass in the old form too; other kinds are refused
+    // as ever.
     let own_case = record(9, 0, 0, OWN_TYPE);
     for records in [
         vec![record(11, 2, 0, 3), function(4), variable(0)],

@@ -6,6 +6,7 @@
 #![allow(dead_code)]
 
 pub mod records;
+pub mod runs;
 
 use wigneld_tests::calls::{
     self, Lent, MoveReport, PacketReport, Preview, Request, RunReport, StepReport,
