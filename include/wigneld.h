@@ -1,5 +1,6 @@
 /*
- * Wigneld: the check, the run, the sheet and the next step of a treatment log's scripts, for C99 and C++ on x86-64 Linux.
+ * Wigneld: the check, the run, the sheet and the next step of a treatment log's scripts, for C99 and C++ on x86-64 Linux. What a
+ * caller needs stands here; the whole specification is docs/MANUAL.md.
  *
  * Every function is total: any bytes of any length get an answer, and a refusal changes nothing that was lent, but for a work
  * buffer in use, which ends as zeros. Nothing is allocated, kept or printed, so calls from several threads are apart as long as
@@ -200,6 +201,9 @@ uint64_t wigneld_run(const uint8_t *groups, size_t groups_length, const uint8_t 
 /*
  * What the readers of a group may see of a value: questions 2 to 19, 25, 26, 27. The sheet stands in front of `sheet`; later
  * bytes are kept. `value` is the last term of a run that ended in a value, WIGNELD_SCRIPT_RECORD_BYTES for each of its records.
+ *
+ * Scripts that differ only inside objects and protects whose indirect readers are not at or below the group, accepted or not, have
+ * equal sheets where both runs end in values. Their steps, ends and record counts may differ: beside a sheet these may tell more.
  */
 uint64_t wigneld_sheet(const uint8_t *groups, size_t groups_length, const uint8_t *types, size_t types_length,
                        const uint8_t *value, size_t value_length, uint64_t group, uint8_t *sheet, size_t sheet_length);

@@ -49,7 +49,7 @@ extern "C" {
  * any other end is reported and no sheet written.
  *
  * The answer is read as a run's: wigneld_run_end has the end, wigneld_run_count the sheet's records at WIGNELD_END_VALUE and the last term's at
- * any other end, wigneld_run_steps the steps.
+ * any other end, wigneld_run_steps the steps. These may tell of what the sheet, as wigneld_sheet says, can't tell of.
  *
  * Afterwards work is all zeros once the script's typing has begun, whatever is refused then, and unchanged before. first and scratch are
  * unchanged by a refusal, but for 27, which comes after the run: once there was a run, they are as it left them. steps (as many of 8
