@@ -234,7 +234,7 @@ fn citations_by_number_are_noticed() {
         "items in 3 rows",
         "demanded 2",
         "the document says 01",
-        "redocument 01",
+        concat!("redocument", " 01"),
         "a types table has 1 to 4,096 records",
         "in_table 0 rows",
     ] {
