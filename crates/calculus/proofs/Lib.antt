@@ -36,3 +36,4 @@ pub mod Examples
 pub mod RelabelledOutcomes
 pub mod Erased
 pub mod Metatheory
+pub mod Prelude

@@ -155,7 +155,10 @@ fn may_read(groups: &[u8], kind: types::Kind, r: Reader, place: usize, work: &[u
     let of_kind = types::kind_of(work) == kind;
     let own = types::reader(work);
     let readable = own.at_or_below(groups, r);
-    answer::ask(Question::Former, place, of_kind)?;
+    let former = answer::ask(Question::Former, place, of_kind);
+    let Ok(()) = former else {
+        return former;
+    };
     answer::ask(Question::Reader, place, readable)
 }
 
@@ -232,7 +235,10 @@ fn may_recur(groups: &[u8], t: &[u8], caller: Reader, place: usize) -> Checked
 {
     let called = types::reader(t).at_or_below(groups, caller);
     let absorbed = absorbs(groups, t, caller);
-    answer::ask(Question::Reader, place, called)?;
+    let read = answer::ask(Question::Reader, place, called);
+    let Ok(()) = read else {
+        return read;
+    };
     answer::ask(Question::Recursion, place, absorbed)
 }
 

@@ -1,4 +1,5 @@
-// The inner calls, exported for the tests only. Answers are packed as the library's own are.
+// The inner calls, exported for the tests only. What a check or a step answers is packed as the library's own answers
+// are.
 
 #![tactic(auto)]
 

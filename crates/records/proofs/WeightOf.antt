@@ -1,7 +1,6 @@
 -- How many levels deeper a term's operands stand.
 use Rattle.std.proofs.Common.{ℕ}
-use Rattle.calculus.specs.Terms.{Term, case}
-use Rattle.rules.specs.Script.{weight}
+use Rattle.rules.specs.Prelude.{Term, case, weight}
 
 -- of a node
 abbrev pub weight_of : Term → ℕ

@@ -5,5 +5,4 @@ pub mod Forms
 pub mod Searches
 pub mod Stages
 pub mod Answers
-pub mod Beside
 pub mod FateOutcome

@@ -44,3 +44,4 @@ pub mod InForce
 pub mod OfficeExamples
 pub mod Examples
 pub mod OldTables
+pub mod Prelude

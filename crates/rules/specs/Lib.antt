@@ -34,3 +34,4 @@ pub mod PreviewExamples
 pub mod PacketExamples
 pub mod InForceExamples
 pub mod OfficeExamples
+pub mod Prelude

@@ -1,0 +1,5 @@
+pub mod Starts
+pub mod Turns
+pub mod Looks
+pub mod Located
+pub mod Strips
