@@ -45,14 +45,14 @@ static void load(struct file *file, const char *folder, const char *name)
     fclose(from);
 }
 
-static uint64_t look_up(uint64_t index)
+static wigneld_answer look_up(uint64_t index)
 {
     return wigneld_in_force(groups.bytes, groups.length, types.bytes, types.length, scripts.bytes, scripts.length, amendments.bytes,
                             amendments.length, index);
 }
 
 /* A refusal in words, with what it is about. */
-static void tell(uint64_t answer)
+static void tell(wigneld_answer answer)
 {
     static const char *const kinds[] = {
         NULL, "group", "type record", "script record", "record", "word", "script", "entry",
@@ -69,7 +69,7 @@ static void tell(uint64_t answer)
 int main(int count, char **words)
 {
     uint32_t script;
-    uint64_t answer;
+    wigneld_answer answer;
 
     if (count != 2) {
         fputs("usage: in_force FOLDER\n", stderr);
