@@ -1,0 +1,12 @@
+pub mod Fields
+pub mod Again
+pub mod Records
+pub mod Seen
+pub mod Scoped
+pub mod Lexed
+pub mod Starts
+pub mod Texts
+pub mod Written
+pub mod Ascii
+pub mod Passing
+pub mod Telling

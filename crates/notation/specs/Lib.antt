@@ -1,0 +1,13 @@
+pub mod Words
+pub mod Scopes
+pub mod Lexing
+pub mod Tokens
+pub mod Spelling
+pub mod Reading
+pub mod Code
+pub mod LaidDown
+pub mod Assembling
+pub mod Places
+pub mod Text
+pub mod Heads
+pub mod Disassembling
