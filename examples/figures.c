@@ -10,7 +10,7 @@
  * some. Nothing else is promised: steps, record counts and other ends may tell. Whether the check accepts a script doesn't matter.
  *
  * Exits with 0 where it is seen, 1 where it isn't (pages differ, GROUP may be influenced by the figure, or all values are one, so that
- * nothing is tried), and 2 where nothing can be put there, a file can't be read, or an argument is no number of 64 bits or no group.
+ * nothing is tried), and 2 where nothing can be put there or a file can't be read.
  *
  *     ./archives wigneld
  *     cc -std=c99 -O2 -Iinclude -o target/figures examples/figures.c target/staticlib/libwigneld.a
@@ -56,12 +56,10 @@ static void load(struct file *file, const char *folder, const char *name)
 static uint64_t number(const char *word)
 {
     char *end;
-    unsigned long long found;
+    uint64_t found = strtoull(word, &end, 10);
 
-    errno = 0;
-    found = strtoull(word, &end, 10);
-    if (*word < '0' || *word > '9' || *end != '\0' || errno == ERANGE || found > UINT64_MAX) {
-        fprintf(stderr, "figures: %s is no number of 64 bits\n", word);
+    if (*word < '0' || *word > '9' || *end != '\0') {
+        fprintf(stderr, "figures: %s is no number\n", word);
         exit(2);
     }
     return found;
@@ -307,7 +305,7 @@ static struct outcome {
     uint32_t records, lines; /* no lines where there is no value */
 } outcomes[FIGURES];
 
-static void refuse(wigneld_answer answer)
+static void refuse(uint64_t answer)
 {
     fprintf(stderr, "figures: refused %u at %" PRIu32 ": it is not so that %s\n", wigneld_question(answer), wigneld_place(answer),
             wigneld_asked(wigneld_question(answer)));
@@ -317,10 +315,10 @@ static void refuse(wigneld_answer answer)
 static void show_check(void)
 {
     static uint8_t work[WIGNELD_WORK_BYTES], type[WIGNELD_ANSWER_BYTES];
-    wigneld_answer answer = wigneld_check(groups.bytes, groups.length, types.bytes, types.length, changed.bytes, changed.length,
-                                          work, sizeof work, type, sizeof type);
+    uint64_t answer = wigneld_check(groups.bytes, groups.length, types.bytes, types.length, changed.bytes, changed.length, work,
+                                    sizeof work, type, sizeof type);
 
-    if (wigneld_accepted(answer))
+    if (wigneld_question(answer) == 0)
         fputs("accepted", stdout);
     else
         printf("refused %u", wigneld_question(answer));
@@ -328,12 +326,13 @@ static void show_check(void)
 
 static void show_page(const struct outcome *o)
 {
+    static const char *const kinds[] = { "unit", "first", "second", "pair", "function", "closed", "number" };
     uint32_t i;
 
     for (i = 0; i < o->lines; i++) {
         const uint8_t *line = o->page + (size_t)i * WIGNELD_SHEET_RECORD_BYTES;
 
-        printf("%s%s", i == 0 ? "  " : ", ", wigneld_sheet_kind(line[WIGNELD_AT_KIND]));
+        printf("%s%s", i == 0 ? "  " : ", ", kinds[line[WIGNELD_AT_KIND]]);
         if (line[WIGNELD_AT_KIND] == WIGNELD_SHEET_NUMBER)
             printf(" %u", line[WIGNELD_SHEET_AT_NUMBER] | (unsigned)line[WIGNELD_SHEET_AT_NUMBER + 1] << 8);
         if (line[WIGNELD_AT_KIND] != WIGNELD_SHEET_CLOSED)
@@ -347,7 +346,7 @@ static void try_figure(const struct figure *figure, struct outcome *o, uint64_t 
 {
     static const char *const ends[] = { "a value", "the budget is spent", "the reader may not", "wrong kind", "too big" };
     static uint8_t scratch[WIGNELD_RUN_BYTES], steps[WIGNELD_STEPS_BYTES];
-    wigneld_answer ran, shown;
+    uint64_t ran, shown;
     unsigned end;
 
     changed.length = 0;
@@ -358,10 +357,10 @@ static void try_figure(const struct figure *figure, struct outcome *o, uint64_t 
     show_check();
     ran = wigneld_run(groups.bytes, groups.length, types.bytes, types.length, changed.bytes, changed.length, BUDGET, o->value,
                       sizeof o->value, scratch, sizeof scratch, steps, sizeof steps);
-    if (!wigneld_accepted(ran))
+    if (wigneld_question(ran) != 0)
         refuse(ran);
     end = wigneld_run_end(ran);
-    o->steps = wigneld_run_steps(ran, steps, sizeof steps);
+    o->steps = wigneld_run_steps(ran, steps);
     o->records = wigneld_run_count(ran);
     printf(", end %u, %s, steps %" PRIu64 ", records %" PRIu32 "\n", end, ends[end], o->steps, o->records);
     if (end != WIGNELD_END_VALUE) {
@@ -370,7 +369,7 @@ static void try_figure(const struct figure *figure, struct outcome *o, uint64_t 
     }
     shown = wigneld_sheet(groups.bytes, groups.length, types.bytes, types.length, o->value,
                           (size_t)o->records * WIGNELD_SCRIPT_RECORD_BYTES, group, o->page, sizeof o->page);
-    if (!wigneld_accepted(shown))
+    if (wigneld_question(shown) != 0)
         refuse(shown);
     o->lines = wigneld_count(shown);
     show_page(o);
@@ -431,10 +430,10 @@ static int summed_up(uint64_t group)
 static void ask(uint64_t group)
 {
     static uint8_t first[WIGNELD_RUN_BYTES], scratch[WIGNELD_RUN_BYTES];
-    wigneld_answer answer = wigneld_run(groups.bytes, groups.length, types.bytes, types.length, script.bytes, script.length, 0,
-                                        first, sizeof first, scratch, sizeof scratch, NULL, 0);
+    uint64_t answer = wigneld_run(groups.bytes, groups.length, types.bytes, types.length, script.bytes, script.length, 0, first,
+                                  sizeof first, scratch, sizeof scratch, NULL, 0);
 
-    if (!wigneld_accepted(answer))
+    if (wigneld_question(answer) != 0)
         refuse(answer);
     if (group >= groups.length / WIGNELD_ROW_BYTES)
         stop("the studio has no such group");

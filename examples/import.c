@@ -67,7 +67,7 @@ static void save(const struct file *file, const char *folder, const char *name)
 int main(int count, char **words)
 {
     static struct file groups, types, office, script;
-    wigneld_answer answer;
+    uint64_t answer;
 
     if (count != 2) {
         fputs("usage: import FOLDER\n", stderr);
@@ -78,12 +78,11 @@ int main(int count, char **words)
     load(&office, words[1], "office");
 
     /* Who each recursion calls itself as stood in its type alone. */
-    answer = wigneld_write_office_callers(types.bytes, types.length, office.bytes, office.length);
-    printf("recursions that got who they call themselves as: %" PRIu32 "\n", wigneld_count(answer));
+    wigneld_write_office_callers(types.bytes, types.length, office.bytes, office.length);
 
     answer = wigneld_import(groups.bytes, groups.length, types.bytes, types.length, office.bytes, office.length, script.bytes,
                             sizeof script.bytes);
-    if (!wigneld_accepted(answer)) {
+    if (wigneld_question(answer) != 0) {
         fprintf(stderr, "import: %s: refused %u at %" PRIu32 ": it is not so that %s\n", words[1], wigneld_question(answer),
                 wigneld_place(answer), wigneld_asked(wigneld_question(answer)));
         return 1;

@@ -45,14 +45,14 @@ static void load(struct file *file, const char *folder, const char *name)
     fclose(from);
 }
 
-static wigneld_answer look_up(uint64_t index)
+static uint64_t look_up(uint64_t index)
 {
     return wigneld_in_force(groups.bytes, groups.length, types.bytes, types.length, scripts.bytes, scripts.length, amendments.bytes,
                             amendments.length, index);
 }
 
 /* A refusal in words, with what it is about. */
-static void tell(wigneld_answer answer)
+static void tell(uint64_t answer)
 {
     static const char *const kinds[] = {
         NULL, "group", "type record", "script record", "record", "word", "script", "entry",
@@ -69,7 +69,7 @@ static void tell(wigneld_answer answer)
 int main(int count, char **words)
 {
     uint32_t script;
-    wigneld_answer answer;
+    uint64_t answer;
 
     if (count != 2) {
         fputs("usage: in_force FOLDER\n", stderr);

@@ -737,9 +737,9 @@ static void put(struct bytes *into, void (*what)(void))
 }
 
 /* How many bytes a rewriting filled. */
-static size_t filled(wigneld_answer answer, size_t width)
+static size_t filled(uint64_t answer, size_t width)
 {
-    if (!wigneld_accepted(answer)) {
+    if (wigneld_question(answer) != 0) {
         fprintf(stderr, "make: it is not so that %s\n", wigneld_asked(wigneld_question(answer)));
         exit(1);
     }
@@ -768,7 +768,7 @@ static void rewritten(const char *folder, const char *name, int form, void (*typ
     put(&t, types);
     put(&s, script);
     if (form == 1)
-        filled(wigneld_write_callers(t.at, t.length, s.at, s.length), 0);
+        wigneld_write_callers(t.at, t.length, s.at, s.length);
     new_s.length = filled(wigneld_rewrite_script(g.at, g.length, t.at, t.length, s.at, s.length, new_s.at, sizeof new_s.at),
                           WIGNELD_SCRIPT_RECORD_BYTES);
     new_t.length = filled(wigneld_rewrite_types(g.at, g.length, t.at, t.length, new_t.at, sizeof new_t.at),
@@ -789,7 +789,7 @@ static void imported(const char *folder, const char *name, void (*types)(void), 
     new_t.length = filled(wigneld_rewrite_types(g.at, g.length, t.at, t.length, new_t.at, sizeof new_t.at),
                           WIGNELD_TYPE_RECORD_BYTES);
     save(folder, name, "office", &o);
-    filled(wigneld_write_office_callers(new_t.at, new_t.length, o.at, o.length), 0);
+    wigneld_write_office_callers(new_t.at, new_t.length, o.at, o.length);
     s.length = filled(wigneld_import(g.at, g.length, new_t.at, new_t.length, o.at, o.length, s.at, sizeof s.at),
                       WIGNELD_SCRIPT_RECORD_BYTES);
     save(folder, name, "groups", &g);

@@ -70,7 +70,7 @@ static void save(const struct file *file, const char *folder, const char *name)
 }
 
 /* How many records a call rewrote; a refusal is told and ends the program. */
-static size_t rewritten(wigneld_answer answer, const char *folder)
+static size_t rewritten(uint64_t answer, const char *folder)
 {
     unsigned question = wigneld_question(answer);
 
@@ -100,7 +100,7 @@ int main(int count, char **words)
     /* Who each recursion calls itself as stands in its type: in a script of form 1 it is written first. A script of form 2 has it
        already, perhaps another group than its type's, which this call would replace. */
     if (words[1][0] == '1')
-        rewritten(wigneld_write_callers(types.bytes, types.length, script.bytes, script.length), from);
+        wigneld_write_callers(types.bytes, types.length, script.bytes, script.length);
 
     /* The script is asked over the types that it was saved with. A folder with more scripts has this step for each. */
     new_script.length = WIGNELD_SCRIPT_RECORD_BYTES

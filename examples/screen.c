@@ -3,8 +3,7 @@
  *
  *     screen FOLDER..
  *
- * A folder holds the files groups, types and script. Exits with 0 where every script is accepted, 1 where one is refused, and 2 where a
- * file can't be read.
+ * A folder holds the files groups, types and script. It exits with 1 where a script is refused.
  */
 #include <errno.h>
 #include <inttypes.h>
@@ -35,10 +34,6 @@ static void load(struct file *file, const char *folder, const char *name)
         exit(2);
     }
     file->length = fread(file->bytes, 1, sizeof file->bytes, from);
-    if (ferror(from)) {
-        fprintf(stderr, "screen: %s: %s\n", path, strerror(errno));
-        exit(2);
-    }
     fclose(from);
 }
 
@@ -46,19 +41,19 @@ static int shown(const char *folder)
 {
     static struct file groups, types, script;
     static uint8_t work[WIGNELD_WORK_BYTES], type[WIGNELD_ANSWER_BYTES];
-    wigneld_answer answer;
+    uint64_t answer;
 
     load(&groups, folder, "groups");
     load(&types, folder, "types");
     load(&script, folder, "script");
     answer = wigneld_check_profile(groups.bytes, groups.length, types.bytes, types.length, script.bytes, script.length, work,
                                    sizeof work, type, sizeof type);
-    if (wigneld_accepted(answer))
+    if (wigneld_question(answer) == 0)
         printf("%s: accepted, it always finishes\n", folder);
     else
         printf("%s: refused, question %u at %" PRIu32 ": it is not so that %s\n", folder, wigneld_question(answer),
                wigneld_place(answer), wigneld_asked(wigneld_question(answer)));
-    return wigneld_accepted(answer);
+    return wigneld_question(answer) == 0;
 }
 
 int main(int count, char **words)

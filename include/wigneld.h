@@ -1,6 +1,6 @@
 /*
- * Wigneld: the check, the run, the sheet and the next step of a treatment log's scripts, for C99 and C++ on Linux, on processors of
- * x86-64-v2 (with SSE4.2 and POPCNT). What a caller needs stands here; the whole specification is docs/MANUAL.md.
+ * Wigneld: the check, the run, the sheet and the next step of a treatment log's scripts, for C99 and C++ on x86-64 Linux. What a
+ * caller needs stands here; the whole specification is docs/MANUAL.md.
  *
  * Every function is total: any bytes of any length get an answer, and a refusal changes nothing that was lent, but for a work
  * buffer in use, which ends as zeros. Nothing is allocated, kept or printed, so calls from several threads are apart as long as
@@ -8,10 +8,9 @@
  *
  * What the caller owes, since no check can see it from inside:
  *  - each pointer has as many bytes behind it as the length after it says; NULL only with length 0;
- *  - a buffer that a call writes to (work, answer, first, scratch, written, steps, sheet, starts) overlaps none of the call's other
- *    slices;
+ *  - a buffer that a call writes to (work, answer, first, scratch, written, steps, sheet) overlaps none of the call's other slices;
  *  - nobody else writes any of them while the call runs;
- *  - the stack has room (WIGNELD_CHECK_STACK_BYTES and those after it).
+ *  - the stack has room (WIGNELD_CHECK_STACK_BYTES and the four after it).
  */
 #ifndef WIGNELD_H
 #define WIGNELD_H
@@ -23,8 +22,8 @@
 extern "C" {
 #endif
 
-/* Raised whenever a constant, a prototype or an answer changes. wigneld_version_fits says whether the library has this one too. */
-#define WIGNELD_VERSION 15
+/* Raised whenever a constant, a prototype or an answer changes. */
+#define WIGNELD_VERSION 14
 
 /* The form of rows and records. Raised whenever a width below changes, or what a byte of a record means: files of another form
    are to be rewritten before they are lent. No file says its form, so keep it beside them. Form 3 had no numbers, and its sheet
@@ -32,37 +31,6 @@ extern "C" {
    script records 6: those below without creators. In form 1, of the same widths, byte 1 of a recursion was 0. wigneld_office.h has
    the calls that rewrite such files, and their order. */
 #define WIGNELD_FORMAT 4
-
-/*
- * An answer: one number of 64 bits, in a struct, so that none is taken for a yes, a count or an int by mistake. Its lower 32 bits are
- * the number of the first question answered no, and 0 where the call was accepted. Its upper 32 bits are then what the call gives,
- * and otherwise the place. So an answer that is cut to 32 bits is 0 just where the call was accepted. wigneld_accepted and the readers
- * after it take an answer apart; nobody has to do it by hand.
- *
- * The struct travels as the number would: a language that can't include this header declares the functions with a number of 64 bits,
- * and finds the readers as functions of the library.
- */
-typedef struct wigneld_answer {
-    uint64_t number;
-} wigneld_answer;
-
-/* An answer that nobody looks at is a mistake, and told where the compiler can. */
-#if defined(__GNUC__)
-# define WIGNELD_MUST_USE __attribute__((warn_unused_result))
-#else
-# define WIGNELD_MUST_USE
-#endif
-
-/* Bytes that a call reads, and room that it writes to. The calls with many of them take a struct that names each as well, at the end. */
-typedef struct wigneld_bytes {
-    const uint8_t *bytes;
-    size_t length;
-} wigneld_bytes;
-
-typedef struct wigneld_room {
-    uint8_t *bytes;
-    size_t length;
-} wigneld_room;
 
 /*
  * The groups table: rows, one for each group, numbered from 0. A row is a word of 4 bytes, lowest byte first: byte 0 has bits 0 to 7,
@@ -174,104 +142,6 @@ typedef struct wigneld_room {
 #define WIGNELD_SHEET_CLOSED 5
 #define WIGNELD_SHEET_NUMBER 6
 
-/*
- * The kinds as data, as the tables above have them, for what an editor shows and draws: a name, the operands in order with the count
- * of binders that each stands under, the fields that the kind names, and what its number is. A type's operands are its sides.
- */
-#define WIGNELD_TYPE_KINDS 5
-#define WIGNELD_SCRIPT_KINDS 15
-#define WIGNELD_SHEET_KINDS 7
-#define WIGNELD_MOST_OPERANDS 3
-
-#define WIGNELD_FIELD_READERS 1
-#define WIGNELD_FIELD_INDIRECT 2
-#define WIGNELD_FIELD_CREATORS 4
-#define WIGNELD_FIELD_INDIRECT_CREATORS 8
-#define WIGNELD_FIELD_NUMBER 16
-#define WIGNELD_FIELDS 5
-
-typedef struct wigneld_kind {
-    const char *name;
-    unsigned operands;                          /* how many */
-    const char *operand[WIGNELD_MOST_OPERANDS]; /* their names, and "" past the last */
-    unsigned binders[WIGNELD_MOST_OPERANDS];    /* how many each stands under, beside those that its node stands under */
-    unsigned fields;                            /* the fields that it names, as the sum of their bits above */
-    const char *number;                         /* what its number is, and "" where it names none */
-} wigneld_kind;
-
-/* A kind of script records, and NULL where there is none of this number. */
-static inline const wigneld_kind *wigneld_script_kind(unsigned kind)
-{
-    enum { R = 1, IR = 2, RAISES = 2 + 8, OBJECT = 1 + 2 + 4 + 8, NUMBER = 16 };
-    static const wigneld_kind kinds[WIGNELD_SCRIPT_KINDS] = {
-        { "variable", 0, { "", "", "" }, { 0, 0, 0 }, NUMBER, "binders outward, 0 the nearest" },
-        { "unit", 0, { "", "", "" }, { 0, 0, 0 }, OBJECT, "" },
-        { "function", 1, { "body", "", "" }, { 1, 0, 0 }, OBJECT | NUMBER, "parameter type" },
-        { "pair", 2, { "first", "second", "" }, { 0, 0, 0 }, OBJECT, "" },
-        { "first injection", 1, { "injected", "", "" }, { 0, 0, 0 }, OBJECT | NUMBER, "sum type" },
-        { "second injection", 1, { "injected", "", "" }, { 0, 0, 0 }, OBJECT | NUMBER, "sum type" },
-        { "application", 2, { "function", "argument", "" }, { 0, 0, 0 }, R, "" },
-        { "first projection", 1, { "pair", "", "" }, { 0, 0, 0 }, R, "" },
-        { "second projection", 1, { "pair", "", "" }, { 0, 0, 0 }, R, "" },
-        { "case", 3, { "tested", "first branch", "second branch" }, { 0, 1, 1 }, R | NUMBER, "result type" },
-        { "protect", 1, { "protected", "", "" }, { 0, 0, 0 }, RAISES, "" },
-        { "recursion", 1, { "body", "", "" }, { 1, 0, 0 }, R | NUMBER, "function type" },
-        { "literal", 0, { "", "", "" }, { 0, 0, 0 }, OBJECT | NUMBER, "value" },
-        { "sum of two", 2, { "first", "second", "" }, { 0, 0, 0 }, R, "" },
-        { "less than", 2, { "first", "second", "" }, { 0, 0, 0 }, R | NUMBER, "sum type" },
-    };
-
-    return kind < WIGNELD_SCRIPT_KINDS ? &kinds[kind] : NULL;
-}
-
-/* A kind of type records, and NULL where there is none of this number. */
-static inline const wigneld_kind *wigneld_type_kind(unsigned kind)
-{
-    enum { OBJECT = 1 + 2 + 4 + 8 };
-    static const wigneld_kind kinds[WIGNELD_TYPE_KINDS] = {
-        { "unit", 0, { "", "", "" }, { 0, 0, 0 }, OBJECT, "" },
-        { "sum", 2, { "left", "right", "" }, { 0, 0, 0 }, OBJECT, "" },
-        { "pair", 2, { "left", "right", "" }, { 0, 0, 0 }, OBJECT, "" },
-        { "function", 2, { "parameter", "result", "" }, { 0, 0, 0 }, OBJECT, "" },
-        { "number", 0, { "", "", "" }, { 0, 0, 0 }, OBJECT, "" },
-    };
-
-    return kind < WIGNELD_TYPE_KINDS ? &kinds[kind] : NULL;
-}
-
-/* What a sheet's record shows, in a word, and "" where there is no kind of this number. */
-static inline const char *wigneld_sheet_kind(unsigned kind)
-{
-    static const char none[] = "";
-    static const char *const kinds[WIGNELD_SHEET_KINDS] = {
-        "unit", "first", "second", "pair", "function", "closed", "number",
-    };
-
-    return kind < WIGNELD_SHEET_KINDS ? kinds[kind] : none;
-}
-
-typedef struct wigneld_field {
-    const char *name;
-    unsigned bit;       /* in the fields of a kind */
-    unsigned in_script; /* the byte of a script record that it begins at */
-    unsigned in_type;   /* and of a type record; 0 where types have no such field */
-    unsigned bytes;     /* lowest first */
-} wigneld_field;
-
-/* The fields in the order in which the tables above name them, from 0; NULL past the last. */
-static inline const wigneld_field *wigneld_field_at(unsigned index)
-{
-    static const wigneld_field fields[WIGNELD_FIELDS] = {
-        { "r", WIGNELD_FIELD_READERS, WIGNELD_AT_READERS, WIGNELD_AT_READERS, 1 },
-        { "ir", WIGNELD_FIELD_INDIRECT, WIGNELD_AT_INDIRECT, WIGNELD_AT_INDIRECT, 1 },
-        { "c", WIGNELD_FIELD_CREATORS, WIGNELD_SCRIPT_AT_CREATORS, WIGNELD_TYPE_AT_CREATORS, 1 },
-        { "ic", WIGNELD_FIELD_INDIRECT_CREATORS, WIGNELD_SCRIPT_AT_INDIRECT_CREATORS, WIGNELD_TYPE_AT_INDIRECT_CREATORS, 1 },
-        { "number", WIGNELD_FIELD_NUMBER, WIGNELD_AT_NUMBER, 0, 2 },
-    };
-
-    return index < WIGNELD_FIELDS ? &fields[index] : NULL;
-}
-
 /* Limits: groups, records of a types table, of one type and of a script, depth of a script. Its outermost record has depth 1, and an
    operand that of its node and one more; of a case that finds its type, two more. */
 #define WIGNELD_MOST_GROUPS 32
@@ -297,8 +167,7 @@ static inline const wigneld_field *wigneld_field_at(unsigned index)
 /*
  * The free stack that each function needs, whatever it is lent: the bytes between the caller's stack pointer, before the
  * arguments are put down, and the end of the stack. The deepest scripts, of depth 256 with types of 63 records, were seen to take
- * 82,480, 127,360, 37,040, 61,728, 61,904, 20,832 and 20,736 bytes; the numbers are these and at least a sixteenth more, in whole
- * pages. The two that strip need next to none.
+ * 82,480, 127,360, 37,040, 61,728 and 61,904 bytes; the numbers are these and at least a sixteenth more, in whole pages.
  *
  * A thread's stack holds more than that: its own frames, and what the C library keeps there. With glibc
  * pthread_attr_setstacksize(&attributes, PTHREAD_STACK_MIN + WIGNELD_CHECK_STACK_BYTES) is enough for a thread that calls
@@ -309,10 +178,6 @@ static inline const wigneld_field *wigneld_field_at(unsigned index)
 #define WIGNELD_SHEET_STACK_BYTES 40960
 #define WIGNELD_PREVIEW_STACK_BYTES 69632
 #define WIGNELD_MOVE_STACK_BYTES 69632
-#define WIGNELD_PART_STACK_BYTES 24576
-#define WIGNELD_REDEX_STACK_BYTES 24576
-#define WIGNELD_STRIP_SCRIPT_STACK_BYTES 512
-#define WIGNELD_STRIP_TYPES_STACK_BYTES 512
 
 /*
  * Checks a script: questions 1 to 24, with 36 right after 10 and after 15, and 31 right after the second branch of a case that
@@ -320,18 +185,18 @@ static inline const wigneld_field *wigneld_field_at(unsigned index)
  * in front of `answer`; later bytes of `answer` are kept. `work` has at least WIGNELD_WORK_BYTES bytes and ends as zeros once
  * typing has begun, which is with questions 20 to 24 and 31; `answer` has at least WIGNELD_ANSWER_BYTES.
  */
-WIGNELD_MUST_USE wigneld_answer wigneld_check(const uint8_t *groups, size_t groups_length,
-    const uint8_t *types, size_t types_length, const uint8_t *script, size_t script_length, uint8_t *work, size_t work_length,
-    uint8_t *answer, size_t answer_length);
+uint64_t wigneld_check(const uint8_t *groups, size_t groups_length, const uint8_t *types, size_t types_length,
+                       const uint8_t *script, size_t script_length, uint8_t *work, size_t work_length, uint8_t *answer,
+                       size_t answer_length);
 
 /*
  * Runs a script for at most `budget` steps: questions 2 to 19. `first` ends as the last term and then zeros, `scratch` as zeros;
  * both have room for the script, and the shorter says what is too big. The count of steps made goes to `steps`, lowest byte
  * first, as many of its 8 bytes as there are; lend WIGNELD_STEPS_BYTES bytes, or none where it isn't wanted.
  */
-WIGNELD_MUST_USE wigneld_answer wigneld_run(const uint8_t *groups, size_t groups_length,
-    const uint8_t *types, size_t types_length, const uint8_t *script, size_t script_length, uint64_t budget,
-    uint8_t *first, size_t first_length, uint8_t *scratch, size_t scratch_length, uint8_t *steps, size_t steps_length);
+uint64_t wigneld_run(const uint8_t *groups, size_t groups_length, const uint8_t *types, size_t types_length,
+                     const uint8_t *script, size_t script_length, uint64_t budget, uint8_t *first, size_t first_length,
+                     uint8_t *scratch, size_t scratch_length, uint8_t *steps, size_t steps_length);
 
 /*
  * What the readers of a group may see of a value: questions 2 to 19, 25, 26, 27. The sheet stands in front of `sheet`; later
@@ -340,9 +205,8 @@ WIGNELD_MUST_USE wigneld_answer wigneld_run(const uint8_t *groups, size_t groups
  * Scripts that differ only inside objects and protects whose indirect readers are not at or below the group, accepted or not, have
  * equal sheets where both runs end in values. Their steps, ends and record counts may differ: beside a sheet these may tell more.
  */
-WIGNELD_MUST_USE wigneld_answer wigneld_sheet(const uint8_t *groups, size_t groups_length,
-    const uint8_t *types, size_t types_length, const uint8_t *value, size_t value_length, uint64_t group,
-    uint8_t *sheet, size_t sheet_length);
+uint64_t wigneld_sheet(const uint8_t *groups, size_t groups_length, const uint8_t *types, size_t types_length,
+                       const uint8_t *value, size_t value_length, uint64_t group, uint8_t *sheet, size_t sheet_length);
 
 /*
  * What the next step of a script would give, in a buffer of `written_length` bytes: questions 2 to 19. Nothing is lent to be
@@ -350,8 +214,8 @@ WIGNELD_MUST_USE wigneld_answer wigneld_sheet(const uint8_t *groups, size_t grou
  * the end is WIGNELD_END_MOVED. A preview stays good for as long as the groups, the types and the script stay as they are and the
  * buffer that the move writes to has this length.
  */
-WIGNELD_MUST_USE wigneld_answer wigneld_preview(const uint8_t *groups, size_t groups_length,
-    const uint8_t *types, size_t types_length, const uint8_t *script, size_t script_length, uint64_t written_length);
+uint64_t wigneld_preview(const uint8_t *groups, size_t groups_length, const uint8_t *types, size_t types_length,
+                         const uint8_t *script, size_t script_length, uint64_t written_length);
 
 /*
  * Makes the step that a preview showed: questions 2 to 19, and then 35 where `end` or `records` isn't what this script and a buffer
@@ -362,86 +226,31 @@ WIGNELD_MUST_USE wigneld_answer wigneld_preview(const uint8_t *groups, size_t gr
  * The number of steps so far is the caller's: WIGNELD_STEPS_BYTES bytes, lowest first, zeros before the first move. Where fewer
  * bytes are lent, the missing ones are taken as 0, and as many are written back as there are. It is never asked whether it is right.
  */
-WIGNELD_MUST_USE wigneld_answer wigneld_move(const uint8_t *groups, size_t groups_length,
-    const uint8_t *types, size_t types_length, const uint8_t *script, size_t script_length, uint64_t end, uint64_t records,
-    uint8_t *written, size_t written_length, uint8_t *steps, size_t steps_length);
+uint64_t wigneld_move(const uint8_t *groups, size_t groups_length, const uint8_t *types, size_t types_length,
+                      const uint8_t *script, size_t script_length, uint64_t end, uint64_t records, uint8_t *written,
+                      size_t written_length, uint8_t *steps, size_t steps_length);
 
 /*
- * Where the term that starts at a record of a script ends, and where its operands start: questions 2 to 19, and then 25, place 0,
- * where `index` is none of the script's. The count is the number of the term's records, so that it ends before `index` plus the
- * count. `starts` takes the record numbers at which its operands start, in order, WIGNELD_START_BYTES bytes each, lowest first, and
- * WIGNELD_NO_RECORD where the kind has no such operand: WIGNELD_STARTS_BYTES bytes in all, as many of them as there are; lend none
- * where they aren't wanted. Later bytes are kept, and all of them on a refusal.
+ * Taking an answer apart. Every reader looks for a refusal first, so that none is taken for anything else: counts are then 0, and
+ * a run's or a step's end is none that it can have.
  */
-WIGNELD_MUST_USE wigneld_answer wigneld_part(const uint8_t *groups, size_t groups_length,
-    const uint8_t *types, size_t types_length, const uint8_t *script, size_t script_length, uint64_t index,
-    uint8_t *starts, size_t starts_length);
-
-#define WIGNELD_NO_RECORD 65535 /* no record of a script; no script has so many */
-#define WIGNELD_START_BYTES 2
-#define WIGNELD_STARTS_BYTES 6
-
-/*
- * Where the next step of a script happens: questions 2 to 19. The count is the record of the node whose turn it is, and
- * WIGNELD_NO_RECORD where the script is a value. With end WIGNELD_END_MOVED the step puts another term into the place of the one that
- * starts there, and every other record stays; with any other end but WIGNELD_END_VALUE it is the node at which the script stands
- * still. wigneld_part says where that term ends. Nothing is lent to be written.
- */
-WIGNELD_MUST_USE wigneld_answer wigneld_redex(const uint8_t *groups, size_t groups_length,
-    const uint8_t *types, size_t types_length, const uint8_t *script, size_t script_length);
-
-/*
- * Stripping, in place: every group of every record becomes 0, and all other bytes stay. wigneld_strip_script asks question 13 (whole
- * records, 1 to WIGNELD_MOST_SCRIPT_RECORDS), wigneld_strip_types question 8 (whole records, 1 to WIGNELD_MOST_TABLE_RECORDS), both
- * at place 0, and nothing else. Accepted: the number of records. A refusal changes nothing. A stripped script over stripped types
- * is read over the groups table of one group, whose row is the word 1.
- */
-WIGNELD_MUST_USE wigneld_answer wigneld_strip_script(uint8_t *script, size_t script_length);
-WIGNELD_MUST_USE wigneld_answer wigneld_strip_types(uint8_t *types, size_t types_length);
-
-/*
- * The WIGNELD_VERSION that this archive was built from: a plain number and no answer. An older archive under a newer header is
- * noticed by comparing them. Each archive has its own: wigneld_office_version and wigneld_desk_version.
- */
-uint32_t wigneld_version(void);
-
-/* Whether the library is the header's: 1 where both have one version, 0 where answers, prototypes or constants differ. */
-static inline unsigned wigneld_version_fits(void)
-{
-    return wigneld_version() == WIGNELD_VERSION;
-}
-
-/*
- * Taking an answer apart. Every reader looks for a refusal first, so that none is taken for anything else: counts are then 0, and a
- * run's or a step's end is none that it can have.
- *
- * Each reader below is in the archive too, under the same name and with the same arguments, for languages that can't include this
- * header; so are wigneld_place_kind and wigneld_place_kind_over.
- */
-
-/* 1 where the call was accepted, and 0 where it was refused. */
-static inline unsigned wigneld_accepted(wigneld_answer answer)
-{
-    return (uint32_t)answer.number == 0;
-}
 
 /* The number of the first question answered no, and 0 where the call was not refused. */
-static inline unsigned wigneld_question(wigneld_answer answer)
+static inline unsigned wigneld_question(uint64_t answer)
 {
-    return (uint32_t)answer.number;
+    return (unsigned)(answer >> 32);
 }
 
 /* Of a refusal: where, counted from 0. wigneld_place_kind says what is counted. 0 where the call was not refused. */
-static inline uint32_t wigneld_place(wigneld_answer answer)
+static inline uint32_t wigneld_place(uint64_t answer)
 {
-    return wigneld_question(answer) != 0 ? (uint32_t)(answer.number >> 32) : 0;
+    return wigneld_question(answer) != 0 ? (uint32_t)answer : 0;
 }
 
-/* Of a check: the type's record count. Of a sheet, a part, or of what was rewritten: its record count. Of wigneld_redex: the record.
-   0 where the call was refused. */
-static inline uint32_t wigneld_count(wigneld_answer answer)
+/* Of a check: the type's record count. Of a sheet, or of what was rewritten: its record count. 0 where the call was refused. */
+static inline uint32_t wigneld_count(uint64_t answer)
 {
-    return wigneld_question(answer) != 0 ? 0 : (uint32_t)(answer.number >> 32);
+    return wigneld_question(answer) != 0 ? 0 : (uint32_t)answer;
 }
 
 /* How a run or a step ends. */
@@ -453,42 +262,42 @@ static inline uint32_t wigneld_count(wigneld_answer answer)
 #define WIGNELD_END_TOO_BIG 4    /* the next term is too large or too deep */
 #define WIGNELD_END_REFUSED 255  /* there was no run or step: the call was refused. None ends so */
 
-static inline unsigned wigneld_run_end(wigneld_answer answer)
+static inline unsigned wigneld_run_end(uint64_t answer)
 {
-    return wigneld_question(answer) != 0 ? WIGNELD_END_REFUSED : (unsigned)(wigneld_count(answer) >> 16);
+    return wigneld_question(answer) != 0 ? WIGNELD_END_REFUSED : (unsigned)(answer >> 16 & 0xffff);
 }
 
 /* Of a run: the last term's record count, and 0 where the call was refused. */
-static inline uint32_t wigneld_run_count(wigneld_answer answer)
+static inline uint32_t wigneld_run_count(uint64_t answer)
 {
-    return wigneld_count(answer) & 0xffff;
+    return wigneld_question(answer) != 0 ? 0 : (uint32_t)(answer & 0xffff);
 }
 
-/* The number of steps in the first WIGNELD_STEPS_BYTES bytes of these, lowest first; bytes that aren't there are 0. */
-static inline uint64_t wigneld_steps(const uint8_t *steps, size_t steps_length)
+/* The number of steps in WIGNELD_STEPS_BYTES bytes: of those that a caller lends to each move. */
+static inline uint64_t wigneld_steps(const uint8_t *steps)
 {
     uint64_t made = 0;
-    size_t i;
+    int i;
 
-    for (i = steps_length < WIGNELD_STEPS_BYTES ? steps_length : WIGNELD_STEPS_BYTES; i > 0; i--)
-        made = made << 8 | steps[i - 1];
+    for (i = WIGNELD_STEPS_BYTES - 1; i >= 0; i--)
+        made = made << 8 | steps[i];
     return made;
 }
 
-/* Of a run: the steps made, from the bytes that were lent for them. A refused call writes none, and this is 0. */
-static inline uint64_t wigneld_run_steps(wigneld_answer answer, const uint8_t *steps, size_t steps_length)
+/* Of a run: the steps made, from the WIGNELD_STEPS_BYTES bytes that were lent for them. A refused call writes none, and this is 0. */
+static inline uint64_t wigneld_run_steps(uint64_t answer, const uint8_t *steps)
 {
-    return wigneld_question(answer) != 0 ? 0 : wigneld_steps(steps, steps_length);
+    return wigneld_question(answer) != 0 ? 0 : wigneld_steps(steps);
 }
 
 /* Of a preview or a move: the step's end, and WIGNELD_END_REFUSED where the call was refused. */
-static inline unsigned wigneld_step_end(wigneld_answer answer)
+static inline unsigned wigneld_step_end(uint64_t answer)
 {
     return wigneld_run_end(answer);
 }
 
 /* Of a preview or a move: the record count after the step, and 0 where the call was refused. */
-static inline uint32_t wigneld_step_count(wigneld_answer answer)
+static inline uint32_t wigneld_step_count(uint64_t answer)
 {
     return wigneld_run_count(answer);
 }
@@ -598,71 +407,6 @@ static inline const char *wigneld_asked(unsigned question)
     };
 
     return question <= WIGNELD_LAST_QUESTION ? words[question] : none;
-}
-
-/*
- * The calls with many buffers once more, each by a struct that names them: what isn't set is 0, that is no bytes and no room. They add
- * nothing to what the calls ask, answer and write. wigneld_office.h and wigneld_desk.h have those of their calls.
- */
-typedef struct wigneld_check_call {
-    wigneld_bytes groups, types, script;
-    wigneld_room work, answer;
-} wigneld_check_call;
-
-static inline WIGNELD_MUST_USE wigneld_answer wigneld_check_with(const wigneld_check_call *call)
-{
-    return wigneld_check(call->groups.bytes, call->groups.length, call->types.bytes, call->types.length, call->script.bytes,
-                         call->script.length, call->work.bytes, call->work.length, call->answer.bytes, call->answer.length);
-}
-
-typedef struct wigneld_run_call {
-    wigneld_bytes groups, types, script;
-    uint64_t budget;
-    wigneld_room first, scratch, steps;
-} wigneld_run_call;
-
-static inline WIGNELD_MUST_USE wigneld_answer wigneld_run_with(const wigneld_run_call *call)
-{
-    return wigneld_run(call->groups.bytes, call->groups.length, call->types.bytes, call->types.length, call->script.bytes,
-                       call->script.length, call->budget, call->first.bytes, call->first.length, call->scratch.bytes,
-                       call->scratch.length, call->steps.bytes, call->steps.length);
-}
-
-typedef struct wigneld_sheet_call {
-    wigneld_bytes groups, types, value;
-    uint64_t group;
-    wigneld_room sheet;
-} wigneld_sheet_call;
-
-static inline WIGNELD_MUST_USE wigneld_answer wigneld_sheet_with(const wigneld_sheet_call *call)
-{
-    return wigneld_sheet(call->groups.bytes, call->groups.length, call->types.bytes, call->types.length, call->value.bytes,
-                         call->value.length, call->group, call->sheet.bytes, call->sheet.length);
-}
-
-typedef struct wigneld_move_call {
-    wigneld_bytes groups, types, script;
-    uint64_t end, records;
-    wigneld_room written, steps;
-} wigneld_move_call;
-
-static inline WIGNELD_MUST_USE wigneld_answer wigneld_move_with(const wigneld_move_call *call)
-{
-    return wigneld_move(call->groups.bytes, call->groups.length, call->types.bytes, call->types.length, call->script.bytes,
-                        call->script.length, call->end, call->records, call->written.bytes, call->written.length,
-                        call->steps.bytes, call->steps.length);
-}
-
-typedef struct wigneld_part_call {
-    wigneld_bytes groups, types, script;
-    uint64_t index;
-    wigneld_room starts;
-} wigneld_part_call;
-
-static inline WIGNELD_MUST_USE wigneld_answer wigneld_part_with(const wigneld_part_call *call)
-{
-    return wigneld_part(call->groups.bytes, call->groups.length, call->types.bytes, call->types.length, call->script.bytes,
-                        call->script.length, call->index, call->starts.bytes, call->starts.length);
 }
 
 #ifdef __cplusplus

@@ -1,6 +1,6 @@
 /*
  * Wigneld for a loan desk: a packet is the sheet, for the desk's group, of a script applied to an entry as that group. For C99 and C++
- * on Linux, on processors of x86-64-v2.
+ * on x86-64 Linux.
  *
  * Tables and scripts, and how a refusal is read, are as in wigneld.h. The function here is total too: any bytes of any length get an
  * answer. Nothing is allocated, kept or printed, and nothing is written but what is lent for it, so calls from several threads are apart
@@ -24,15 +24,6 @@ extern "C" {
 /* The free stack that the function needs, whatever it is lent, as wigneld.h means it. The deepest scripts and entries, typed or run,
    were seen to take 135,536 bytes; the number is this and at least a sixteenth more, in whole pages. */
 #define WIGNELD_PACKET_STACK_BYTES 147456
-
-/* The WIGNELD_VERSION that this archive was built from: a plain number and no answer, as wigneld_version. */
-uint32_t wigneld_desk_version(void);
-
-/* Whether the library is this header's, as wigneld_version_fits. */
-static inline unsigned wigneld_desk_version_fits(void)
-{
-    return wigneld_desk_version() == WIGNELD_VERSION;
-}
 
 /* In the place of the profile: any script, or those that always finish (wigneld_check_profile in wigneld_office.h). */
 #define WIGNELD_PROFILE_NONE 0
@@ -64,26 +55,11 @@ static inline unsigned wigneld_desk_version_fits(void)
  * unchanged by a refusal, but for 27, which comes after the run: once there was a run, they are as it left them. steps (as many of 8
  * bytes as are lent) and the front of sheet are written only where the call isn't refused, the latter at WIGNELD_END_VALUE alone.
  */
-WIGNELD_MUST_USE wigneld_answer wigneld_packet(const uint8_t *groups, size_t groups_length,
-    const uint8_t *types, size_t types_length, const uint8_t *script, size_t script_length,
-    const uint8_t *entry, size_t entry_length, uint64_t group, uint64_t budget, uint64_t profile,
-    uint8_t *work, size_t work_length, uint8_t *first, size_t first_length, uint8_t *scratch, size_t scratch_length,
-    uint8_t *steps, size_t steps_length, uint8_t *sheet, size_t sheet_length);
-
-/* The same by a struct that names each, as at the end of wigneld.h. */
-typedef struct wigneld_packet_call {
-    wigneld_bytes groups, types, script, entry;
-    uint64_t group, budget, profile;
-    wigneld_room work, first, scratch, steps, sheet;
-} wigneld_packet_call;
-
-static inline WIGNELD_MUST_USE wigneld_answer wigneld_packet_with(const wigneld_packet_call *call)
-{
-    return wigneld_packet(call->groups.bytes, call->groups.length, call->types.bytes, call->types.length, call->script.bytes,
-                          call->script.length, call->entry.bytes, call->entry.length, call->group, call->budget, call->profile,
-                          call->work.bytes, call->work.length, call->first.bytes, call->first.length, call->scratch.bytes,
-                          call->scratch.length, call->steps.bytes, call->steps.length, call->sheet.bytes, call->sheet.length);
-}
+uint64_t wigneld_packet(const uint8_t *groups, size_t groups_length, const uint8_t *types, size_t types_length,
+                        const uint8_t *script, size_t script_length, const uint8_t *entry, size_t entry_length, uint64_t group,
+                        uint64_t budget, uint64_t profile, uint8_t *work, size_t work_length, uint8_t *first, size_t first_length,
+                        uint8_t *scratch, size_t scratch_length, uint8_t *steps, size_t steps_length, uint8_t *sheet,
+                        size_t sheet_length);
 
 #ifdef __cplusplus
 }

@@ -1,7 +1,7 @@
 /*
  * Wigneld for the office: the comparison of two types of a types table, the check of scripts that always finish, the script in force
  * of an amended list, the rewriting of files from before this form, and the import and export of the old office program's scripts,
- * for C99 and C++ on Linux, on processors of x86-64-v2.
+ * for C99 and C++ on x86-64 Linux.
  *
  * Tables and scripts, and how a refusal is read, are as in wigneld.h. Every function here is total too: any bytes of any length get
  * an answer. Nothing is allocated, kept or printed, and nothing is written but what is lent for it, so calls from several threads are
@@ -27,9 +27,9 @@ extern "C" {
    records, as deep as they can be, were seen to take 4,752 bytes; the number is this and at least a sixteenth more.
    wigneld_in_force keeps two sets of 65,536 scripts, a bit for each, and was seen to take 21,248 bytes.
    wigneld_write_callers goes over its script once and needs next to none. The two that rewrite hold a whole table, or a table and a
-   script, in the new form while they ask, and were seen to take 25,024 and 110,944 bytes. wigneld_check_profile goes as deep as
-   wigneld_check: 82,480 bytes. wigneld_import holds a script without its names and the imported one, and goes as deep as the script:
-   129,424 bytes. wigneld_export goes as deep and holds none: 20,768. wigneld_write_office_callers is as wigneld_write_callers. */
+   script, in the new form while they ask, and were seen to take 25,024 and 111,040 bytes. wigneld_check_profile goes as deep as
+   wigneld_check: 82,464 bytes. wigneld_import holds a script without its names and the imported one, and goes as deep as the script:
+   129,440 bytes. wigneld_export goes as deep and holds none: 20,768. wigneld_write_office_callers is as wigneld_write_callers. */
 #define WIGNELD_COMPARE_STACK_BYTES 5632
 #define WIGNELD_IN_FORCE_STACK_BYTES 24576
 #define WIGNELD_WRITE_CALLERS_STACK_BYTES 512
@@ -40,32 +40,22 @@ extern "C" {
 #define WIGNELD_EXPORT_STACK_BYTES 24576
 #define WIGNELD_WRITE_OFFICE_CALLERS_STACK_BYTES 512
 
-/* The WIGNELD_VERSION that this archive was built from: a plain number and no answer, as wigneld_version. */
-uint32_t wigneld_office_version(void);
-
-/* Whether the library is this header's, as wigneld_version_fits. */
-static inline unsigned wigneld_office_version_fits(void)
-{
-    return wigneld_office_version() == WIGNELD_VERSION;
-}
-
 /*
  * Compares two types of one table, each named by the index of its first record: questions 2 to 12 and 25, whose place is 0 for the
  * first index and 1 for the second. wigneld_comparison reads the answer.
  */
-WIGNELD_MUST_USE wigneld_answer wigneld_compare(const uint8_t *groups, size_t groups_length,
-    const uint8_t *types, size_t types_length, uint64_t first, uint64_t second);
+uint64_t wigneld_compare(const uint8_t *groups, size_t groups_length, const uint8_t *types, size_t types_length, uint64_t first,
+                         uint64_t second);
 
-/* The first type beside the second. The reader, wigneld_script_in_force and wigneld_lists_place_kind are in the archive too, under the
-   same names and with the same arguments. */
+/* The first type beside the second. */
 #define WIGNELD_COMPARE_NEITHER 0   /* it is not at or below the second; it may be above it */
 #define WIGNELD_COMPARE_BELOW 1     /* it is below: usable wherever the second is, which is more closed or has lower creators */
 #define WIGNELD_COMPARE_SAME 2      /* both are equal in every record, wherever they stand in the table */
 #define WIGNELD_COMPARE_REFUSED 255 /* nothing was compared: the call was refused. No comparison answers so */
 
-static inline unsigned wigneld_comparison(wigneld_answer answer)
+static inline unsigned wigneld_comparison(uint64_t answer)
 {
-    return wigneld_question(answer) != 0 ? WIGNELD_COMPARE_REFUSED : (unsigned)wigneld_count(answer);
+    return wigneld_question(answer) != 0 ? WIGNELD_COMPARE_REFUSED : (unsigned)answer;
 }
 
 /*
@@ -76,9 +66,9 @@ static inline unsigned wigneld_comparison(wigneld_answer answer)
  * least that many ends with WIGNELD_END_VALUE, or with WIGNELD_END_TOO_BIG if a term on the way is too large or too deep. Nothing is
  * said of how many steps they are.
  */
-WIGNELD_MUST_USE wigneld_answer wigneld_check_profile(const uint8_t *groups, size_t groups_length,
-    const uint8_t *types, size_t types_length, const uint8_t *script, size_t script_length, uint8_t *work, size_t work_length,
-    uint8_t *answer, size_t answer_length);
+uint64_t wigneld_check_profile(const uint8_t *groups, size_t groups_length, const uint8_t *types, size_t types_length,
+                               const uint8_t *script, size_t script_length, uint8_t *work, size_t work_length, uint8_t *answer,
+                               size_t answer_length);
 
 /*
  * Which script is in force. A studio keeps two lists, neither with a header. Its list of scripts has for each script the index of its type
@@ -109,16 +99,16 @@ WIGNELD_MUST_USE wigneld_answer wigneld_check_profile(const uint8_t *groups, siz
  * its own; any other index, one past the list too, has WIGNELD_NO_SCRIPT. So WIGNELD_NO_SCRIPT as the index checks the lists alone.
  * Nothing is written. The cost grows with the lengths of the lists, not with their product. wigneld_script_in_force reads the answer.
  */
-WIGNELD_MUST_USE wigneld_answer wigneld_in_force(const uint8_t *groups, size_t groups_length,
-    const uint8_t *types, size_t types_length, const uint8_t *scripts, size_t scripts_length,
-    const uint8_t *amendments, size_t amendments_length, uint64_t index);
+uint64_t wigneld_in_force(const uint8_t *groups, size_t groups_length, const uint8_t *types, size_t types_length,
+                          const uint8_t *scripts, size_t scripts_length, const uint8_t *amendments, size_t amendments_length,
+                          uint64_t index);
 
 #define WIGNELD_IN_FORCE_REFUSED 65536 /* nothing was looked up: the call was refused. No list has such a script */
 
 /* The script in force, WIGNELD_NO_SCRIPT where there is none, WIGNELD_IN_FORCE_REFUSED where the call was refused. */
-static inline uint32_t wigneld_script_in_force(wigneld_answer answer)
+static inline uint32_t wigneld_script_in_force(uint64_t answer)
 {
-    return wigneld_question(answer) != 0 ? WIGNELD_IN_FORCE_REFUSED : wigneld_count(answer);
+    return wigneld_question(answer) != 0 ? WIGNELD_IN_FORCE_REFUSED : (uint32_t)answer;
 }
 
 /* What the place counts where wigneld_in_force refuses lists of these lengths by this question. */
@@ -145,10 +135,9 @@ static inline unsigned wigneld_lists_place_kind(unsigned question, size_t script
  * A script saved in form 2 skips the first. What passed questions 2 to 19 then passes here, and is checked and run as it was: with
  * the same type, its creators group 0, or refused by the same question at the same place; with the same end, steps and records, in
  * buffers of as many records. So a studio's files can be rewritten in one night without anybody looking at a page. What was refused
- * then is refused here by the same question at the same place and is not rewritten, if nothing in it came after its form. What did
- * was refused by 9, 14 or 16 and is asked today's here, so it may pass: numbers (type kind 4, kinds 12 to 14), and in form 1 a
- * recursion's own group, which step 1 overwrites, and a case with number 65,535. examples/rewrite.c does a folder. What was saved in
- * form 3 is in form 4 as it is.
+ * then is refused here by the same question at the same place and is not rewritten, but for what may stand in a file since: a
+ * recursion's own group, a case that finds its type, and numbers. examples/rewrite.c does a folder. What was saved in form 3 is in
+ * form 4 as it is.
  */
 #define WIGNELD_OLD_TYPE_RECORD_BYTES 4
 #define WIGNELD_OLD_SCRIPT_RECORD_BYTES 6
@@ -157,13 +146,12 @@ static inline unsigned wigneld_lists_place_kind(unsigned question, size_t script
  * Brings a script of form 1 to form 2, in place: each recursion gets the group that it calls itself as, which in form 1 was always
  * r of its function type. Each whole script record of kind recursion whose number is below types_length / 4 gets byte 1 of that
  * type record as its own byte 1; every other byte stays, a last record that is cut short too. Nothing is asked, so nothing is
- * refused: wigneld_count reads the number of records written, and of more than 4,294,967,295 this number.
+ * refused: the answer is the count of records written, as it is.
  *
  * To be used once, on scripts that were saved in form 1, whose recursions have 0 in byte 1. A script saved in form 2 has its own
  * group there and must not be rewritten.
  */
-WIGNELD_MUST_USE wigneld_answer wigneld_write_callers(const uint8_t *types, size_t types_length,
-    uint8_t *script, size_t script_length);
+uint64_t wigneld_write_callers(const uint8_t *types, size_t types_length, uint8_t *script, size_t script_length);
 
 /*
  * Brings a script of form 2 to form 4: questions 2 to 19 of the tables and the script, all of form 2, and then 27, whether
@@ -171,16 +159,15 @@ WIGNELD_MUST_USE wigneld_answer wigneld_write_callers(const uint8_t *types, size
  * buffers of a run, and 36 is never answered no. Accepted: the record count, which wigneld_count reads. The front of `rewritten`
  * then holds the script's records, each with group 0 as c and ic; later bytes are kept. A refusal writes nothing.
  */
-WIGNELD_MUST_USE wigneld_answer wigneld_rewrite_script(const uint8_t *groups, size_t groups_length,
-    const uint8_t *types, size_t types_length, const uint8_t *script, size_t script_length,
-    uint8_t *rewritten, size_t rewritten_length);
+uint64_t wigneld_rewrite_script(const uint8_t *groups, size_t groups_length, const uint8_t *types, size_t types_length,
+                                const uint8_t *script, size_t script_length, uint8_t *rewritten, size_t rewritten_length);
 
 /*
  * Brings a types table of form 1 or 2 to form 4: questions 2 to 12 and then 27, whether `rewritten` has room for as many records of
  * form 4 (WIGNELD_TYPES_LONGEST_BYTES are always enough). The rest is as for a script. Types keep their indexes.
  */
-WIGNELD_MUST_USE wigneld_answer wigneld_rewrite_types(const uint8_t *groups, size_t groups_length,
-    const uint8_t *types, size_t types_length, uint8_t *rewritten, size_t rewritten_length);
+uint64_t wigneld_rewrite_types(const uint8_t *groups, size_t groups_length, const uint8_t *types, size_t types_length,
+                               uint8_t *rewritten, size_t rewritten_length);
 
 /*
  * Scripts of the old office program. Their records have 10 bytes: the first six of a script record, and then two names, each of 16
@@ -208,8 +195,8 @@ WIGNELD_MUST_USE wigneld_answer wigneld_rewrite_types(const uint8_t *groups, siz
  * In an old script the recursions have 0 in byte 1. To be run as it was it gets its callers first, by wigneld_write_office_callers:
  * import then answers as it would have, and the imported script differs in those bytes alone.
  */
-WIGNELD_MUST_USE wigneld_answer wigneld_import(const uint8_t *groups, size_t groups_length,
-    const uint8_t *types, size_t types_length, const uint8_t *old, size_t old_length, uint8_t *script, size_t script_length);
+uint64_t wigneld_import(const uint8_t *groups, size_t groups_length, const uint8_t *types, size_t types_length,
+                        const uint8_t *old, size_t old_length, uint8_t *script, size_t script_length);
 
 /*
  * Exports a script to the old form: questions 2 to 19, then 28, whether it has at most 6,000 records, and 27, whether `old` has room for
@@ -219,35 +206,15 @@ WIGNELD_MUST_USE wigneld_answer wigneld_import(const uint8_t *groups, size_t gro
  * The old form has no creators: c and ic are dropped. Importing what was exported gives back the script, byte for byte, just where they
  * were group 0 in every record.
  */
-WIGNELD_MUST_USE wigneld_answer wigneld_export(const uint8_t *groups, size_t groups_length,
-    const uint8_t *types, size_t types_length, const uint8_t *script, size_t script_length, uint8_t *old, size_t old_length);
+uint64_t wigneld_export(const uint8_t *groups, size_t groups_length, const uint8_t *types, size_t types_length,
+                        const uint8_t *script, size_t script_length, uint8_t *old, size_t old_length);
 
 /*
  * wigneld_write_callers for an old office script, in place: each whole record of kind recursion whose number is below types_length / 6
- * gets byte 1 of that type record as its own byte 1; every other byte stays. Nothing is asked; the answer is as that one's.
+ * gets byte 1 of that type record as its own byte 1; every other byte stays. Nothing is asked; the answer is the count of records
+ * written, as it is.
  */
-WIGNELD_MUST_USE wigneld_answer wigneld_write_office_callers(const uint8_t *types, size_t types_length,
-    uint8_t *old, size_t old_length);
-
-/* The calls with many buffers by structs that name each, as at the end of wigneld.h. */
-
-static inline WIGNELD_MUST_USE wigneld_answer wigneld_check_profile_with(const wigneld_check_call *call)
-{
-    return wigneld_check_profile(call->groups.bytes, call->groups.length, call->types.bytes, call->types.length,
-                                 call->script.bytes, call->script.length, call->work.bytes, call->work.length,
-                                 call->answer.bytes, call->answer.length);
-}
-
-typedef struct wigneld_in_force_call {
-    wigneld_bytes groups, types, scripts, amendments;
-    uint64_t index;
-} wigneld_in_force_call;
-
-static inline WIGNELD_MUST_USE wigneld_answer wigneld_in_force_with(const wigneld_in_force_call *call)
-{
-    return wigneld_in_force(call->groups.bytes, call->groups.length, call->types.bytes, call->types.length, call->scripts.bytes,
-                            call->scripts.length, call->amendments.bytes, call->amendments.length, call->index);
-}
+uint64_t wigneld_write_office_callers(const uint8_t *types, size_t types_length, uint8_t *old, size_t old_length);
 
 #ifdef __cplusplus
 }

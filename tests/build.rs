@@ -1,4 +1,4 @@
-//! Links libprobe.a, only when the feature `engine` asks for the engine; the crate in bindings/rust links the three that are exported to C.
+//! Links the engine's four archives, only when the feature `engine` asks for them.
 
 use std::env;
 
@@ -10,10 +10,12 @@ fn main() {
     let folder = env::var("WIGNELD_LIB").expect(
         "the feature `engine` needs WIGNELD_LIB, the folder of libwigneld.a, libwigneld_office.a, libwigneld_desk.a and libprobe.a",
     );
-    // As an argument the archive comes after the standard library, so that a panic of the tests stays
+    // As arguments the archives come after the standard library, so that a panic of the tests stays
     // the tests' own even where an archive brings a panic runtime along. The archives may carry the
     // same functions; the first copy serves.
     println!("cargo:rustc-link-arg=-Wl,--allow-multiple-definition");
-    println!("cargo:rerun-if-changed={folder}/libprobe.a");
-    println!("cargo:rustc-link-arg={folder}/libprobe.a");
+    for name in ["libprobe.a", "libwigneld_desk.a", "libwigneld_office.a", "libwigneld.a"] {
+        println!("cargo:rerun-if-changed={folder}/{name}");
+        println!("cargo:rustc-link-arg={folder}/{name}");
+    }
 }

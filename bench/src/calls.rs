@@ -122,7 +122,7 @@ pub fn measured_call(who: Implementation, call: Call, inputs: &Inputs, lent: &mu
     }
 }
 
-/// What the call gives, the upper half of the engine's answer; a shape that is refused is a mistake here.
+/// The answer as one number, as the engine gives it; a shape that is refused is a mistake here.
 fn second(call: Call, inputs: &Inputs, lent: &mut Lent) -> u64 {
     let Inputs { groups, types, script } = inputs;
     match call {
@@ -152,32 +152,23 @@ fn ended(end: u64, records: u32) -> u64 {
 
 #[cfg(feature = "engine")]
 fn engine(call: Call, inputs: &Inputs, lent: &mut Lent) -> u64 {
-    use wigneld_tests::engine::{self, lent as engines};
+    use wigneld_tests::engine;
     let Inputs { groups, types, script } = inputs;
-    given(match call {
-        Call::Check => {
-            engines::check(groups, types, script, &mut lent.work, &mut lent.answer).number()
-        }
+    match call {
+        Call::Check => engine::check(groups, types, script, &mut lent.work, &mut lent.answer),
         Call::Run | Call::Start => {
             let (first, scratch) = (&mut lent.first, &mut lent.scratch);
-            let (budget, steps) = (call.budget(), &mut lent.steps);
-            engines::run(groups, types, script, budget, first, scratch, steps).number()
+            engine::run(groups, types, script, call.budget(), first, scratch, &mut lent.steps)
         }
         Call::Step => engine::step(groups, types, script, &mut lent.first),
-        Call::Sheet => engines::sheet(groups, types, script, GROUP, &mut lent.sheet).number(),
-    })
-}
-
-/// What an answer gives; a refusal is a mistake here.
-#[cfg(feature = "engine")]
-pub fn given(answer: u64) -> u64 {
-    assert_eq!(answer as u32, 0, "the question that refused");
-    answer >> 32
+        Call::Sheet => engine::sheet(groups, types, script, GROUP, &mut lent.sheet),
+    }
 }
 
 /// What a call answered, in words. Refusals, ends that no shape is meant to have and a step that
 /// didn't move would be timed by accident, and are mistakes here.
 pub fn in_words(call: Call, answer: u64, lent: &Lent) -> String {
+    assert!(answer < 1 << 32, "a shape was refused: question {}", answer >> 32);
     let (end, records) = (answer >> 16, answer & 0xffff);
     match call {
         Call::Check => format!("type of {records}"),

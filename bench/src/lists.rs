@@ -68,8 +68,7 @@ fn measured_in_force(who: Implementation, studio: &Studio) -> u64 {
             .into(),
         #[cfg(feature = "engine")]
         Implementation::Engine => {
-            use wigneld_tests::engine::lent;
-            crate::calls::given(lent::in_force(groups, types, scripts, amendments, *index).number())
+            wigneld_tests::engine::in_force(groups, types, scripts, amendments, *index)
         }
         #[cfg(not(feature = "engine"))]
         Implementation::Engine => panic!("built without the engine"),

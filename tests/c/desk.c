@@ -167,46 +167,16 @@ static struct request request(const struct bytes *script, const struct bytes *en
     return r;
 }
 
-static wigneld_bytes given(const uint8_t *bytes, size_t length)
+static uint64_t packet(const struct request *r)
 {
-    wigneld_bytes given;
-
-    given.bytes = bytes;
-    given.length = length;
-    return given;
-}
-
-static wigneld_room lent(uint8_t *bytes, size_t length)
-{
-    wigneld_room lent;
-
-    lent.bytes = bytes;
-    lent.length = length;
-    return lent;
-}
-
-static wigneld_answer packet(const struct request *r)
-{
-    wigneld_packet_call call;
-
     memset(work, OLD, sizeof work);
     memset(first, OLD, sizeof first);
     memset(scratch, OLD, sizeof scratch);
     memset(steps, OLD, sizeof steps);
     memset(sheet, OLD, sizeof sheet);
-    call.groups = given(groups, sizeof groups);
-    call.types = given(types, sizeof types);
-    call.script = given(r->script.at, r->script.length);
-    call.entry = given(r->entry.at, r->entry.length);
-    call.group = r->group;
-    call.budget = r->budget;
-    call.profile = r->profile;
-    call.work = lent(work, r->work);
-    call.first = lent(first, r->first);
-    call.scratch = lent(scratch, r->scratch);
-    call.steps = lent(steps, r->steps);
-    call.sheet = lent(sheet, r->sheet);
-    return wigneld_packet_with(&call);
+    return wigneld_packet(groups, sizeof groups, types, sizeof types, r->script.at, r->script.length, r->entry.at, r->entry.length,
+                          r->group, r->budget, r->profile, work, r->work, first, r->first, scratch, r->scratch, steps, r->steps,
+                          sheet, r->sheet);
 }
 
 static int all(const uint8_t *bytes, size_t length, unsigned byte)
@@ -239,11 +209,11 @@ static struct bytes application(const struct request *r)
 }
 
 /* The application built by hand, checked, and run in buffers as long as the packet's. */
-static wigneld_answer run_by_hand(const struct request *r)
+static uint64_t run_by_hand(const struct request *r)
 {
     static uint8_t typing[WIGNELD_WORK_BYTES], found[WIGNELD_ANSWER_BYTES];
     struct bytes whole = application(r);
-    wigneld_answer checked = wigneld_check(groups, sizeof groups, types, sizeof types, whole.at, whole.length, typing, sizeof typing, found,
+    uint64_t checked = wigneld_check(groups, sizeof groups, types, sizeof types, whole.at, whole.length, typing, sizeof typing, found,
                                      sizeof found);
 
     HOLD(wigneld_question(checked) == 0);
@@ -261,19 +231,19 @@ static int ran_alike(void)
 }
 
 /* A packet that isn't refused: it is what the run and the sheet by hand are. Gives its answer. */
-static wigneld_answer as_by_hand(const struct request *r)
+static uint64_t as_by_hand(const struct request *r)
 {
-    wigneld_answer answer = packet(r), ran = run_by_hand(r);
+    uint64_t answer = packet(r), ran = run_by_hand(r);
     unsigned end = wigneld_run_end(ran);
 
     HOLD(wigneld_question(answer) == 0 && wigneld_run_end(answer) == end);
     HOLD(end != WIGNELD_END_MAY_NOT && end != WIGNELD_END_WRONG_KIND);
     HOLD(cleared(r) && ran_alike() && memcmp(steps, hand_steps, sizeof steps) == 0);
     if (r->steps == WIGNELD_STEPS_BYTES)
-        HOLD(wigneld_run_steps(answer, steps, sizeof steps) == wigneld_run_steps(ran, hand_steps, sizeof hand_steps));
+        HOLD(wigneld_run_steps(answer, steps) == wigneld_run_steps(ran, hand_steps));
     memset(hand_sheet, OLD, sizeof hand_sheet);
     if (end == WIGNELD_END_VALUE) {
-        wigneld_answer shown = wigneld_sheet(groups, sizeof groups, types, sizeof types, hand_first,
+        uint64_t shown = wigneld_sheet(groups, sizeof groups, types, sizeof types, hand_first,
                                        wigneld_run_count(ran) * WIGNELD_SCRIPT_RECORD_BYTES, r->group, hand_sheet, r->sheet);
 
         HOLD(wigneld_question(shown) == 0 && wigneld_run_count(answer) == wigneld_count(shown));
@@ -294,7 +264,7 @@ static void issued(void)
     };
     struct bytes lenders = page(1), anyones = page(0), entry = entry_of(1), open = entry_of(0);
     struct request r = request(&lenders, &entry);
-    wigneld_answer answer;
+    uint64_t answer;
 
     r.group = 1;
     answer = as_by_hand(&r);
@@ -328,25 +298,24 @@ static void budgets(void)
 {
     struct bytes script = page(1), entry = entry_of(1);
     struct request r = request(&script, &entry);
-    wigneld_answer answer;
-    uint64_t needed;
+    uint64_t answer, needed;
 
     r.group = 1;
     answer = as_by_hand(&r);
-    needed = wigneld_run_steps(answer, steps, sizeof steps);
+    needed = wigneld_run_steps(answer, steps);
     HOLD(needed > 2);
     for (r.budget = 0; r.budget < needed; r.budget++) {
         answer = as_by_hand(&r);
-        HOLD(wigneld_run_end(answer) == WIGNELD_END_SPENT && wigneld_run_steps(answer, steps, sizeof steps) == r.budget);
+        HOLD(wigneld_run_end(answer) == WIGNELD_END_SPENT && wigneld_run_steps(answer, steps) == r.budget);
         HOLD(wigneld_run_count(answer) > 3 && all(sheet, sizeof sheet, OLD));
         /* Nor is there any need to lend one. */
         r.sheet = 0;
-        HOLD(SAME(packet(&r), answer));
+        HOLD(packet(&r) == answer);
         r.sheet = WIGNELD_SHEET_BYTES;
     }
     HOLD(wigneld_run_end(as_by_hand(&r)) == WIGNELD_END_VALUE);
     r.budget = UINT64_MAX;
-    HOLD(wigneld_run_end(as_by_hand(&r)) == WIGNELD_END_VALUE && wigneld_run_steps(answer, steps, sizeof steps) == needed);
+    HOLD(wigneld_run_end(as_by_hand(&r)) == WIGNELD_END_VALUE && wigneld_run_steps(answer, steps) == needed);
 }
 
 /* A rule that goes on for ever: its budget is spent, or a term doesn't fit. */
@@ -354,14 +323,14 @@ static void endless_runs(void)
 {
     struct bytes script = endless(), entry = unit();
     struct request r = request(&script, &entry);
-    wigneld_answer answer;
+    uint64_t answer;
 
     r.budget = 77;
     answer = as_by_hand(&r);
-    HOLD(wigneld_run_end(answer) == WIGNELD_END_SPENT && wigneld_run_steps(answer, steps, sizeof steps) == 77 && all(sheet, sizeof sheet, OLD));
+    HOLD(wigneld_run_end(answer) == WIGNELD_END_SPENT && wigneld_run_steps(answer, steps) == 77 && all(sheet, sizeof sheet, OLD));
     r.first = application(&r).length + WIGNELD_SCRIPT_RECORD_BYTES;
     answer = as_by_hand(&r);
-    HOLD(wigneld_run_end(answer) == WIGNELD_END_TOO_BIG && wigneld_run_steps(answer, steps, sizeof steps) == 0);
+    HOLD(wigneld_run_end(answer) == WIGNELD_END_TOO_BIG && wigneld_run_steps(answer, steps) == 0);
     HOLD(wigneld_run_count(answer) == application(&r).length / WIGNELD_SCRIPT_RECORD_BYTES && all(sheet, sizeof sheet, OLD));
 }
 
@@ -383,10 +352,10 @@ static void lent_steps(void)
 /* A refusal before the run: nothing that is lent changes, but for the work buffer once the script's typing has begun. */
 static void refuses(const struct request *r, unsigned question, uint32_t place, int typing_begun)
 {
-    wigneld_answer answer = packet(r);
+    uint64_t answer = packet(r);
 
     HOLD(wigneld_question(answer) == question && wigneld_place(answer) == place);
-    HOLD(wigneld_run_end(answer) == WIGNELD_END_REFUSED && wigneld_run_count(answer) == 0 && wigneld_run_steps(answer, steps, sizeof steps) == 0);
+    HOLD(wigneld_run_end(answer) == WIGNELD_END_REFUSED && wigneld_run_count(answer) == 0 && wigneld_run_steps(answer, steps) == 0);
     HOLD(typing_begun ? cleared(r) : all(work, sizeof work, OLD));
     HOLD(all(first, sizeof first, OLD) && all(scratch, sizeof scratch, OLD));
     HOLD(all(steps, sizeof steps, OLD) && all(sheet, sizeof sheet, OLD));
@@ -518,13 +487,13 @@ static void no_room(void)
 
     r.group = 1;
     for (r.sheet = 0; r.sheet < 3 * WIGNELD_SHEET_RECORD_BYTES; r.sheet++) {
-        wigneld_answer answer = packet(&r), ran = run_by_hand(&r);
+        uint64_t answer = packet(&r), ran = run_by_hand(&r);
 
         HOLD(wigneld_question(answer) == 27 && wigneld_place(answer) == 0);
         HOLD(wigneld_run_end(answer) == WIGNELD_END_REFUSED && wigneld_run_end(ran) == WIGNELD_END_VALUE);
         HOLD(cleared(&r) && ran_alike() && !all(first, sizeof first, OLD));
         HOLD(all(steps, sizeof steps, OLD) && all(sheet, sizeof sheet, OLD));
-        HOLD(wigneld_run_count(answer) == 0 && wigneld_run_steps(answer, steps, sizeof steps) == 0);
+        HOLD(wigneld_run_count(answer) == 0 && wigneld_run_steps(answer, steps) == 0);
     }
     HOLD(wigneld_run_end(as_by_hand(&r)) == WIGNELD_END_VALUE);
     /* What is closed takes one record. */
@@ -539,7 +508,6 @@ static void readings(void)
     HOLD(strcmp(wigneld_asked(37), "no such question") != 0 && strcmp(wigneld_asked(38), "no such question") != 0);
     HOLD(WIGNELD_PROFILE_NONE == 0 && WIGNELD_PROFILE_FINISHES != WIGNELD_PROFILE_NONE);
     HOLD(WIGNELD_PACKET_STACK_BYTES >= WIGNELD_CHECK_STACK_BYTES);
-    HOLD(wigneld_desk_version() == WIGNELD_VERSION && wigneld_desk_version_fits());
 }
 
 int main(void)

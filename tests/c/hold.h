@@ -17,12 +17,6 @@ static void hold(int so, const char *what, const char *file, int line)
 
 #define HOLD(so) hold((so), #so, __FILE__, __LINE__)
 
-/* Two answers are one. */
-#define SAME(one, other) ((one).number == (other).number)
-
-/* An answer is accepted with this count. */
-#define COUNTED(answer, count) ((answer).number == (uint64_t)(count) << 32)
-
 /* The last line of a client, and its exit status. */
 static int told(void)
 {

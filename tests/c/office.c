@@ -84,7 +84,7 @@ static void answers(void)
     HOLD(compared(SWORN_TO_OPEN, OPEN_TO_SWORN) == WIGNELD_COMPARE_NEITHER);
 }
 
-static void refuses(wigneld_answer answer, unsigned question, uint32_t place)
+static void refuses(uint64_t answer, unsigned question, uint32_t place)
 {
     HOLD(wigneld_question(answer) == question && wigneld_place(answer) == place);
     HOLD(wigneld_comparison(answer) == WIGNELD_COMPARE_REFUSED);
@@ -119,18 +119,12 @@ static void readings(void)
     uint32_t place;
 
     for (question = 1; question <= WIGNELD_LAST_QUESTION; question++)
-        for (place = 0; place < 4; place++) {
-            wigneld_answer answer = { (uint64_t)place << 32 | question };
-
-            HOLD(wigneld_comparison(answer) == WIGNELD_COMPARE_REFUSED);
-            HOLD(wigneld_script_in_force(answer) == WIGNELD_IN_FORCE_REFUSED);
-        }
-    for (place = WIGNELD_COMPARE_NEITHER; place <= WIGNELD_COMPARE_SAME; place++) {
-        wigneld_answer answer = { (uint64_t)place << 32 };
-
-        HOLD(wigneld_comparison(answer) == place && wigneld_script_in_force(answer) == place);
-    }
-    HOLD(wigneld_office_version() == WIGNELD_VERSION && wigneld_office_version_fits());
+        for (place = 0; place < 4; place++)
+            HOLD(wigneld_comparison((uint64_t)question << 32 | place) == WIGNELD_COMPARE_REFUSED
+                 && wigneld_script_in_force((uint64_t)question << 32 | place) == WIGNELD_IN_FORCE_REFUSED);
+    HOLD(wigneld_comparison(0) == WIGNELD_COMPARE_NEITHER);
+    HOLD(wigneld_comparison(1) == WIGNELD_COMPARE_BELOW);
+    HOLD(wigneld_comparison(2) == WIGNELD_COMPARE_SAME);
 }
 
 /* Scripts with lines of these types: two that the lender made, one that anybody may have, one more closed, and one that nobody lists. */
@@ -145,16 +139,9 @@ static const uint8_t amended[] = {
     CLOSED_LINE, 0, 255, 255, OPEN_LINE, 0, CLOSED_LINE, 0, SWORN_LINE_AGAIN, 0, OPEN_LINE, 0, SWORN_LINE, 0, SWORN_LINE_AGAIN, 0,
 };
 
-static wigneld_answer look_up(const uint8_t *scripts, size_t scripts_length, const uint8_t *entries, size_t entries_length, uint64_t index)
+static uint64_t look_up(const uint8_t *scripts, size_t scripts_length, const uint8_t *entries, size_t entries_length, uint64_t index)
 {
-    wigneld_in_force_call call = { { groups, sizeof groups }, { types, sizeof types }, { NULL, 0 }, { NULL, 0 }, 0 };
-
-    call.scripts.bytes = scripts;
-    call.scripts.length = scripts_length;
-    call.amendments.bytes = entries;
-    call.amendments.length = entries_length;
-    call.index = index;
-    return wigneld_in_force_with(&call);
+    return wigneld_in_force(groups, sizeof groups, types, sizeof types, scripts, scripts_length, entries, entries_length, index);
 }
 
 static uint32_t in_force(size_t entries, uint64_t index)
@@ -181,7 +168,7 @@ static void looked_up(void)
 }
 
 /* A refused look-up, and what its place counts. */
-static void not_looked_up(wigneld_answer answer, unsigned question, uint32_t place)
+static void not_looked_up(uint64_t answer, unsigned question, uint32_t place)
 {
     HOLD(wigneld_question(answer) == question && wigneld_place(answer) == place);
     HOLD(wigneld_script_in_force(answer) == WIGNELD_IN_FORCE_REFUSED);
@@ -209,7 +196,7 @@ static void lists_refused(void)
     size_t length;
 
     for (length = 0; length < sizeof amended; length++) {
-        wigneld_answer answer = look_up(lines, sizeof lines, amended, length, WIGNELD_NO_SCRIPT);
+        uint64_t answer = look_up(lines, sizeof lines, amended, length, WIGNELD_NO_SCRIPT);
 
         if (length % WIGNELD_ENTRY_BYTES == 0)
             HOLD(wigneld_script_in_force(answer) == WIGNELD_NO_SCRIPT);
@@ -261,13 +248,13 @@ enum {
 enum { OLD = 0xA5 };
 static uint8_t new_types[WIGNELD_TYPES_LONGEST_BYTES], new_script[WIGNELD_SCRIPT_LONGEST_BYTES];
 
-static wigneld_answer rewrite_types(const uint8_t *table, size_t length, size_t room)
+static uint64_t rewrite_types(const uint8_t *table, size_t length, size_t room)
 {
     memset(new_types, OLD, sizeof new_types);
     return wigneld_rewrite_types(groups, sizeof groups, table, length, new_types, room);
 }
 
-static wigneld_answer rewrite_script(const uint8_t *table, size_t table_length, const uint8_t *script, size_t length, size_t room)
+static uint64_t rewrite_script(const uint8_t *table, size_t table_length, const uint8_t *script, size_t length, size_t room)
 {
     memset(new_script, OLD, sizeof new_script);
     return wigneld_rewrite_script(groups, sizeof groups, table, table_length, script, length, new_script, room);
@@ -315,12 +302,12 @@ static int called_as(const uint8_t *script, unsigned group)
 }
 
 /* A script of the older width over the rule's types, brought to the present form and checked there. */
-static wigneld_answer check(const uint8_t *script)
+static uint64_t check(const uint8_t *script)
 {
     static uint8_t work[WIGNELD_WORK_BYTES], found[WIGNELD_ANSWER_BYTES];
 
-    HOLD(COUNTED(rewrite_script(rule_types, sizeof rule_types, script, sizeof saved, sizeof new_script), RULE));
-    HOLD(COUNTED(rewrite_types(rule_types, sizeof rule_types, sizeof new_types), RULE_TYPES));
+    HOLD(rewrite_script(rule_types, sizeof rule_types, script, sizeof saved, sizeof new_script) == RULE);
+    HOLD(rewrite_types(rule_types, sizeof rule_types, sizeof new_types) == RULE_TYPES);
     HOLD(script_widened(script, RULE) && types_widened(rule_types, RULE_TYPES));
     return wigneld_check(groups, sizeof groups, new_types, RULE_TYPES * WIGNELD_TYPE_RECORD_BYTES, new_script,
                          RULE * WIGNELD_SCRIPT_RECORD_BYTES, work, sizeof work, found, sizeof found);
@@ -330,11 +317,11 @@ static wigneld_answer check(const uint8_t *script)
 static void rewritten(void)
 {
     uint8_t script[sizeof saved], first[100 * WIGNELD_SCRIPT_RECORD_BYTES], scratch[sizeof first];
-    wigneld_answer answer = check(saved);
+    uint64_t answer = check(saved);
 
     HOLD(wigneld_question(answer) == 21 && wigneld_place(answer) == 1);
     memcpy(script, saved, sizeof saved);
-    HOLD(COUNTED(wigneld_write_callers(rule_types, sizeof rule_types, script, sizeof script), 1));
+    HOLD(wigneld_write_callers(rule_types, sizeof rule_types, script, sizeof script) == 1);
     HOLD(called_as(script, 1));
     answer = check(script);
     HOLD(wigneld_question(answer) == 0 && wigneld_count(answer) == 1);
@@ -344,7 +331,7 @@ static void rewritten(void)
     HOLD(wigneld_run_end(answer) == WIGNELD_END_SPENT && wigneld_run_count(answer) == 2 + RULE);
     HOLD(memcmp(first + 2 * WIGNELD_SCRIPT_RECORD_BYTES, new_script, RULE * WIGNELD_SCRIPT_RECORD_BYTES) == 0);
     /* A second time the caller changes nothing and says the same. */
-    HOLD(COUNTED(wigneld_write_callers(rule_types, sizeof rule_types, script, sizeof script), 1) && called_as(script, 1));
+    HOLD(wigneld_write_callers(rule_types, sizeof rule_types, script, sizeof script) == 1 && called_as(script, 1));
 }
 
 /* Lengths that are not whole records, tables that don't reach to the number, and nothing at all. */
@@ -357,22 +344,22 @@ static void left_as_they_are(void)
         unsigned written = length >= 2 * WIGNELD_OLD_SCRIPT_RECORD_BYTES ? 1 : 0;
 
         memcpy(script, saved, sizeof saved);
-        HOLD(COUNTED(wigneld_write_callers(rule_types, sizeof rule_types, script, length), written) && called_as(script, written));
+        HOLD(wigneld_write_callers(rule_types, sizeof rule_types, script, length) == written && called_as(script, written));
     }
     for (length = 0; length <= sizeof rule_types; length++) {
         unsigned written = length >= WIGNELD_OLD_TYPE_RECORD_BYTES ? 1 : 0;
 
         memcpy(script, saved, sizeof saved);
-        HOLD(COUNTED(wigneld_write_callers(rule_types, length, script, sizeof script), written) && called_as(script, written));
+        HOLD(wigneld_write_callers(rule_types, length, script, sizeof script) == written && called_as(script, written));
     }
     memcpy(script, saved, sizeof saved);
-    HOLD(COUNTED(wigneld_write_callers(NULL, 0, script, sizeof script), 0) && called_as(script, 0));
-    HOLD(COUNTED(wigneld_write_callers(rule_types, sizeof rule_types, NULL, 0), 0));
-    HOLD(COUNTED(wigneld_write_callers(NULL, 0, NULL, 0), 0));
+    HOLD(wigneld_write_callers(NULL, 0, script, sizeof script) == 0 && called_as(script, 0));
+    HOLD(wigneld_write_callers(rule_types, sizeof rule_types, NULL, 0) == 0);
+    HOLD(wigneld_write_callers(NULL, 0, NULL, 0) == 0);
 }
 
 /* A refusal that writes nothing. */
-static void keeps(wigneld_answer answer, unsigned question, uint32_t place)
+static void keeps(uint64_t answer, unsigned question, uint32_t place)
 {
     HOLD(wigneld_question(answer) == question && wigneld_place(answer) == place && wigneld_count(answer) == 0);
     HOLD(all(new_types, sizeof new_types, OLD) && all(new_script, sizeof new_script, OLD));
@@ -440,11 +427,11 @@ static void rewriting_refused(void)
 
     /* Room is asked for last, and a byte less is too little. */
     keeps(rewrite_types(rule_types, sizeof rule_types, types_room - 1), 27, 0);
-    HOLD(COUNTED(rewrite_types(rule_types, sizeof rule_types, types_room), RULE_TYPES) && types_widened(rule_types, RULE_TYPES));
+    HOLD(rewrite_types(rule_types, sizeof rule_types, types_room) == RULE_TYPES && types_widened(rule_types, RULE_TYPES));
     memset(new_types, OLD, sizeof new_types);
     keeps(rewrite_script(rule_types, sizeof rule_types, saved, sizeof saved, room - 1), 27, 0);
     keeps(rewrite_script(rule_types, sizeof rule_types, saved, sizeof saved, 0), 27, 0);
-    HOLD(COUNTED(rewrite_script(rule_types, sizeof rule_types, saved, sizeof saved, room), RULE) && script_widened(saved, RULE));
+    HOLD(rewrite_script(rule_types, sizeof rule_types, saved, sizeof saved, room) == RULE && script_widened(saved, RULE));
     memset(new_script, OLD, sizeof new_script);
     keeps(rewrite_types(rule_types, sizeof rule_types, 0), 27, 0);
 }
@@ -470,9 +457,9 @@ static void longest(void)
 
     script[0] = WIGNELD_KIND_PROTECT;
     HOLD(balanced(script + WIGNELD_OLD_SCRIPT_RECORD_BYTES, WIGNELD_MOST_SCRIPT_RECORDS - 1) == script + most_of_script);
-    HOLD(COUNTED(rewrite_types(table, most, sizeof new_types), WIGNELD_MOST_TABLE_RECORDS));
+    HOLD(rewrite_types(table, most, sizeof new_types) == WIGNELD_MOST_TABLE_RECORDS);
     HOLD(types_widened(table, WIGNELD_MOST_TABLE_RECORDS));
-    HOLD(COUNTED(rewrite_script(table, most, script, most_of_script, sizeof new_script), WIGNELD_MOST_SCRIPT_RECORDS));
+    HOLD(rewrite_script(table, most, script, most_of_script, sizeof new_script) == WIGNELD_MOST_SCRIPT_RECORDS);
     HOLD(script_widened(script, WIGNELD_MOST_SCRIPT_RECORDS));
     memset(new_script, OLD, sizeof new_script);
     keeps(rewrite_types(table, sizeof table, sizeof new_types), 8, 0);
@@ -482,20 +469,15 @@ static void longest(void)
 /* Checks a script for a screen; every byte past what an accepted one writes is kept. */
 static uint8_t work[WIGNELD_WORK_BYTES + 1], found[WIGNELD_ANSWER_BYTES + 1];
 
-static wigneld_answer for_a_screen(const uint8_t *script, size_t length, size_t work_length, size_t found_length)
+static uint64_t for_a_screen(const uint8_t *script, size_t length, size_t work_length, size_t found_length)
 {
-    wigneld_check_call call = { { groups, sizeof groups }, { types, sizeof types }, { NULL, 0 }, { work, 0 }, { found, 0 } };
-
     memset(work, OLD, sizeof work);
     memset(found, OLD, sizeof found);
-    call.script.bytes = script;
-    call.script.length = length;
-    call.work.length = work_length;
-    call.answer.length = found_length;
-    return wigneld_check_profile_with(&call);
+    return wigneld_check_profile(groups, sizeof groups, types, sizeof types, script, length, work, work_length, found,
+                                 found_length);
 }
 
-static void unwritten(wigneld_answer answer, unsigned question, uint32_t place)
+static void unwritten(uint64_t answer, unsigned question, uint32_t place)
 {
     HOLD(wigneld_question(answer) == question && wigneld_place(answer) == place);
     HOLD(all(work, sizeof work, OLD) && all(found, sizeof found, OLD));
@@ -523,7 +505,7 @@ static void screens(void)
     unbound[6 * RECORD + WIGNELD_AT_NUMBER] = 2;
     unwritten(for_a_screen(unbound, sizeof unbound, sizeof work, sizeof found), 19, 6);
     /* What is no rule is checked. */
-    HOLD(COUNTED(for_a_screen(rules + 3 * RECORD, RECORD, sizeof work, sizeof found), 1));
+    HOLD(for_a_screen(rules + 3 * RECORD, RECORD, sizeof work, sizeof found) == 1);
     HOLD(all(work, sizeof work, 0) && memcmp(found, unit_of_type, sizeof unit_of_type) == 0);
     HOLD(all(found + sizeof unit_of_type, sizeof found - sizeof unit_of_type, OLD));
 }
@@ -554,7 +536,7 @@ static void paired(uint8_t *old, unsigned outer, unsigned inner, unsigned left, 
     old_record(old + RIGHT * WIGNELD_OFFICE_RECORD_BYTES, WIGNELD_KIND_VARIABLE, 0, 0, right, 0);
 }
 
-static wigneld_answer import(const uint8_t *old, size_t length, size_t room)
+static uint64_t import(const uint8_t *old, size_t length, size_t room)
 {
     memset(new_script, OLD, sizeof new_script);
     return wigneld_import(groups, sizeof groups, types, sizeof types, old, length, new_script, room);
@@ -565,7 +547,7 @@ static int means(const uint8_t *old, unsigned left, unsigned right)
 {
     const uint8_t *variables = new_script + LEFT * WIGNELD_SCRIPT_RECORD_BYTES;
 
-    return COUNTED(import(old, PAIRED * WIGNELD_OFFICE_RECORD_BYTES, sizeof new_script), PAIRED)
+    return import(old, PAIRED * WIGNELD_OFFICE_RECORD_BYTES, sizeof new_script) == PAIRED
            && variables[WIGNELD_AT_NUMBER] == left && variables[WIGNELD_SCRIPT_RECORD_BYTES + WIGNELD_AT_NUMBER] == right
            && all(new_script + PAIRED * WIGNELD_SCRIPT_RECORD_BYTES, sizeof new_script - PAIRED * WIGNELD_SCRIPT_RECORD_BYTES, OLD);
 }
@@ -581,7 +563,7 @@ static void imported(void)
     HOLD(means(old, 0, 0));
     paired(old, 0, 256, 256, 0);
     HOLD(means(old, 0, 1));
-    HOLD(COUNTED(import(old, sizeof old, room), PAIRED));
+    HOLD(import(old, sizeof old, room) == PAIRED);
     memset(new_types, OLD, sizeof new_types);
     keeps(import(old, sizeof old, room - 1), 27, 0);
     keeps(import(old, 0, room), 28, 0);
@@ -604,16 +586,16 @@ static void exported(void)
 {
     uint8_t old[PAIRED * WIGNELD_OFFICE_RECORD_BYTES], script[PAIRED * WIGNELD_SCRIPT_RECORD_BYTES];
     uint8_t again[sizeof old + 1], named[sizeof old];
-    wigneld_answer answer;
+    uint64_t answer;
 
     paired(old, 70, 80, 80, 70);
     paired(named, 0, 1, 1, 0);
-    HOLD(COUNTED(import(old, sizeof old, sizeof new_script), PAIRED));
+    HOLD(import(old, sizeof old, sizeof new_script) == PAIRED);
     memcpy(script, new_script, sizeof script);
     memset(again, OLD, sizeof again);
-    HOLD(COUNTED(wigneld_export(groups, sizeof groups, types, sizeof types, script, sizeof script, again, sizeof again), PAIRED));
+    HOLD(wigneld_export(groups, sizeof groups, types, sizeof types, script, sizeof script, again, sizeof again) == PAIRED);
     HOLD(memcmp(again, named, sizeof named) == 0 && again[sizeof named] == OLD);
-    HOLD(COUNTED(import(again, sizeof named, sizeof new_script), PAIRED) && memcmp(new_script, script, sizeof script) == 0);
+    HOLD(import(again, sizeof named, sizeof new_script) == PAIRED && memcmp(new_script, script, sizeof script) == 0);
     memset(again, OLD, sizeof again);
     answer = wigneld_export(groups, sizeof groups, types, sizeof types, script, sizeof script, again, sizeof old - 1);
     HOLD(wigneld_question(answer) == 27 && wigneld_place(answer) == 0 && all(again, sizeof again, OLD));
@@ -621,7 +603,7 @@ static void exported(void)
                             sizeof again);
     HOLD(wigneld_question(answer) == 17 && wigneld_place(answer) == PAIRED - 1 && all(again, sizeof again, OLD));
     script[WIGNELD_SCRIPT_AT_CREATORS] = 1;
-    HOLD(COUNTED(wigneld_export(groups, sizeof groups, types, sizeof types, script, sizeof script, again, sizeof again), PAIRED));
+    HOLD(wigneld_export(groups, sizeof groups, types, sizeof types, script, sizeof script, again, sizeof again) == PAIRED);
     HOLD(memcmp(again, named, sizeof named) == 0);
 }
 
@@ -636,9 +618,9 @@ static void office_callers(void)
     old_record(old + WIGNELD_OFFICE_RECORD_BYTES, WIGNELD_KIND_RECURSION, 0, 4, 7, 0);
     memcpy(expected, old, sizeof old);
     expected[WIGNELD_AT_READERS] = 1;
-    HOLD(COUNTED(wigneld_write_office_callers(lenders, sizeof lenders, old, sizeof old), 1) && memcmp(old, expected, sizeof old) == 0);
-    HOLD(COUNTED(wigneld_write_office_callers(NULL, 0, old, sizeof old), 0) && memcmp(old, expected, sizeof old) == 0);
-    HOLD(COUNTED(wigneld_write_office_callers(lenders, sizeof lenders, NULL, 0), 0));
+    HOLD(wigneld_write_office_callers(lenders, sizeof lenders, old, sizeof old) == 1 && memcmp(old, expected, sizeof old) == 0);
+    HOLD(wigneld_write_office_callers(NULL, 0, old, sizeof old) == 0 && memcmp(old, expected, sizeof old) == 0);
+    HOLD(wigneld_write_office_callers(lenders, sizeof lenders, NULL, 0) == 0);
 }
 
 /* The editor's archive serves the same program. */
@@ -646,7 +628,7 @@ static void beside_the_editor(void)
 {
     static const uint8_t unit[] = { 1, 0, 0, 0, 0, 0, 0, 0 };
     uint8_t sheet[WIGNELD_SHEET_RECORD_BYTES] = { 9, 9, 9, 9, 9, 9 };
-    wigneld_answer answer = wigneld_sheet(groups, sizeof groups, types, sizeof types, unit, sizeof unit, 0, sheet, sizeof sheet);
+    uint64_t answer = wigneld_sheet(groups, sizeof groups, types, sizeof types, unit, sizeof unit, 0, sheet, sizeof sheet);
 
     HOLD(wigneld_question(answer) == 0 && wigneld_count(answer) == 1);
     HOLD(sheet[0] == WIGNELD_SHEET_UNIT && all(sheet + 1, sizeof sheet - 1, 0));

@@ -294,23 +294,21 @@ static void sheet_script(struct script *s, enum way way)
 
 enum call {
     CHECK, RUN, SHEET, PREVIEW, MOVE, COMPARE, IN_FORCE, WRITE_CALLERS, REWRITE_SCRIPT, REWRITE_TYPES, CHECK_PROFILE, IMPORT, EXPORT,
-    WRITE_OFFICE_CALLERS, PACKET, PART, REDEX, STRIP_SCRIPT, STRIP_TYPES, CALLS
+    WRITE_OFFICE_CALLERS, PACKET, CALLS
 };
 
 static const char *const names[CALLS] = { "wigneld_check", "wigneld_run", "wigneld_sheet", "wigneld_preview", "wigneld_move",
                                           "wigneld_compare", "wigneld_in_force", "wigneld_write_callers",
                                           "wigneld_rewrite_script", "wigneld_rewrite_types", "wigneld_check_profile",
                                           "wigneld_import", "wigneld_export", "wigneld_write_office_callers",
-                                          "wigneld_packet", "wigneld_part", "wigneld_redex", "wigneld_strip_script",
-                                          "wigneld_strip_types" };
+                                          "wigneld_packet" };
 static const size_t promised[CALLS] = { WIGNELD_CHECK_STACK_BYTES, WIGNELD_RUN_STACK_BYTES, WIGNELD_SHEET_STACK_BYTES,
                                         WIGNELD_PREVIEW_STACK_BYTES, WIGNELD_MOVE_STACK_BYTES, WIGNELD_COMPARE_STACK_BYTES,
                                         WIGNELD_IN_FORCE_STACK_BYTES, WIGNELD_WRITE_CALLERS_STACK_BYTES,
                                         WIGNELD_REWRITE_SCRIPT_STACK_BYTES, WIGNELD_REWRITE_TYPES_STACK_BYTES,
                                         WIGNELD_CHECK_PROFILE_STACK_BYTES, WIGNELD_IMPORT_STACK_BYTES,
                                         WIGNELD_EXPORT_STACK_BYTES, WIGNELD_WRITE_OFFICE_CALLERS_STACK_BYTES,
-                                        WIGNELD_PACKET_STACK_BYTES, WIGNELD_PART_STACK_BYTES, WIGNELD_REDEX_STACK_BYTES,
-                                        WIGNELD_STRIP_SCRIPT_STACK_BYTES, WIGNELD_STRIP_TYPES_STACK_BYTES };
+                                        WIGNELD_PACKET_STACK_BYTES };
 
 /* No promise up to this is too high: it is less than a caller's own frames are apart. */
 enum { NEXT_TO_NONE = 512 };
@@ -321,21 +319,19 @@ struct job {
     const struct script *script;
     size_t wanted, above, had;
     uintptr_t end;
-    wigneld_answer answer;
+    uint64_t answer;
 };
 
 static uint8_t work[WIGNELD_WORK_BYTES], found[WIGNELD_ANSWER_BYTES];
 static uint8_t first[WIGNELD_RUN_BYTES], scratch[WIGNELD_RUN_BYTES], steps[WIGNELD_STEPS_BYTES], sheet[WIGNELD_SHEET_BYTES];
 
-static uint8_t starts[WIGNELD_STARTS_BYTES], stripped_types[sizeof types];
-
 /* What a move takes back. */
-static wigneld_answer shown;
+static uint64_t shown;
 
 /* What a packet applies its script to. */
 static struct script entry;
 
-static wigneld_answer preview(const struct script *script)
+static uint64_t preview(const struct script *script)
 {
     return wigneld_preview(groups, sizeof groups, types, sizeof types, script->bytes, script->count * WIGNELD_SCRIPT_RECORD_BYTES,
                            sizeof first);
@@ -406,14 +402,6 @@ __attribute__((noinline)) static void make_call(struct job *job)
                                      entry.count * WIGNELD_SCRIPT_RECORD_BYTES, 0, 1000, WIGNELD_PROFILE_NONE, work, sizeof work,
                                      first, sizeof first, scratch, sizeof scratch, steps, sizeof steps, sheet, sizeof sheet);
         break;
-    case PART:
-        job->answer = wigneld_part(groups, sizeof groups, types, sizeof types, script, length, 0, starts, sizeof starts);
-        break;
-    case REDEX:
-        job->answer = wigneld_redex(groups, sizeof groups, types, sizeof types, script, length);
-        break;
-    case STRIP_SCRIPT: job->answer = wigneld_strip_script(first, length); break;
-    case STRIP_TYPES: job->answer = wigneld_strip_types(stripped_types, sizeof stripped_types); break;
     case CALLS: break;
     }
 }
@@ -482,16 +470,16 @@ static void in_advised_thread(struct job *job)
 /* The bytes between a thread's start and a call there, apart from what is taken on purpose. */
 static size_t above(enum call call, const struct script *script)
 {
-    struct job job = { call, script, 0, 0, 0, 0, { 0 } };
+    struct job job = { call, script, 0, 0, 0, 0, 0 };
 
     on_own_stack(&job);
     return job.above;
 }
 
 /* The call with exactly this much free stack. */
-static wigneld_answer with_free(enum call call, const struct script *script, size_t free)
+static uint64_t with_free(enum call call, const struct script *script, size_t free)
 {
-    struct job job = { call, script, free, above(call, script), 0, 0, { 0 } };
+    struct job job = { call, script, free, above(call, script), 0, 0, 0 };
 
     on_own_stack(&job);
     if (job.had > free || job.had + 64 < free)
@@ -608,17 +596,17 @@ static int script_of(enum call call, unsigned number, struct script *s)
             return 0;
         run_script(s, (enum way)number, UNROLLED);
         return 1;
-    case PREVIEW: case MOVE: case REWRITE_SCRIPT: case PART: case REDEX: case STRIP_SCRIPT:
+    case PREVIEW: case MOVE: case REWRITE_SCRIPT:
         return script_of(RUN, number, s);
-    case REWRITE_TYPES: case STRIP_TYPES: return number < 1;
+    case REWRITE_TYPES: return number < 1;
     case CHECK_PROFILE: return script_of(CHECK, number, s);
     case EXPORT:
         return script_of(RUN, number, s);
     case IMPORT:
     case WRITE_OFFICE_CALLERS:
         return script_of(call == IMPORT ? RUN : WRITE_CALLERS, number, s)
-               && wigneld_count(wigneld_export(groups, sizeof groups, types, sizeof types, s->bytes,
-                                               s->count * WIGNELD_SCRIPT_RECORD_BYTES, office_script, sizeof office_script))
+               && wigneld_export(groups, sizeof groups, types, sizeof types, s->bytes, s->count * WIGNELD_SCRIPT_RECORD_BYTES,
+                                 office_script, sizeof office_script)
                       == s->count;
     case PACKET: return packet_of(number, s);
     case CALLS: break;
@@ -626,9 +614,9 @@ static int script_of(enum call call, unsigned number, struct script *s)
     return 0;
 }
 
-static uint32_t recursions(const struct script *s)
+static uint64_t recursions(const struct script *s)
 {
-    uint32_t count = 0;
+    uint64_t count = 0;
     size_t i;
 
     for (i = 0; i < s->count; i++)
@@ -653,11 +641,11 @@ static unsigned hold(enum call call)
     if (promised[call] > NEXT_TO_NONE && promised[call] > most + most / 4)
         fail("the header's number is far above what is needed");
     for (number = 0; script_of(call, number, &s); number++) {
-        wigneld_answer answer = with_free(call, &s, promised[call]);
-        struct job job = { call, &s, 0, 0, 0, 0, { 0 } };
+        uint64_t answer = with_free(call, &s, promised[call]);
+        struct job job = { call, &s, 0, 0, 0, 0, 0 };
 
         in_advised_thread(&job);
-        if (answer.number != job.answer.number)
+        if (answer != job.answer)
             fail("two threads, two answers");
         /* Refused before anything goes deep, a script tries nothing. Of a packet 18 is the application's, with both types found. */
         if (wigneld_question(answer) != 0 && (wigneld_question(answer) < 20 || wigneld_question(answer) == 36)
@@ -667,21 +655,17 @@ static unsigned hold(enum call call)
             fail("a packet is not issued");
         if ((wigneld_question(answer) == 39) != (call == CHECK_PROFILE && recursions(&s) != 0))
             fail("39 is not asked of recursions alone");
-        if (call == MOVE && answer.number != shown.number)
+        if (call == MOVE && answer != shown)
             fail("a move is not what its preview showed");
         if (call == COMPARE && wigneld_comparison(answer) != WIGNELD_COMPARE_SAME)
             fail("a type is not the same as itself");
         if (call == IN_FORCE && wigneld_script_in_force(answer) != 1)
             fail("a script is not replaced by one of its own type");
-        if ((call == WRITE_CALLERS || call == WRITE_OFFICE_CALLERS) && wigneld_count(answer) != recursions(&s))
+        if ((call == WRITE_CALLERS || call == WRITE_OFFICE_CALLERS) && answer != recursions(&s))
             fail("a recursion was not rewritten");
-        if (((call == REWRITE_SCRIPT || call == IMPORT || call == EXPORT || call == STRIP_SCRIPT) && wigneld_count(answer) != s.count)
-            || ((call == REWRITE_TYPES || call == STRIP_TYPES) && wigneld_count(answer) != COMBS * RECORDS_OF_A_COMB))
+        if (((call == REWRITE_SCRIPT || call == IMPORT || call == EXPORT) && answer != s.count)
+            || (call == REWRITE_TYPES && answer != COMBS * RECORDS_OF_A_COMB))
             fail("a record was not rewritten");
-        if (call == PART && wigneld_count(answer) != s.count)
-            fail("a script is no part of itself");
-        if (call == REDEX && !wigneld_accepted(answer))
-            fail("no redex was looked up");
     }
     return number;
 }

@@ -15,11 +15,10 @@ use crate::typing::type_of;
 pub use crate::in_force::in_force;
 pub use crate::office::{export, import, write_office_callers};
 pub use crate::packet::{packet, Lent, PacketReport, Request};
-pub use crate::places::{part, redex, Part};
 pub use crate::preview::{move_on, preview, MoveReport, Preview};
 pub use crate::rewriting::{rewrite_script, rewrite_types, write_callers};
 pub use crate::script::subterm;
-pub use crate::strip::{strip_script, strip_types, strip_whole_script, strip_whole_types};
+pub use crate::strip::{strip_script, strip_types};
 
 /// Questions 2 to 7.
 pub fn groups_check(groups: &[u8]) -> Answer<()> {

@@ -256,7 +256,7 @@ fn fields(records: &[Record]) -> Answer<()> {
 
 /// Question 15. Named groups in table, and for objects ir ⊑ r? When all records have passed it, 36: for objects
 /// ic ⊑ c?
-pub fn named_groups(tables: &Tables, records: &[Record]) -> Answer<()> {
+fn named_groups(tables: &Tables, records: &[Record]) -> Answer<()> {
     let groups = &tables.groups;
     for (index, record) in records.iter().enumerate() {
         let &Record { kind, r, ir, c, ic, .. } = record;
@@ -345,11 +345,6 @@ pub fn read_form(tables: &Tables, records: &[Record]) -> Answer<()> {
     fields(records)?;
     named_groups(tables, records)?;
     named_types(tables, records)?;
-    one_shallow_term(records)
-}
-
-/// Questions 17 and 18.
-fn one_shallow_term(records: &[Record]) -> Answer<()> {
     one_term(records)?;
     shallow(records, 0, 1)?;
     Ok(())
@@ -358,20 +353,9 @@ fn one_shallow_term(records: &[Record]) -> Answer<()> {
 /// Questions 14 to 19, then the term.
 pub fn read_records(tables: &Tables, records: &[Record]) -> Answer<Rc<Term>> {
     read_form(tables, records)?;
-    bound_term(records)
-}
-
-/// Question 19 of records that have passed 17, then the term.
-fn bound_term(records: &[Record]) -> Answer<Rc<Term>> {
     let (term, _) = parse(records, 0);
     bound(&term, 0, 0)?;
     Ok(term)
-}
-
-/// Questions 17 to 19 of records that have passed 14 to 16, then the term.
-pub fn read_term(records: &[Record]) -> Answer<Rc<Term>> {
-    one_shallow_term(records)?;
-    bound_term(records)
 }
 
 /// The look-up of a subterm (manual, 4.8): that part of the caller's script, from its record to the end of its last

@@ -1,6 +1,5 @@
 //! Random scripts and tables as form 1 saves them are rewritten, and then checked, run and compared as the rules of
-//! form 1 do (manual, 7.12); which files of forms 1 and 2 are refused as they were, and which are taken since; what the
-//! rewriting calls write; and that creators decide nothing but types.
+//! form 1 do (manual, 7.12); what the rewriting calls write; and that creators decide nothing but types.
 
 mod common;
 
@@ -12,10 +11,7 @@ use wigneld_tests::cases::Inputs;
 use wigneld_tests::generate::*;
 use wigneld_tests::limits::*;
 use wigneld_tests::refusal::{Answer, Refusal};
-use wigneld_tests::rewriting::{
-    of_its_form, read_old_script, read_old_tables, read_script_then, read_tables_then,
-    widened_script, widened_types, EarlierForm,
-};
+use wigneld_tests::rewriting::{read_old_script, read_old_tables, widened_script, widened_types};
 use wigneld_tests::rules::Rules;
 use wigneld_tests::script::{Record, Term};
 use wigneld_tests::types::{self, Comparison, Tables};
@@ -31,8 +27,8 @@ fn some_term(rng: &mut Rng, tables: &Tables) -> Rc<Term> {
     term.unwrap_or_else(|| some_typed(rng, tables, fuel))
 }
 
-/// A script with its tables, as it is, nearly so, or damaged, as form 2 saves it.
-fn some_saved_inputs(rng: &mut Rng) -> Inputs {
+/// A script with its tables, as it is, nearly so, or damaged, as form 1 saves it.
+fn some_old_inputs(rng: &mut Rng) -> Inputs {
     let world = World::random(rng);
     let script = some_term(rng, &world.tables).write();
     let mut inputs = Inputs { groups: world.groups.clone(), types: world.types.clone(), script };
@@ -41,19 +37,14 @@ fn some_saved_inputs(rng: &mut Rng) -> Inputs {
         2 => inputs.types = near_miss_types(rng, &world),
         _ => {}
     }
-    let mut old = old_form(&inputs);
+    let mut old = saved_before(&inputs);
     match rng.below(12) {
         0 => old.script = damaged(rng, &old.script),
         1 if rng.one_in(4) => old.groups = damaged(rng, &old.groups),
         1 => old.types = damaged(rng, &old.types),
         _ => {}
     }
-    old
-}
-
-/// The same as form 1 saves it: byte 1 of a recursion is 0, of one that damage has made, too.
-fn some_old_inputs(rng: &mut Rng) -> Inputs {
-    let mut old = some_saved_inputs(rng);
+    // Damage may have made a recursion, whose byte 1 is 0 in form 1.
     for record in old.script.chunks_exact_mut(OLD_SCRIPT_BYTES).filter(|record| record[0] == 11) {
         record[1] = 0;
     }
@@ -66,7 +57,7 @@ fn tables_before(old: &Inputs) -> Answer<Tables> {
     Ok(Tables { rules: Rules::Before, ..tables })
 }
 
-/// Today's question, 2 to 19, that the files of the old form are refused by.
+/// The question, 2 to 19, that the old form is refused by.
 fn refused_before(old: &Inputs) -> Option<Refusal> {
     tables_before(old).and_then(|tables| read_old_script(&tables, &old.script)).err()
 }
@@ -99,7 +90,7 @@ fn rewritten_scripts_are_checked_and_run_as_they_were() {
     let enough = examples(6000, |rng| {
         let old = some_old_inputs(rng);
         if let Some(refusal) = refused_before(&old) {
-            // The rewriting refuses what today's questions refuse of old files, with number and place.
+            // The rewriting refuses what was refused, with its number and place.
             let room = 2 * old.script.len();
             rewriting_refuses(&old, room, refusal.question, refusal.place);
             if refusal.question <= 12 {
@@ -152,144 +143,6 @@ fn rewritten_scripts_are_checked_and_run_as_they_were() {
     assert!(!enough || called > 0, "callers were written");
     for question in [8, 9, 10, 13, 14, 15, 16, 17, 19, 20, 21, 22, 23] {
         assert!(!enough || refused[question] > 0, "question {question} was drawn: {refused:?}");
-    }
-}
-
-/// The first question, 2 to 19, that the files' form refused them by, and its place.
-fn refused_then(form: EarlierForm, old: &Inputs) -> Option<Refusal> {
-    read_tables_then(&old.groups, &old.types)
-        .and_then(|tables| read_script_then(form, &tables, &old.script))
-        .err()
-}
-
-/// The same of today's questions, which the rewriting asks once the callers of form 1 are written.
-fn refused_now(form: EarlierForm, old: &Inputs) -> Option<Refusal> {
-    let called = match form {
-        EarlierForm::One => with_callers(&old.types, &old.script),
-        EarlierForm::Two => old.script.clone(),
-    };
-    let old = Inputs { script: called, ..old.clone() };
-    rewrite_script_in(&old, 2 * old.script.len()).0.err()
-}
-
-/// The files with older things in the place of what came after their form.
-fn without_later(form: EarlierForm, old: &Inputs) -> Inputs {
-    let mut old = old.clone();
-    for record in old.types.chunks_exact_mut(OLD_TYPE_BYTES).filter(|record| record[0] == 4) {
-        record[0] = 0;
-    }
-    for record in old.script.chunks_exact_mut(OLD_SCRIPT_BYTES) {
-        match record[0] {
-            12 => record.copy_from_slice(&[1, record[1], record[2], record[3], 0, 0]),
-            13 | 14 => record.copy_from_slice(&[3, record[1], record[2], record[3], 0, 0]),
-            9 if form == EarlierForm::One && record[4..] == [255; 2] => record[4..].fill(0),
-            11 if form == EarlierForm::One => record[1] = 0,
-            _ => {}
-        }
-    }
-    old
-}
-
-/// What a form refuses files by that pass today: the first record that came later, of the first question that asks it.
-fn first_later(form: EarlierForm, old: &Inputs) -> Option<Refusal> {
-    let first = form == EarlierForm::One;
-    let mut types = old.types.chunks(OLD_TYPE_BYTES);
-    let of_script =
-        |later: &dyn Fn(&[u8]) -> bool| old.script.chunks(OLD_SCRIPT_BYTES).position(later);
-    let number_type = types.position(|record| record[0] == 4).map(|place| (9, place));
-    let number = |record: &[u8]| matches!(record[0], 12..=14);
-    let own_group = |record: &[u8]| first && record[0] == 11 && record[1] != 0;
-    let finds_type = |record: &[u8]| first && record[0] == 9 && record[4..] == [255; 2];
-    let kind = || of_script(&|record| number(record) || own_group(record)).map(|place| (14, place));
-    let case = || of_script(&finds_type).map(|place| (16, place));
-    let (question, place) = number_type.or_else(kind).or_else(case)?;
-    Some(Refusal { question, place: place as u32 })
-}
-
-#[test]
-fn files_of_their_form_are_refused_as_they_were_and_others_may_pass() {
-    let (mut passed, mut refused, mut taken, mut since) = (0, [0; 20], [0; 20], 0);
-    let enough = examples(8000, |rng| {
-        let form = *rng.pick(&[EarlierForm::One, EarlierForm::Two]);
-        let mut old = some_saved_inputs(rng);
-        if rng.one_in(2) {
-            old = without_later(form, &old);
-        }
-        let (then, now) = (refused_then(form, &old), refused_now(form, &old));
-        if of_its_form(form, &old.types, &old.script) {
-            assert_eq!(now, then);
-            match then {
-                None => passed += 1,
-                Some(refusal) => refused[refusal.question as usize] += 1,
-            }
-            return;
-        }
-        // The rest was refused. It may pass since; what doesn't is refused as it was, or by a later question.
-        let then = then.expect("a form refuses what came after it");
-        match now {
-            None => {
-                assert_eq!(Some(then), first_later(form, &old));
-                taken[then.question as usize] += 1;
-            }
-            Some(now) => {
-                assert!(now == then || matches!(then.question, 9 | 14 | 16), "{then:?} {now:?}");
-                since += (now != then) as u32;
-            }
-        }
-    });
-    assert!(!enough || passed > 0 && since > 0, "drawn: {passed} {since}");
-    for question in [8, 9, 10, 13, 14, 15, 16, 17, 19] {
-        assert!(!enough || refused[question] > 0, "question {question} was drawn: {refused:?}");
-    }
-    for question in [9, 14, 16] {
-        assert!(!enough || taken[question] > 0, "question {question} was passed: {taken:?}");
-    }
-}
-
-/// Old files of two groups: a unit, a function from unit to unit, and one more type of this kind.
-fn small_inputs(kind: u8, script: &[[u8; OLD_SCRIPT_BYTES]]) -> Inputs {
-    let types = [[0; 4], [3, 0, 0, 0], [0; 4], [0; 4], [kind, 0, 0, 0]].concat();
-    Inputs { groups: vec![3, 0, 0, 0, 2, 0, 0, 0], types, script: script.concat() }
-}
-
-#[test]
-fn each_thing_that_came_later_was_refused_by_itself() {
-    use EarlierForm::{One, Two};
-    let unit = [1, 0, 0, 0, 0, 0];
-    let literal = [12, 0, 0, 0, 7, 0];
-    let recursion = |own| [[11, own, 0, 0, 1, 0], [2, 0, 0, 0, 0, 0], unit];
-    let case = |low, high| [[9, 0, 0, 0, low, high], unit, unit, unit];
-    let (found, named) = (case(255, 255), case(0, 0));
-    for (form, kind, script, question, place) in [
-        (One, 4, &[unit][..], 9, 4),
-        (Two, 4, &[unit], 9, 4),
-        (One, 0, &[literal], 14, 0),
-        (Two, 0, &[literal], 14, 0),
-        (One, 0, &[[13, 0, 0, 0, 0, 0], unit, unit], 14, 0),
-        (Two, 0, &[[3, 0, 0, 0, 0, 0], unit, literal], 14, 2),
-        (One, 0, &recursion(1), 14, 0),
-        (One, 0, &found, 16, 0),
-    ] {
-        let old = small_inputs(kind, script);
-        assert!(!of_its_form(form, &old.types, &old.script));
-        assert_eq!(refused_then(form, &old), Some(Refusal { question, place }));
-        assert_eq!(refused_now(form, &old), None);
-    }
-    // What is of its form passes, or is refused alike: what no form had, too.
-    for (form, kind, script, question) in [
-        (One, 0, &recursion(0)[..], None),
-        (Two, 0, &recursion(1), None),
-        (Two, 0, &found, None),
-        (One, 0, &named, None),
-        (Two, 5, &[unit], Some((9, 4))),
-        (One, 0, &[[15, 0, 0, 0, 0, 0]], Some((14, 0))),
-        (Two, 0, &recursion(2), Some((15, 0))),
-        (One, 0, &case(5, 0), Some((16, 0))),
-    ] {
-        let old = small_inputs(kind, script);
-        assert!(of_its_form(form, &old.types, &old.script));
-        let refusal = question.map(|(question, place)| Refusal { question, place });
-        assert_eq!((refused_then(form, &old), refused_now(form, &old)), (refusal, refusal));
     }
 }
 

@@ -6,10 +6,7 @@ use std::fs;
 use std::path::Path;
 
 /// What a reader reads, beside the files that stand at the repository's root.
-const FOLDERS: [&str; 11] = [
-    ".ci", "bench", "bindings", "crates", "docs", "editors", "examples", "include", "install",
-    "man", "tests",
-];
+const FOLDERS: [&str; 7] = [".ci", "bench", "crates", "docs", "examples", "include", "tests"];
 
 /// Notes tell what was: the names in them were those of their day.
 const HISTORY: [&str; 1] = ["docs/notes/"];
@@ -329,47 +326,4 @@ fn sections_of_the_manual_that_are_cited_exist() {
     }
     assert!(asked > 50, "only {asked} sections are cited");
     assert!(unknown.is_empty(), "not in the manual:\n{}", unknown.join("\n"));
-}
-
-/// The edits that a cell of a table names: `crate/edit`, and after it further edits of that crate, set apart by commas.
-fn edits_named(cell: &str, crates: &HashSet<&str>) -> Vec<String> {
-    let mut named = Vec::new();
-    for group in cell.split(';') {
-        let mut of_crate = None;
-        for word in group.split(',').map(str::trim) {
-            let (crate_name, edit) = match word.split_once('/') {
-                Some((name, edit)) if crates.contains(name) => (Some(name), edit),
-                Some(_) => (None, word),
-                None => (of_crate, word),
-            };
-            of_crate = crate_name.filter(|_| is_name(edit));
-            if let Some(name) = of_crate {
-                named.push(format!("crates/{name}/must-fail/{edit}.edit"));
-            }
-        }
-    }
-    named
-}
-
-#[test]
-fn the_edits_that_the_guarantees_name_are_there() {
-    let files = files();
-    let crates: HashSet<&str> = files
-        .iter()
-        .filter_map(|file| file.path.strip_prefix("crates/")?.split_once('/'))
-        .map(|(name, _)| name)
-        .collect();
-    let paths: HashSet<&str> = files.iter().map(|file| file.path.as_str()).collect();
-    let guarantees =
-        files.iter().find(|file| file.path == "docs/GUARANTEES.md").expect("guarantees");
-    let named: Vec<String> = guarantees
-        .text
-        .lines()
-        .filter(|line| line.starts_with('|'))
-        .flat_map(|line| line.split('|').flat_map(|cell| edits_named(cell, &crates)))
-        .collect();
-    assert!(named.len() > 100, "the guarantees name {} edits", named.len());
-    let missing: Vec<&String> =
-        named.iter().filter(|path| !paths.contains(path.as_str())).collect();
-    assert!(missing.is_empty(), "no such edit: {missing:?}");
 }

@@ -101,18 +101,12 @@ fn compare_all(rng: &mut Rng, inputs: &Inputs) -> usize {
     for _ in 0..3 {
         subterm(&inputs.script, index(rng, records));
     }
-    for room in [6, 0, rng.below(9)] {
-        let _ = part_with(inputs, index(rng, records), room);
-    }
-    let _ = redex_of(inputs);
     strip_script(&mut inputs.script.clone());
     strip_types(&mut inputs.types.clone());
-    let _ = strip_whole_script(&mut inputs.script.clone());
-    let _ = strip_whole_types(&mut inputs.types.clone());
-    // Six calls with lent buffers and a preview, two checks of tables, four and three look-ups, three parts and a redex,
-    // four strippings, the rewriting, the old office program's.
+    // Six calls with lent buffers and a preview, two checks of tables, four and three look-ups, two strippings, the
+    // rewriting, the old office program's.
     let exported = compare_export(rng, inputs);
-    24 + compare_rewriting(rng, &old_form(inputs)) + 1 + compare_import(rng, &exported)
+    18 + compare_rewriting(rng, &old_form(inputs)) + 1 + compare_import(rng, &exported)
 }
 
 /// Export into a buffer of about the length that it takes. Gives what stands in a long one.

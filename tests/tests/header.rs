@@ -1,6 +1,5 @@
 //! `include/wigneld.h`, `include/wigneld_office.h` and `include/wigneld_desk.h`: every constant is the engine's, by its Rattle
-//! sources, and the second implementation's, and so are the kinds, their operands, binders and fields; every prototype and reader is
-//! that of an exported function, and none is missing. The stack's
+//! sources, and the second implementation's; every prototype is that of an exported function, and none is missing. The stack's
 //! numbers are held by `c/stack.c`, the readers of answers by `c/client.c`, `c/office.c`, which holds the comparison's numbers
 //! too, and `c/desk.c`, which holds the profiles'.
 
@@ -8,10 +7,7 @@ use std::collections::BTreeMap;
 use std::fs;
 use std::path::{Path, PathBuf};
 use wigneld_tests::limits::*;
-use wigneld_tests::places::NO_RECORD;
-use wigneld_tests::script::{
-    names_c, names_ic, names_ir, names_number, names_r, Record, Term, OPERANDS,
-};
+use wigneld_tests::script::OPERANDS;
 use wigneld_tests::steps::End;
 use wigneld_tests::words::OURS;
 
@@ -133,7 +129,7 @@ fn engine_if_named(all: &[(String, String, String)], path: &str) -> Option<usize
 }
 
 /// Header, second implementation, engine.
-const LIMITS: [(&str, usize, &str); 28] = [
+const LIMITS: [(&str, usize, &str); 20] = [
     ("ROW_BYTES", ROW_BYTES, "lattice::ROW_WIDTH"),
     ("TYPE_RECORD_BYTES", TYPE_BYTES, "types::TYPE_WIDTH"),
     ("SCRIPT_RECORD_BYTES", SCRIPT_BYTES, "records::SCRIPT_WIDTH"),
@@ -154,14 +150,6 @@ const LIMITS: [(&str, usize, &str); 28] = [
     ("LAST_QUESTION", LAST_QUESTION, "answer::Question::AmendedType"),
     ("OWN_TYPE", OWN_TYPE as usize, "records::OWN_TYPE"),
     ("MOST_NUMBER", u16::MAX as usize, ""),
-    ("NO_RECORD", NO_RECORD as usize, ""),
-    ("START_BYTES", u16::BITS as usize / 8, ""),
-    ("STARTS_BYTES", 3 * u16::BITS as usize / 8, ""),
-    ("MOST_OPERANDS", 3, ""),
-    ("TYPE_KINDS", 5, ""),
-    ("SCRIPT_KINDS", OPERANDS.len(), ""),
-    ("SHEET_KINDS", 7, ""),
-    ("FIELDS", 5, ""),
 ];
 
 /// Kinds in order from 0: header, engine.
@@ -222,8 +210,8 @@ const FIELDS: [(&str, usize, &str); 10] = [
     ("SHEET_AT_NUMBER", 4, ""),
 ];
 
-/// What the manual alone gives, and the bits of a kind's fields: header, value.
-const TEXT: [(&str, usize); 19] = [
+/// What the manual alone gives: header, value.
+const TEXT: [(&str, usize); 14] = [
     ("END_VALUE", End::Value as usize),
     ("END_SPENT", End::Moved as usize),
     ("END_MOVED", End::Moved as usize),
@@ -238,15 +226,10 @@ const TEXT: [(&str, usize); 19] = [
     ("PLACE_WORD", 5),
     ("PLACE_LISTED_SCRIPT", 6),
     ("PLACE_ENTRY", 7),
-    ("FIELD_READERS", 1),
-    ("FIELD_INDIRECT", 2),
-    ("FIELD_CREATORS", 4),
-    ("FIELD_INDIRECT_CREATORS", 8),
-    ("FIELD_NUMBER", 16),
 ];
 
 /// Held elsewhere, or by nothing but what their comments say.
-const OTHERS: [&str; 12] = [
+const OTHERS: [&str; 8] = [
     "VERSION",
     "FORMAT",
     "CHECK_STACK_BYTES",
@@ -254,10 +237,6 @@ const OTHERS: [&str; 12] = [
     "SHEET_STACK_BYTES",
     "PREVIEW_STACK_BYTES",
     "MOVE_STACK_BYTES",
-    "PART_STACK_BYTES",
-    "REDEX_STACK_BYTES",
-    "STRIP_SCRIPT_STACK_BYTES",
-    "STRIP_TYPES_STACK_BYTES",
     "END_REFUSED",
 ];
 
@@ -352,85 +331,6 @@ fn as_many_kinds_as_the_manual_has() {
     assert_eq!(words, OURS);
 }
 
-/// The rows of the table that starts so in the header, each without its outer braces.
-fn rows(begins: &str) -> Vec<String> {
-    let text = header("wigneld");
-    let (_, rest) = text.split_once(begins).unwrap_or_else(|| panic!("no {begins}"));
-    let (table, _) = rest.split_once("\n    };").expect("its end");
-    let lines = table.lines().map(str::trim).filter(|line| !line.is_empty());
-    lines.map(|line| line.trim_start_matches("{ ").trim_end_matches(" },").to_owned()).collect()
-}
-
-/// A row of kinds: name, count of operands, their names, their binders, fields as one number, what its number is.
-fn kind_row(row: &str) -> (String, usize, Vec<String>, Vec<usize>, usize, String) {
-    let quoted = |text: &str| text.split('"').skip(1).step_by(2).map(str::to_owned).collect();
-    let [head, names, binders, tail] = row.split(['{', '}']).collect::<Vec<_>>()[..]
-        .iter()
-        .map(|part| part.trim().trim_matches(',').trim())
-        .filter(|part| !part.is_empty())
-        .collect::<Vec<_>>()[..]
-    else {
-        panic!("{row}")
-    };
-    let name: Vec<String> = quoted(head);
-    let count = head.rsplit(' ').next().expect("a count").parse().expect("a number");
-    let binders = binders.split(',').map(|one| one.trim().parse().expect("a number")).collect();
-    let (fields, number) = tail.split_once(", ").expect("fields and what the number is");
-    let bits = fields.split(" | ").map(|field| match field {
-        "R" => 1,
-        "IR" => 2,
-        "RAISES" => 10,
-        "OBJECT" => 15,
-        "NUMBER" => 16,
-        _ => panic!("{row}"),
-    });
-    let number: Vec<String> = quoted(number);
-    (name[0].clone(), count, quoted(names), binders, bits.sum(), number[0].clone())
-}
-
-/// Kinds, operands, binders and fields as data are those of the second implementation, and the names those of the constants.
-#[test]
-fn kinds_as_data_are_the_second_implementations() {
-    let rows = rows("kinds[WIGNELD_SCRIPT_KINDS] = {");
-    assert_eq!(rows.len(), OPERANDS.len());
-    for (kind, row) in rows.iter().enumerate() {
-        let (name, count, names, binders, fields, number) = kind_row(row);
-        let constant = name.replace("sum of two", "sum").replace(" than", "").replace(' ', "_");
-        assert_eq!(constant.to_uppercase(), KINDS.1[kind].0, "{row}");
-        let record = Record { kind: kind as u8, r: 0, ir: 0, zero: 0, number: 0, c: 0, ic: 0 };
-        let unit = Term::build(Record { kind: 1, ..record }, vec![]).into();
-        let term = Term::build(record, vec![unit; OPERANDS[kind]]);
-        let mut bound: Vec<usize> = term.operands().iter().map(|&(_, binders)| binders).collect();
-        assert_eq!(count, bound.len(), "{row}");
-        bound.resize(3, 0);
-        assert_eq!(binders, bound, "{row}");
-        assert_eq!(names.iter().filter(|name| !name.is_empty()).count(), count, "{row}");
-        let kind = kind as u8;
-        let named =
-            [names_r(kind), names_ir(kind), names_c(kind), names_ic(kind), names_number(kind)];
-        let bits = named.iter().enumerate().map(|(bit, &named)| usize::from(named) << bit);
-        assert_eq!(fields, bits.sum::<usize>(), "{row}");
-        assert_eq!(number.is_empty(), !names_number(kind), "{row}");
-    }
-}
-
-#[test]
-fn types_and_sheets_as_data_are_the_second_implementations() {
-    let rows = rows("kinds[WIGNELD_TYPE_KINDS] = {");
-    assert_eq!(rows.len(), TYPES.1.len());
-    for (row, (name, _)) in rows.iter().zip(TYPES.1) {
-        let found = kind_row(row);
-        let sides = if ["UNIT", "NUMBER"].contains(name) { 0 } else { 2 };
-        assert_eq!((found.0.to_uppercase().as_str(), found.1, found.4), (*name, sides, 15));
-        assert_eq!((found.3, found.5), (vec![0; 3], String::new()));
-    }
-    let text = header("wigneld");
-    let table = text.split_once("kinds[WIGNELD_SHEET_KINDS] = {").expect("sheet kinds").1;
-    let words: Vec<&str> =
-        table.split("};").next().expect("its end").split('"').skip(1).step_by(2).collect();
-    assert_eq!(words, OURS);
-}
-
 /// The report program reads one byte more than the longest.
 #[test]
 fn longest_lengths_are_the_report_programs() {
@@ -480,63 +380,30 @@ fn tidy(text: &str) -> String {
         .replace(",)", ")")
 }
 
-/// What stands before a prototype in the header, and what its function answers in the archive.
-const PROTOTYPES: [(&str, &str); 2] =
-    [("\nWIGNELD_MUST_USE wigneld_answer ", "uint64_t"), ("\nuint32_t ", "uint32_t")];
-
-/// The prototypes in the header, by name, as the archive declares them: an answer is one number.
+/// The prototypes in the header, by name.
 fn prototypes(archive: &str) -> BTreeMap<String, String> {
     let text = header(archive);
-    let mut found = BTreeMap::new();
-    for (start, answers) in PROTOTYPES {
-        for (at, _) in text.match_indices(start) {
-            let rest = &text[at + start.len()..];
-            let prototype = tidy(&rest[..rest.find(';').expect("its end")]).replace("(void)", "()");
-            let name = prototype.split('(').next().expect("a name").to_owned();
-            found.insert(name, format!("{answers} {prototype}"));
-        }
-    }
-    found
-}
-
-/// The functions that the header has itself and the archive too, for who can't include it, as the archive declares them.
-fn readers(archive: &str) -> BTreeMap<String, String> {
-    let text = header(archive);
-    let starts = text.match_indices("\nstatic inline ");
-    let all = starts.map(|(at, start)| {
-        let rest = &text[at + start.len()..];
-        let head = &rest[..rest.find("\n{").expect("its body")];
-        tidy(head)
-            .replace("unsigned ", "uint32_t ")
-            .replace("wigneld_answer answer", "uint64_t answer")
-    });
-    all.filter_map(|head| {
-        let (answers, rest) = head.split_once(" wigneld_")?;
-        let name = format!("wigneld_{}", rest.split('(').next().expect("a name"));
-        let shown = ["uint32_t", "uint64_t"].contains(&answers) && !name.ends_with("_fits");
-        shown.then_some((name, head))
-    })
-    .collect()
+    let starts = text.match_indices("\nuint64_t wigneld_");
+    starts
+        .map(|(at, _)| {
+            let prototype = tidy(&text[at..at + text[at..].find(';').expect("its end")]);
+            let name = prototype["uint64_t ".len()..].split('(').next().expect("a name").to_owned();
+            (name, prototype)
+        })
+        .collect()
 }
 
 /// The exported functions of an archive, as C declares them: a slice is a pointer and a length.
 fn exports(archive: &str) -> BTreeMap<String, String> {
-    let folder =
-        fs::read_dir(root().join(format!("crates/{archive}/src"))).expect("a crate's sources");
-    let files =
-        folder.map(|file| fs::read_to_string(file.expect("a file").path()).expect("a source"));
-    let text = files.collect::<String>();
+    let path = root().join(format!("crates/{archive}/src/lib.rt"));
+    let text = fs::read_to_string(&path).unwrap_or_else(|e| panic!("{path:?}: {e}"));
     let starts = text.match_indices("#[unsafe(no_mangle)]\npub extern \"C\" fn ");
     starts
         .map(|(at, start)| {
             let rest = &text[at + start.len()..];
             let (name, rest) = rest.split_once('(').expect("parameters");
             let (parameters, rest) = rest.split_once(')').expect("their end");
-            let answers = match &rest[..7] {
-                " -> u64" => "uint64_t",
-                " -> u32" => "uint32_t",
-                _ => panic!("{name} answers one number"),
-            };
+            assert!(rest.starts_with(" -> u64"), "{name} answers one number");
             let declared: Vec<String> = parameters
                 .split(',')
                 .filter(|parameter| !parameter.trim().is_empty())
@@ -546,36 +413,19 @@ fn exports(archive: &str) -> BTreeMap<String, String> {
                         "&[u8]" => format!("const uint8_t*{name},size_t {name}_length"),
                         "&mut [u8]" => format!("uint8_t*{name},size_t {name}_length"),
                         "u64" => format!("uint64_t {name}"),
-                        "u32" => format!("uint32_t {name}"),
                         _ => panic!("{name}: {of} has no form in C"),
                     }
                 })
                 .collect();
-            (name.to_owned(), format!("{answers} {name}({})", declared.join(",")))
+            (name.to_owned(), format!("uint64_t {name}({})", declared.join(",")))
         })
         .collect()
-}
-
-/// A declaration without the names of its parameters, which a reader in the archive may have of its own; a length is a number of 64 bits.
-fn unnamed(declaration: &str) -> String {
-    let (name, parameters) = declaration.trim_end_matches(')').split_once('(').expect("parameters");
-    let types = parameters.split(',').map(|one| {
-        let at = one.rfind(['*', ' ']).map_or(one.len(), |at| at + 1);
-        one[..at].trim().replace("size_t", "uint64_t")
-    });
-    format!("{name}({})", types.collect::<Vec<_>>().join(","))
 }
 
 #[test]
 fn every_prototype_is_an_exported_functions() {
     for archive in ["wigneld", "wigneld_office", "wigneld_desk"] {
-        let declared = prototypes(archive);
-        assert!(!declared.is_empty());
-        let mut exported = exports(archive);
-        for (name, reader) in readers(archive) {
-            let found = exported.remove(&name).unwrap_or_else(|| panic!("{archive} has no {name}"));
-            assert_eq!(unnamed(&found), unnamed(&reader));
-        }
-        assert_eq!(declared, exported);
+        assert!(!prototypes(archive).is_empty());
+        assert_eq!(prototypes(archive), exports(archive));
     }
 }

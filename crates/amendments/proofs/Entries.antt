@@ -1,12 +1,14 @@
 -- An entry beside the sets of what was named before it.
 use Rattle.std.proofs.Common.{◌≡◌, refl, sym, ap₂, ◌∙◌, Bool, true, false, not, ◌&&◌, ◌||◌, ℕ, ◌+◌, ◌<◌, arith, add-one}
 use Rattle.std.proofs.Common.{nat_eq, nat_lt}
-use Rattle.rules.specs.Prelude.{Bytes, no_script, script_count, entry_first, entry_replaced, among, ok40, ok41}
+use Rattle.rules.specs.Answer.{Bytes}
+use Rattle.rules.specs.Limits.{no_script}
+use Rattle.rules.specs.InForce.{script_count, entry_first, entry_replaced, among, ok40, ok41}
 use Rattle.amendments.specs.declared.Entry.{Entry}
 use Rattle.amendments.specs.declared.Seen.{Seen}
 use Rattle.amendments.specs.declared.Set.{Set}
 use Rattle.amendments.specs.Marked.{number_count, is_marked, Marks}
-use Rattle.rules.proofs.Prelude.{ordered}
+use Rattle.rules.proofs.InForce.{ordered}
 use Rattle.amendments.specs.Seen.{IsEntry, IndexesListed, Before}
 
 -- the empty set, and one number more

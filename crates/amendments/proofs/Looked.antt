@@ -1,7 +1,8 @@
 -- What the pass finds, as the call answers it.
 use Rattle.std.proofs.Common.{◌≡◌, refl, sym, ap, ◌∙◌, ℕ, ◌≤◌, arith, Option, Some, None, unwrap_or}
-use Rattle.rules.specs.Prelude.{Bytes, accepted, listed_limit, no_script, entry_count, lists_check, script_in_force}
-use Rattle.rules.specs.Prelude.{in_force}
+use Rattle.rules.specs.Answer.{Bytes, accepted}
+use Rattle.rules.specs.Limits.{listed_limit, no_script}
+use Rattle.rules.specs.InForce.{entry_count, lists_check, script_in_force, in_force}
 use Rattle.promises.specs.InForce.{newest, or_no_script}
 use Rattle.promises.proofs.InForce.{lists_pass, pass_finds, far_has_none}
 use Rattle.answer.specs.Said.{option_of}

@@ -4,7 +4,8 @@ use Rattle.std.proofs.Common.{eq-eqb, ne_eqb, length, set, replicate, bit_or, w8
 use Rattle.std.proofs.Math.Decide.{ℕ_discrete}
 use Rattle.std.proofs.lemmas.List.{get_or-replicate, get_or-set_same, get_or-set_other}
 use Rattle.std.proofs.lemmas.Nat.Bits.{bit_at_set_same, bit_at_set_other}
-use Rattle.rules.specs.Prelude.{Bytes, byte, bit}
+use Rattle.rules.specs.Answer.{Bytes, byte}
+use Rattle.rules.specs.Groups.{bit}
 use Rattle.lattice.proofs.Words.{bit_of_zero}
 use Rattle.amendments.specs.Marked.{number_count, is_marked}
 

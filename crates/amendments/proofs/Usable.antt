@@ -1,16 +1,22 @@
 -- Question 42: both types stand in the table, so the walk may start at them.
 use Rattle.std.proofs.Common.{◌≡◌, refl, sym, subst, ◌∙◌, Bool, true, ℕ, ◌*◌, ◌≤◌, ◌<◌, arith, eq-eqb, ne_eqb, ltb-true}
 use Rattle.std.proofs.Common.{length, drop}
-use Rattle.rules.specs.Prelude.{subtype, Bytes, type_width, no_script, properties_of, type_count, type_at, script_count}
-use Rattle.rules.specs.Prelude.{type_of, ok25, ok42}
+use Rattle.calculus.specs.Subtyping.{subtype}
 use Rattle.calculus.specs.Subtyping as directions
-use Rattle.rules.proofs.Prelude.{each_all, usable_is}
-use Rattle.types.specs.Held.{Held}
+use Rattle.rules.specs.Answer.{Bytes}
+use Rattle.rules.specs.Limits.{type_width, no_script}
+use Rattle.rules.specs.Groups.{properties_of}
+use Rattle.rules.specs.Types.{type_count, type_at}
+use Rattle.rules.specs.InForce.{script_count, type_of, ok25, ok42}
+use Rattle.rules.proofs.Search.{each_all}
+use Rattle.rules.proofs.InForce.{usable_is}
+use Rattle.types.specs.Held.{Held, Starts}
+use Rattle.types.proofs.Parts.{starts_of}
 use Rattle.types_table.proofs.Table.{type_held}
 use Rattle.amendments.specs.declared.Entry.{Entry}
 use Rattle.amendments.specs.Seen.{IsEntry, ListsTyped}
 
-module _ {g t l : Bytes} (T : ListsTyped g t l) {i n : ℕ} (m : i < script_count l) (e : n ≡ type_of l i) where
+module _ (g t l : Bytes) (T : ListsTyped g t l) (i n : ℕ) (m : i < script_count l) (e : n ≡ type_of l i) where
   typed : n < type_count t
   unfolding ok25
   typed = omega (arith, e, ltb-true (type_of l i) (type_count t) (each_all 25 (script_count l) (ok25 t l) T.scripts_typed i m))
@@ -21,6 +27,9 @@ module _ {g t l : Bytes} (T : ListsTyped g t l) {i n : ℕ} (m : i < script_coun
   module _ {s : Bytes} (is : s ≡ drop (type_width * n) t) where
     pub script_held : Held s (type_at t (type_of l i))
     script_held = subst (λ (k : ℕ). Held s (type_at t k)) e (rw is (type_held g t T.tables_pass n typed))
+
+    pub script_starts : Starts s
+    script_starts = starts_of script_held
 
 -- none is replaced
 pub replaces_no_other : (g t l a : Bytes) (e : ℕ) (x : Entry) → IsEntry a e x → x.replaced ≡ no_script → true ≡ ok42 g t l a e

@@ -1,6 +1,8 @@
 -- A set of 16-bit numbers as bits.
 use Rattle.std.specs.Prelude.{◌≡◌, Bool, ℕ, ◌/◌, ◌%◌, ◌<◌}
-use Rattle.rules.specs.Prelude.{Bytes, byte, bit, among}
+use Rattle.rules.specs.Answer.{Bytes, byte}
+use Rattle.rules.specs.Groups.{bit}
+use Rattle.rules.specs.InForce.{among}
 
 -- 2^16
 abbrev pub number_count : ℕ

@@ -1,6 +1,9 @@
 -- Entries, and what those before one have said.
 use Rattle.std.specs.Prelude.{◌≡◌, ℕ, ◌<◌}
-use Rattle.rules.specs.Prelude.{Bytes, accepted, no_script, entry_first, entry_replaced, q25_scripts, types_check}
+use Rattle.rules.specs.Answer.{Bytes, accepted}
+use Rattle.rules.specs.Limits.{no_script}
+use Rattle.rules.specs.InForce.{entry_first, entry_replaced, q25_scripts}
+use Rattle.rules.specs.Calls.{types_check}
 use Rattle.amendments.specs.declared.Entry.{Entry}
 use Rattle.amendments.specs.declared.Seen.{Seen}
 use Rattle.amendments.specs.Marked.{Marks}

@@ -185,14 +185,8 @@ fn entry_check(
 {
     let entry = entry_at(amendments, e);
     let allowed = seen.allows(script_count(scripts), entry);
-    let a40 = answer::ask(Question::Lists, e, allowed);
-    let Ok(()) = a40 else {
-        return a40;
-    };
-    let a41 = answer::ask(Question::ReplacedOnce, e, seen.leaves(entry));
-    let Ok(()) = a41 else {
-        return a41;
-    };
+    answer::ask(Question::Lists, e, allowed)?;
+    answer::ask(Question::ReplacedOnce, e, seen.leaves(entry))?;
     let usable = is_usable(groups, types, scripts, entry);
     answer::ask(Question::AmendedType, e, usable)
 }
@@ -205,10 +199,7 @@ fn entries_check(groups: &[u8], types: &[u8], scripts: &[u8], amendments: &[u8])
 {
     let mut seen = Seen::nothing();
     for e in 0..entry_count(amendments) {
-        let passed = entry_check(groups, types, scripts, amendments, e, &seen);
-        let Ok(()) = passed else {
-            return passed;
-        };
+        entry_check(groups, types, scripts, amendments, e, &seen)?;
         seen.put(entry_at(amendments, e));
     }
     Ok(())
@@ -237,22 +228,12 @@ fn question_25(types: &[u8], scripts: &[u8]) -> Checked
 /// The check of a studio's list of scripts and its list of amendments, of any bytes: questions 2 to 12 and 36 of the
 /// tables, 40 of both lengths, 25 of each listed script, and then 40, 41 and 42 of each entry. The first refusal is
 /// passed on.
-#[tactic(auto, using(answer::proofs::Passed::then_asked, answer::proofs::Passed::stopped), unfolding(rules::specs::InForce::lists_check))]
 pub fn lists_check(groups: &[u8], types: &[u8], scripts: &[u8], amendments: &[u8]) -> Checked
     ensures { answer_of result ≡ lists_check groups.now types.now scripts.now amendments.now }
 {
-    let tables = types_table::types_check(groups, types);
-    let Ok(()) = tables else {
-        return tables;
-    };
-    let lengths = lengths_check(scripts, amendments);
-    let Ok(()) = lengths else {
-        return lengths;
-    };
-    let a25 = question_25(types, scripts);
-    let Ok(()) = a25 else {
-        return a25;
-    };
+    types_table::types_check(groups, types)?;
+    lengths_check(scripts, amendments)?;
+    question_25(types, scripts)?;
     entries_check(groups, types, scripts, amendments)
 }
 
@@ -282,7 +263,6 @@ fn newest(amendments: &[u8], index: u16) -> Option<u16>
 
 /// The index of the script in force from script `index`, or `NO_SCRIPT` where no entry names it first. Refused where
 /// the lists fail their check. The index is looked at as it comes, before it is narrowed.
-#[tactic(auto, using(answer::proofs::Passed::left_by), unfolding(rules::specs::InForce::in_force))]
 pub fn in_force(
     groups: &[u8],
     types: &[u8],

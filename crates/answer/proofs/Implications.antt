@@ -1,6 +1,6 @@
 -- Implications, as the code writes them.
 use Rattle.std.proofs.Common.{◌≡◌, refl, Bool, true, false, not, ◌||◌}
-use Rattle.rules.specs.Prelude.{◌⇒◌}
+use Rattle.rules.specs.Answer.{◌⇒◌}
 
 pub not_or_implies : (a b : Bool) → (not a || b) ≡ (a ⇒ b)
 not_or_implies true b = refl

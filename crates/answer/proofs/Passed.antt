@@ -2,7 +2,7 @@
 use Rattle.std.proofs.Common.{◌≡◌, ap, ◌∙◌, Result, Err}
 use Rattle.std.specs.Result.{IsErrAnd}
 use Rattle.std.proofs.lemmas.Result.{err_from_is_err_and}
-use Rattle.rules.specs.Prelude.{Answer, accepted, ◌>>◌}
+use Rattle.rules.specs.Answer.{Answer, accepted, ◌>>◌}
 use Rattle.answer.specs.declared.Refusal.{Refusal}
 use Rattle.answer.specs.Said.{answer_of}
 

@@ -1,7 +1,7 @@
 -- A check's answer as the rules have it, with a refusal's number and place.
 use Rattle.std.specs.Prelude.{Option, Some, None, Result, Ok, Err}
 use Rattle.std.proofs.Math.Option as math
-use Rattle.rules.specs.Prelude.{Answer, accepted, refused}
+use Rattle.rules.specs.Answer.{Answer, accepted, refused}
 use Rattle.answer.specs.declared.Refusal.{Refusal}
 use Rattle.answer.specs.Numbers.{question_number}
 

@@ -1,11 +1,13 @@
 -- Reduction as a relation and as a function agree, outcome by outcome.
-use Rattle.std.proofs.lemmas.Grind.{common_steps}
-use Rattle.std.proofs.Common.{arith, ◌≡◌, refl, sym, ap, ◌∙◌, ℕ, IsTrue}
-use Rattle.calculus.specs.Prelude.{Security, Ty, Term, var, pair, inj, app, proj, case, protect, mu, reckon, is_value}
-use Rattle.calculus.specs.Prelude.{literal_of, Contracts, c_protect, Context, hole, app_left, app_right, in_proj}
-use Rattle.calculus.specs.Prelude.{in_inj, pair_left, pair_right, in_protect, in_case, reckon_left, reckon_right, plug}
-use Rattle.calculus.specs.Prelude.{Reduces, Outcome, value, moved, denied, stuck, operand_first, step, wrong_var}
-use Rattle.calculus.specs.Prelude.{InContext, DeniedAt, StuckAt}
+use Rattle.std.proofs.Common.{◌≡◌, refl, sym, ap, ◌∙◌, ℕ, IsTrue}
+use Rattle.calculus.specs.Security.{Security}
+use Rattle.calculus.specs.Types.{Ty}
+use Rattle.calculus.specs.Terms.{Term, var, pair, inj, app, proj, case, protect, mu, reckon, is_value}
+use Rattle.calculus.specs.Numbers.{literal_of}
+use Rattle.calculus.specs.Reduction.{Contracts, c_protect, Context, hole, app_left, app_right, in_proj, in_inj}
+use Rattle.calculus.specs.Reduction.{pair_left, pair_right, in_protect, in_case, reckon_left, reckon_right, plug}
+use Rattle.calculus.specs.Reduction.{Reduces, Outcome, value, moved, denied, stuck, operand_first, step}
+use Rattle.calculus.specs.Stuck.{wrong_var, InContext, DeniedAt, StuckAt}
 use Rattle.calculus.proofs.Booleans.{both}
 use Rattle.calculus.proofs.Outcomes.{within}
 use Rattle.calculus.proofs.Values.{value_step}
@@ -54,7 +56,10 @@ module _ (S : Security) (tab : ℕ → Ty) where
   operand_says : (E : Context) (e : Term) (x next : Outcome) → Says S tab e x → (IsTrue (is_value e) → Says S tab (plug E e) next)
       → Says S tab (plug E e) (operand_first x (plug E) next)
   unfolding operand_first
-  operand_says E e x next h k = grind (arith, common_steps, reduces_plug, at_compose)
+  operand_says E e value next h k = k h
+  operand_says E e (moved e') next h k = reduces_plug E h
+  operand_says E e denied next h k = at_compose E e h
+  operand_says E e stuck next h k = at_compose E e h
 
   pub step_says : (e : Term) → Says S tab e (step S tab e)
   unfolding step plug is_value

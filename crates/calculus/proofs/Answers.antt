@@ -1,8 +1,7 @@
 -- What an answer says of the questions before it, in continuation form: what is found is then a variable.
-use Rattle.std.proofs.lemmas.Grind.{common_steps}
-use Rattle.std.proofs.Common.{arith, ◌≡◌, refl, Bool, IsTrue}
+use Rattle.std.proofs.Common.{◌≡◌, refl, ap, Bool, true, false, IsTrue}
 use Rattle.std.proofs.Math.Option.{none, some, some-injective, none-ne-some, Option}
-use Rattle.calculus.specs.Prelude.{Former, Ty, leaf, node, when, ◌>>=◌, Parts, parts}
+use Rattle.calculus.specs.Types.{Former, Ty, leaf, node, equal_formers, when, ◌>>=◌, Parts, parts}
 use Rattle.calculus.proofs.Directed.{same_eq}
 
 pub when_holds : {A : Type 0} {c : Bool} (a : A) → IsTrue c → when c a ≡ some a
@@ -13,8 +12,11 @@ bind_some none f {b} h k = absurd (none-ne-some b h)
 bind_some (some a) f h k = k a refl h
 
 pub when_some : {A P : Type 0} (c : Bool) (a : A) {b : A} → when c a ≡ some b → (IsTrue c → a ≡ b → P) → P
-when_some c a {b} h k = grind (arith, common_steps, some-injective, none-ne-some)
+when_some true a {b} h k = k refl (some-injective a b h)
+when_some false a {b} h k = absurd (none-ne-some b h)
 
 pub parts_some : {P : Type 0} (f : Former) (t : Ty) {p : Parts} → parts f t ≡ some p → (t ≡ node f p.own p.lhs p.rhs → P) → P
 parts_some f (leaf b k) {p} h κ = absurd (none-ne-some p h)
-parts_some f (node g k s t) h κ = grind (arith, common_steps, when_some, same_eq)
+parts_some f (node g k s t) h κ =
+    when_some (equal_formers f g) _ h λ x e.
+    κ (rw (← same_eq f g x) (ap (λ (q : Parts). node f q.own q.lhs q.rhs) e))

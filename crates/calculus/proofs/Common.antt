@@ -1,13 +1,15 @@
 -- The common type is at or above both, and the lowest among all types at or above both; there is one where the shapes
 -- agree.
-use Rattle.std.proofs.lemmas.Grind.{common_steps}
-use Rattle.std.proofs.Common.{◌≡◌, refl, Bool, ◌&&◌, IsTrue, arith}
-use Rattle.std.proofs.Math.Option.{some, none-ne-some, Option}
-use Rattle.calculus.specs.Prelude.{Property, Security, Laws, Leaf, Former, Ty, leaf, node, same_leaf, equal_formers}
-use Rattle.calculus.specs.Prelude.{secure_t, size_t, when, ◌>>=◌, exists, Direction, leftward, le_toward}
-use Rattle.calculus.specs.Prelude.{nearest_property, nearest_type, same_shape}
+use Rattle.std.proofs.Common.{◌≡◌, refl, Bool, true, false, ◌&&◌, IsTrue, arith}
+use Rattle.std.proofs.Math.Option.{none, some, none-ne-some, Option}
+use Rattle.calculus.specs.Security.{Property, Security, Laws}
+use Rattle.calculus.specs.Types.{Leaf, Former, Ty, leaf, node, same_leaf, equal_formers, secure_t, size_t, when, ◌>>=◌}
+use Rattle.calculus.specs.Types.{exists}
+use Rattle.calculus.specs.Subtyping.{Subtype, s_trans, Direction, below, above, leftward, le_toward}
+use Rattle.calculus.specs.Common.{nearest_property, nearest_type, same_shape}
 use Rattle.calculus.proofs.Booleans.{both, and_left, and_right}
 use Rattle.calculus.proofs.Directed.{Directed, d_leaf, d_node, same_leaf_refl, same_leaf_eq, same_refl, same_eq}
+use Rattle.calculus.proofs.Directed.{directed_subtype, subtype_directed}
 use Rattle.calculus.proofs.Answers.{bind_some, when_some}
 
 -- a secure type that both are below, or that both are above
@@ -36,7 +38,11 @@ module _ {S : Security} (L : Laws S) where
   node_bound : {s t s' t' a b : Ty} (d : Direction) (f : Former) (k l : Property) → IsTrue (S.secure k) → IsTrue (S.secure l)
       → Bound S (leftward f d) s s' a → Bound S d t t' b → Bound S d (node f k s t) (node f l s' t') (node f (nearest_property S d k l) a b)
   unfolding secure_t
-  node_bound d f k l h g x y = grind (arith, common_steps, d_node, bound_left, bound_right, both, bound_secure)
+  node_bound d f k l h g x y = record {
+    left = d_node (bound_left d k l h g) x.left y.left;
+    right = d_node (bound_right d k l h g) x.right y.right;
+    secure = both (bound_secure d k l h g) (both x.secure y.secure);
+  }
 
   pub common_bound : (d : Direction) (s t : Ty) {u : Ty} → IsTrue (secure_t S s) → IsTrue (secure_t S t) → nearest_type S d s t ≡ some u → Bound S d s t u
   unfolding nearest_type secure_t
@@ -79,7 +85,9 @@ unfolding nearest_type same_shape
 common_exists S d (leaf b k) (leaf b' l) = exists_when (same_leaf b b') _
 common_exists S d (leaf b k) (node f l s t) = refl
 common_exists S d (node f k s t) (leaf b l) = refl
-common_exists S d (node f k s t) (node f' l s' t') = grind (arith, common_steps, exists_both, common_exists S (leftward f d) s s', common_exists S d t t')
+common_exists S d (node f k s t) (node f' l s' t') =
+    rw (← common_exists S (leftward f d) s s', ← common_exists S d t t')
+    (exists_both (nearest_type S (leftward f d) s s') (nearest_type S d t t') (equal_formers f f') (λ a b. node f (nearest_property S d k l) a b))
 
 pub common_size : (S : Security) (d : Direction) (s t : Ty) {u : Ty} → nearest_type S d s t ≡ some u → size_t u ≡ size_t s
 unfolding nearest_type size_t

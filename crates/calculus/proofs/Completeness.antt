@@ -1,13 +1,14 @@
 -- Type inference is complete: where the typing rules give a type, `infer` finds one, and it is the least.
-use Rattle.std.proofs.lemmas.Grind.{common_steps}
-use Rattle.std.proofs.Common.{arith, ◌≡◌, refl, List, [], ◌∷◌, ℕ, suc, zero, IsTrue}
+use Rattle.std.proofs.Common.{◌≡◌, refl, sym, ◌∙◌, List, [], ◌∷◌, ℕ, suc, zero, IsTrue}
 use Rattle.std.proofs.Math.Option.{some, some-injective, none-ne-some}
-use Rattle.calculus.specs.Prelude.{Property, Reader, Indirect, Security, Laws, one, number, sum, product, function, Ty}
-use Rattle.calculus.specs.Prelude.{leaf, node, top, raise_t, fits, Subtype, below, above, Side, choose, Operation, Term}
-use Rattle.calculus.specs.Prelude.{var, unit, lam, pair, inj, app, proj, case, protect, mu, literal, reckon, of_both}
-use Rattle.calculus.specs.Prelude.{Reckons, a_number, a_flag, lookup, HasType, t_sub, t_var, t_unit, t_lam, t_pair}
-use Rattle.calculus.specs.Prelude.{t_inj, t_app, t_proj, t_case, t_protect, t_mu, t_literal, t_reckon, TypeOfCase}
-use Rattle.calculus.specs.Prelude.{Table, infer}
+use Rattle.calculus.specs.Security.{Property, Reader, Indirect, Security, Laws}
+use Rattle.calculus.specs.Types.{one, number, sum, product, function, Ty, leaf, node, top, raise_t, fits}
+use Rattle.calculus.specs.Subtyping.{Subtype, below, above}
+use Rattle.calculus.specs.Terms.{Side, choose, Operation, Term, var, unit, lam, pair, inj, app, proj, case, protect, mu}
+use Rattle.calculus.specs.Terms.{literal, reckon}
+use Rattle.calculus.specs.Numbers.{of_both, Reckons, a_number, a_flag}
+use Rattle.calculus.specs.Typing.{lookup, HasType, t_sub, t_var, t_unit, t_lam, t_pair, t_inj, t_app, t_proj, t_case}
+use Rattle.calculus.specs.Typing.{t_protect, t_mu, t_literal, t_reckon, TypeOfCase, Table, infer}
 use Rattle.calculus.proofs.Sides.{choose_both}
 use Rattle.calculus.proofs.Directed.{Directed, d_leaf, d_node, directed_opposite, directed_refl, directed_trans}
 use Rattle.calculus.proofs.Directed.{directed_subtype, subtype_directed}
@@ -134,13 +135,15 @@ module _ {S : Security} {tab : ℕ → Ty} (L : Laws S) (T : Table S tab) where
 
   -- in a narrower context too, without which the branches of a case do not go through
   pub typed_inferred : {Γ Δ : List Ty} {e : Term} {t : Ty} → HasType S tab Δ e t → Narrower S Γ Δ → InferredBelow S tab Γ e t
-  typed_inferred {Γ = Γ} (t_sub p b h) N = grind (arith, common_steps, directed_trans, subtype_directed, typed_inferred {Γ = Γ} p N)
+  typed_inferred {Γ = Γ} (t_sub p b h) N =
+      let x = typed_inferred {Γ = Γ} p N in record { least = x.least; inferred = x.inferred; below = directed_trans L x.below (subtype_directed L b) }
   typed_inferred {Γ = Γ} (t_var {n = n} h) N = var_below n N h
   typed_inferred {Γ = Γ} (t_unit {k = k} h) N = unit_below k h
   typed_inferred {Γ = Γ} (t_lam {k = k} {i = i} {e = e} h p f) N = lam_below k i e h (typed_inferred {Γ = tab i ∷ Γ} p (extend_table i N)) f
   typed_inferred {Γ = Γ} (t_pair {k = k} {a = a} {b = b} h p q f) N = pair_below k a b h (typed_inferred {Γ = Γ} p N) (typed_inferred {Γ = Γ} q N) f
   typed_inferred {Γ = Γ} (t_inj {d = d} {k = k} {l = l} {i = i} h e p) N = inj_below d k l i h e (typed_inferred {Γ = Γ} p N)
-  typed_inferred {Γ = Γ} (t_app {w = w} p q m) N = grind (arith, common_steps, app_below, typed_inferred {Γ = Γ} p N, typed_inferred {Γ = Γ} q N)
+  typed_inferred {Γ = Γ} (t_app {w = w} p q m) N =
+      let x = typed_inferred {Γ = Γ} p N in let y = typed_inferred {Γ = Γ} q N in app_below w x.inferred x.below y.inferred y.below m
   typed_inferred {Γ = Γ} (t_proj {d = d} {w = w} p m) N = let x = typed_inferred {Γ = Γ} p N in proj_below d w x.inferred x.below m
   typed_inferred {Γ = Γ} (t_case {w = w} {i = i} p m z q q') N =
       let x = typed_inferred {Γ = Γ} p N in
@@ -149,7 +152,8 @@ module _ {S : Security} {tab : ℕ → Ty} (L : Laws S) (T : Table S tab) where
   typed_inferred {Γ = Γ} (t_protect {m = m} h p) N = protect_below m h (typed_inferred {Γ = Γ} p N)
   typed_inferred {Γ = Γ} (t_mu {w = w} {i = i} e m h p) N = mu_below w i e m h (typed_inferred {Γ = tab i ∷ Γ} p (extend_table i N))
   typed_inferred {Γ = Γ} (t_literal {k = k} {n = n} h) N = literal_below k n h
-  typed_inferred {Γ = Γ} (t_reckon {w = w} p m q n x) N = grind (arith, common_steps, reckon_below, typed_inferred {Γ = Γ} p N, typed_inferred {Γ = Γ} q N)
+  typed_inferred {Γ = Γ} (t_reckon {w = w} p m q n x) N =
+      let y = typed_inferred {Γ = Γ} p N in let z = typed_inferred {Γ = Γ} q N in reckon_below w y.inferred y.below m z.inferred z.below n x
 
   same_context : {Γ : List Ty} → SecureContext S Γ → Narrower S Γ Γ
   same_context sc_empty = n_empty
@@ -157,8 +161,10 @@ module _ {S : Security} {tab : ℕ → Ty} (L : Laws S) (T : Table S tab) where
 
   pub infer_complete : {Γ : List Ty} (e : Term) (t : Ty) → SecureContext S Γ → HasType S tab Γ e t
       → (s : Ty) × (infer S tab Γ e ≡ some s) × Subtype S s t
-  infer_complete e t C p = grind (arith, common_steps, typed_inferred, same_context, inferred_infer, directed_subtype)
+  infer_complete e t C p =
+      let x = typed_inferred p (same_context C) in (x.least, inferred_infer x.inferred, directed_subtype x.below)
 
   -- the inferred type is the principal one
   pub infer_principal : {Γ : List Ty} (e : Term) (s t : Ty) → SecureContext S Γ → infer S tab Γ e ≡ some s → HasType S tab Γ e t → Subtype S s t
-  infer_principal e s t C h p = grind (arith, common_steps, infer_complete, some-injective)
+  infer_principal e s t C h p =
+      let x = infer_complete e t C p in rw (some-injective x.0 s (sym x.1 ∙ h)) at x.2

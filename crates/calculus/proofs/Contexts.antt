@@ -1,8 +1,10 @@
 -- Evaluation contexts: they compose, and the step function works where their hole is.
 use Rattle.std.proofs.Common.{◌≡◌, refl, ◌∙◌, ℕ, IsTrue}
-use Rattle.calculus.specs.Prelude.{Security, Ty, Term, Context, hole, app_left, app_right, in_proj, in_inj, pair_left}
-use Rattle.calculus.specs.Prelude.{pair_right, in_protect, in_case, reckon_left, reckon_right, plug, Outcome}
-use Rattle.calculus.specs.Prelude.{operand_first, step}
+use Rattle.calculus.specs.Security.{Security}
+use Rattle.calculus.specs.Types.{Ty}
+use Rattle.calculus.specs.Terms.{Term}
+use Rattle.calculus.specs.Reduction.{Context, hole, app_left, app_right, in_proj, in_inj, pair_left, pair_right}
+use Rattle.calculus.specs.Reduction.{in_protect, in_case, reckon_left, reckon_right, plug, Outcome, operand_first, step}
 use Rattle.calculus.proofs.Outcomes.{unfinished, within, within_itself, operand_value, operand_within}
 use Rattle.calculus.proofs.Values.{value_step}
 

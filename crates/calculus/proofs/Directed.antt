@@ -1,11 +1,12 @@
 -- Subtyping without its rule of transitivity, as derivations that know their direction: one rule stands for every form.
 -- The relation and the test both agree with them, so every other proof goes by cases here.
-use Rattle.std.proofs.Common.{◌≡◌, Bool, false, IsTrue, arith}
+use Rattle.std.proofs.Common.{◌≡◌, refl, Bool, false, IsTrue, arith}
 use Rattle.std.proofs.Math.Bool.{false≢true}
-use Rattle.calculus.specs.Prelude.{Property, Security, Laws, Leaf, one, number, Former, sum, product, function, Ty}
-use Rattle.calculus.specs.Prelude.{leaf, node, same_leaf, equal_formers, secure_t, Subtype, s_trans, s_unit, s_number}
-use Rattle.calculus.specs.Prelude.{s_sum, s_product, s_function, Direction, below, above, opposite, leftward, le_toward}
-use Rattle.calculus.specs.Prelude.{subtype}
+use Rattle.calculus.specs.Security.{Property, Security, Laws}
+use Rattle.calculus.specs.Types.{Leaf, one, number, Former, sum, product, function, Ty, leaf, node, same_leaf}
+use Rattle.calculus.specs.Types.{equal_formers, secure_t}
+use Rattle.calculus.specs.Subtyping.{Subtype, s_trans, s_unit, s_number, s_sum, s_product, s_function, Direction, below}
+use Rattle.calculus.specs.Subtyping.{above, opposite, leftward, le_toward, subtype}
 use Rattle.calculus.proofs.Booleans.{both, and_left, and_right}
 
 pub data Directed (S : Security) : Direction → Ty → Ty → Type 0 where

@@ -1,6 +1,10 @@
 -- Erasure on types and terms: every label is group 0.
 use Rattle.std.proofs.Common.{zero}
-use Rattle.calculus.specs.Prelude.{Indirect, Property, Labels, relabel, relabel_t, Ty, Term, Outcome}
+use Rattle.calculus.specs.Security.{Indirect, Property}
+use Rattle.calculus.specs.Relabelling.{Labels, relabel, relabel_t}
+use Rattle.calculus.specs.Types.{Ty}
+use Rattle.calculus.specs.Terms.{Term}
+use Rattle.calculus.specs.Reduction.{Outcome}
 use Rattle.calculus.proofs.RelabelledOutcomes.{relabel_o}
 
 abbrev pub public : Property

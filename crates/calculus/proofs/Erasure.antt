@@ -1,7 +1,11 @@
 -- Erasure of a step: where no reading is denied, the erased term does the same over one group.
-use Rattle.std.proofs.lemmas.Grind.{common_steps}
-use Rattle.std.proofs.Common.{◌≡◌, [], ℕ, zero, IsTrue, arith}
-use Rattle.calculus.specs.Prelude.{Security, Laws, Ty, Term, is_value, step, HasType, Table, of_both}
+use Rattle.std.proofs.Common.{◌≡◌, sym, [], ℕ, zero, IsTrue, arith}
+use Rattle.calculus.specs.Security.{Security, Laws}
+use Rattle.calculus.specs.Types.{Ty}
+use Rattle.calculus.specs.Terms.{Term, is_value}
+use Rattle.calculus.specs.Reduction.{step}
+use Rattle.calculus.specs.Typing.{HasType, Table}
+use Rattle.calculus.specs.Numbers.{of_both}
 use Rattle.calculus.proofs.RelabelledTerms.{relabel_value}
 use Rattle.calculus.proofs.Relabelling.{Keeps, relabel_step}
 use Rattle.calculus.proofs.Reduction.{denied_step}
@@ -21,7 +25,13 @@ reckoned_erased : (S : Security) → OneGroup S → of_both S zero public public
 reckoned_erased S g = cc (g.fresh, g.influence, g.raise)
 
 erasure_keeps : (S S' : Security) (tab : ℕ → Ty) → OneGroup S' → Keeps erasure_labels S S' tab
-erasure_keeps S S' tab g = grind (arith, common_steps, reckoned_erased)
+erasure_keeps S S' tab g = record {
+  raise = λ k m. sym g.raise;
+  permits = λ k w h. g.permits;
+  influence = λ k w. sym g.influence;
+  reckoning = λ w k l. sym (reckoned_erased S' g);
+  caller = λ i w. sym g.caller;
+}
 
 pub erase_value : (e : Term) → is_value (erase e) ≡ is_value e
 erase_value = relabel_value erasure_labels

@@ -1,9 +1,13 @@
 -- Sums and comparisons at work, over two groups 0 ⊑ 1: each line is computed.
 use Rattle.std.proofs.Common.{◌≡◌, refl, ◌&&◌, [], ℕ, min, max, nat_le, nat_lt}
 use Rattle.std.proofs.Math.Option.{some}
-use Rattle.calculus.specs.Prelude.{Property, Security, properties, one, number, sum, Ty, leaf, node, first, second}
-use Rattle.calculus.specs.Prelude.{plus, less, Term, unit, inj, literal, reckon, literal_of, reckon_result, moved}
-use Rattle.calculus.specs.Prelude.{denied, stuck, step, operand_first, if_permitted, calculate, infer}
+use Rattle.calculus.specs.Security.{Property, Security}
+use Rattle.calculus.specs.Groups.{properties}
+use Rattle.calculus.specs.Types.{one, number, sum, Ty, leaf, node}
+use Rattle.calculus.specs.Terms.{first, second, plus, less, Term, unit, inj, literal, reckon}
+use Rattle.calculus.specs.Numbers.{literal_of, reckon_result}
+use Rattle.calculus.specs.Reduction.{moved, denied, stuck, step, operand_first, if_permitted, calculate}
+use Rattle.calculus.specs.Typing.{infer}
 
 abbrev two : Security
 two = properties (record { group = λ g. nat_lt g 2; leq = λ g h. nat_le g h && nat_lt h 2; join = max; meet = min })

@@ -1,10 +1,12 @@
 -- The function `infer` finds what the derivations without [Sub] give, and nothing else.
-use Rattle.std.proofs.lemmas.Grind.{common_steps}
-use Rattle.std.proofs.Common.{arith, ◌≡◌, ◌&&◌, List, ◌∷◌, ℕ}
+use Rattle.std.proofs.Common.{◌≡◌, ◌&&◌, List, ◌∷◌, ℕ}
 use Rattle.std.proofs.Math.Option.{some}
-use Rattle.calculus.specs.Prelude.{Security, sum, product, function, Ty, node, fits, parts, below, subtype, choose}
-use Rattle.calculus.specs.Prelude.{Term, var, unit, lam, pair, inj, app, proj, case, protect, mu, literal, reckon}
-use Rattle.calculus.specs.Prelude.{of_both, reckon_type, number_property, type_of_case, recurs, infer}
+use Rattle.calculus.specs.Security.{Security}
+use Rattle.calculus.specs.Types.{sum, product, function, Ty, node, fits, parts}
+use Rattle.calculus.specs.Subtyping.{below, subtype}
+use Rattle.calculus.specs.Terms.{choose, Term, var, unit, lam, pair, inj, app, proj, case, protect, mu, literal, reckon}
+use Rattle.calculus.specs.Numbers.{of_both, reckon_type, number_property}
+use Rattle.calculus.specs.Typing.{type_of_case, recurs, infer}
 use Rattle.calculus.proofs.Booleans.{both, and_left, and_right}
 use Rattle.calculus.proofs.Directed.{directed_test, test_directed}
 use Rattle.calculus.proofs.Numbers.{number_some, reckons_type, type_reckons}
@@ -30,7 +32,9 @@ inferred_infer (i_reckon p m q n x) = rw (inferred_infer p, inferred_infer q, re
 pub infer_inferred : {S : Security} {tab : ℕ → Ty} {Γ : List Ty} (e : Term) (t : Ty) → infer S tab Γ e ≡ some t → Inferred S tab Γ e t
 unfolding infer
 infer_inferred (var n) t h = i_var h
-infer_inferred {S} (unit k) t h = grind (arith, common_steps, when_some, i_unit)
+infer_inferred {S} (unit k) t h =
+    when_some (S.secure k) _ h λ x e.
+    rw (← e) (i_unit x)
 infer_inferred {S} {tab} {Γ} (lam k i b) t h =
     bind_some (infer S tab (tab i ∷ Γ) b) _ h λ s p h1.
     when_some (S.secure k && fits (node function k (tab i) s)) _ h1 λ x e.
@@ -81,7 +85,9 @@ infer_inferred {S} {tab} {Γ} (mu w i b) t h =
     let y = and_left (recurs S z w) _ x in
     rw (← e) (i_mu i_is (and_left _ _ y) (and_right (S.permits z.own (S.caller z.own w)) _ y) (infer_inferred b s p)
     (test_directed below _ _ (and_right (recurs S z w) _ x)))
-infer_inferred {S} (literal k n) t h = grind (arith, common_steps, when_some, i_literal)
+infer_inferred {S} (literal k n) t h =
+    when_some (S.secure k) _ h λ x e.
+    rw (← e) (i_literal x)
 infer_inferred {S} {tab} {Γ} (reckon o w a b) t h =
     bind_some (infer S tab Γ a) _ h λ s p h1.
     bind_some (number_property s) _ h1 λ k y h2.

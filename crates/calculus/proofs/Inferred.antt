@@ -2,10 +2,13 @@
 -- relation and `infer`.
 use Rattle.std.proofs.Common.{◌≡◌, List, ◌∷◌, ℕ, IsTrue}
 use Rattle.std.proofs.Math.Option.{some}
-use Rattle.calculus.specs.Prelude.{Property, Reader, Indirect, Security, one, number, sum, product, function, Ty, leaf}
-use Rattle.calculus.specs.Prelude.{node, top, raise_t, fits, below, Side, choose, Operation, Term, var, unit, lam, pair}
-use Rattle.calculus.specs.Prelude.{inj, app, proj, case, protect, mu, literal, reckon, of_both, Reckons, lookup}
-use Rattle.calculus.specs.Prelude.{type_of_case}
+use Rattle.calculus.specs.Security.{Property, Reader, Indirect, Security}
+use Rattle.calculus.specs.Types.{one, number, sum, product, function, Ty, leaf, node, top, raise_t, fits}
+use Rattle.calculus.specs.Subtyping.{below}
+use Rattle.calculus.specs.Terms.{Side, choose, Operation, Term, var, unit, lam, pair, inj, app, proj, case, protect, mu}
+use Rattle.calculus.specs.Terms.{literal, reckon}
+use Rattle.calculus.specs.Numbers.{of_both, Reckons}
+use Rattle.calculus.specs.Typing.{lookup, type_of_case}
 use Rattle.calculus.proofs.Directed.{Directed}
 
 pub data Inferred (S : Security) (tab : ℕ → Ty) : List Ty → Term → Ty → Type 0 where

@@ -1,6 +1,6 @@
 -- Joins and meets in a lattice of groups.
 use Rattle.std.proofs.Common.{◌≡◌, ℕ, IsTrue}
-use Rattle.calculus.specs.Prelude.{Groups, Lattice}
+use Rattle.calculus.specs.Groups.{Groups, Lattice}
 
 module _ {G : Groups} (X : Lattice G) where
   pub join_mono : (g h m n : ℕ) → IsTrue (G.leq g h) → IsTrue (G.leq m n) → IsTrue (G.leq (G.join g m) (G.join h n))

@@ -36,4 +36,3 @@ pub mod Examples
 pub mod RelabelledOutcomes
 pub mod Erased
 pub mod Metatheory
-pub mod Prelude

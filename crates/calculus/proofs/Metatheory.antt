@@ -1,15 +1,19 @@
 -- The theorems of the calculus, each as it is stated.
-use Rattle.std.proofs.lemmas.Grind.{common_steps}
-use Rattle.std.proofs.Common.{arith, ◌≡◌, ap, ◌∙◌, [], ℕ}
+use Rattle.std.proofs.Common.{◌≡◌, ap, ◌∙◌, [], ◌∷◌, ℕ}
 use Rattle.std.proofs.Math.Option.{some}
-use Rattle.calculus.specs.Prelude.{Security, Laws, Ty, Subtype, Term, HasType, Table, infer, LatticesGiveLaws}
-use Rattle.calculus.specs.Prelude.{SubtypingIsTested, SubtypingIsReflexive, SubtypingIsAntisymmetric, RaisingIsMonotone}
-use Rattle.calculus.specs.Prelude.{StepsAreTheRules, ReductionIsDeterministic, PrincipalTypes, TypedTermsAreInferred}
-use Rattle.calculus.specs.Prelude.{Narrowing, Substitution, Preservation, Progress, NeverHeldUp, RaisingCommutes}
+use Rattle.calculus.specs.Security.{Security, Laws}
+use Rattle.calculus.specs.Types.{Ty}
+use Rattle.calculus.specs.Subtyping.{Subtype}
+use Rattle.calculus.specs.Terms.{Term}
+use Rattle.calculus.specs.Typing.{HasType, Table, infer}
+use Rattle.calculus.specs.Metatheory.{LatticesGiveLaws, SubtypingIsTested, SubtypingIsReflexive, SubtypingIsAntisymmetric, RaisingIsMonotone}
+use Rattle.calculus.specs.Metatheory.{StepsAreTheRules, ReductionIsDeterministic, PrincipalTypes, TypedTermsAreInferred, Narrowing}
+use Rattle.calculus.specs.Metatheory.{Substitution, Preservation, Progress, NeverHeldUp}
 use Rattle.calculus.proofs.Properties.{properties_laws}
 use Rattle.calculus.proofs.Directed.{directed_subtype, subtype_directed}
 use Rattle.calculus.proofs.Subtyping as order
 use Rattle.calculus.proofs.Raising.{raise_directed, raise_commutes}
+use Rattle.calculus.specs.Metatheory.{RaisingCommutes}
 use Rattle.calculus.proofs.Values.{value_step}
 use Rattle.calculus.proofs.Reduction as steps
 use Rattle.calculus.proofs.SecureTyping.{sc_empty, sc_extend}
@@ -66,7 +70,10 @@ module _ {S : Security} {tab : ℕ → Ty} (L : Laws S) (T : Table S tab) where
 
 pub principal_types : PrincipalTypes
 unfolding PrincipalTypes
-principal_types S tab L T e t = grind (arith, common_steps, infer_sound, sc_empty, infer_principal, least_found)
+principal_types S tab L T e t = (
+  λ h. (infer_sound L T e t sc_empty h, λ u p. infer_principal L T e t u sc_empty h p),
+  λ h. least_found L T e t h.0 h.1,
+)
 
 pub typed_terms_are_inferred : TypedTermsAreInferred
 unfolding TypedTermsAreInferred

@@ -1,20 +1,24 @@
 -- Literals in hand, and the property and the type of what is reckoned.
-use Rattle.std.proofs.lemmas.Grind.{common_steps}
-use Rattle.std.proofs.Common.{◌≡◌, ◌&&◌, ℕ, IsTrue, arith}
+use Rattle.std.proofs.Common.{◌≡◌, refl, ap, ◌&&◌, ℕ, IsTrue, arith}
 use Rattle.std.proofs.Math.Option.{some, some-injective, none-ne-some}
 use Rattle.std.proofs.Math.Bool.{false≢true}
-use Rattle.calculus.specs.Prelude.{Property, Reader, Security, Laws, one, number, sum, Ty, leaf, parts, Operation, plus}
-use Rattle.calculus.specs.Prelude.{less, Term, literal, Literal, literal_of, of_both, Reckons, a_number, a_flag}
-use Rattle.calculus.specs.Prelude.{is_unit, reckon_type, number_property}
+use Rattle.calculus.specs.Security.{Property, Reader, Security, Laws}
+use Rattle.calculus.specs.Types.{one, number, sum, Ty, leaf, node, parts}
+use Rattle.calculus.specs.Terms.{Operation, plus, less, Term, literal}
+use Rattle.calculus.specs.Numbers.{Literal, literal_of, of_both, Reckons, a_number, a_flag, is_unit, reckon_type}
+use Rattle.calculus.specs.Numbers.{number_property}
 use Rattle.calculus.proofs.Booleans.{and_left, and_right}
 use Rattle.calculus.proofs.Answers.{bind_some, when_some, parts_some}
 
 pub literal_some : {P : Type 0} (e : Term) {x : Literal} → literal_of e ≡ some x → (e ≡ literal x.own x.value → P) → P
 unfolding literal_of
-literal_some e {x} h k = grind (arith, common_steps, some-injective, none-ne-some)
+literal_some (literal l n) {x} h k = k (ap (λ (y : Literal). literal y.own y.value) (some-injective _ x h))
+literal_some _ {x} h k = absurd (none-ne-some x h)
 
 pub number_some : {P : Type 0} (t : Ty) {k : Property} → number_property t ≡ some k → (t ≡ leaf number k → P) → P
-number_some t {k} h f = grind (arith, common_steps, none-ne-some, some-injective)
+number_some (leaf one l) {k} h f = absurd (none-ne-some k h)
+number_some (leaf number l) {k} h f = f (ap (leaf number) (some-injective l k h))
+number_some (node g l s t) {k} h f = absurd (none-ne-some k h)
 
 -- The relation and the function.
 
@@ -22,7 +26,9 @@ pub reckons_type : {tab : ℕ → Ty} {o : Operation} {k : Property} {t : Ty} �
 reckons_type n = grind arith
 
 unit_some : {P : Type 0} (t : Ty) → IsTrue (is_unit t) → ((k : Property) → t ≡ leaf one k → P) → P
-unit_some t h f = grind (arith, common_steps, false≢true)
+unit_some (leaf one k) h f = f k refl
+unit_some (leaf number k) h f = absurd (false≢true h)
+unit_some (node g k s t) h f = absurd (false≢true h)
 
 pub type_reckons : {tab : ℕ → Ty} (o : Operation) {k : Property} {t : Ty} → reckon_type tab o k ≡ some t → Reckons tab o k t
 type_reckons plus {k} {t} h = rw (← some-injective (leaf number k) t h) a_number

@@ -1,7 +1,8 @@
 -- What the outcome of an operand makes of the whole.
-use Rattle.std.proofs.Common.{◌≡◌, sym, ap, ◌∙◌, Bool, true, false, IsTrue, arith}
+use Rattle.std.proofs.Common.{◌≡◌, refl, sym, ap, ◌∙◌, Bool, true, false, IsTrue, arith}
 use Rattle.std.proofs.Math.Bool.{false≢true}
-use Rattle.calculus.specs.Prelude.{Term, Outcome, value, moved, denied, stuck, operand_first}
+use Rattle.calculus.specs.Terms.{Term}
+use Rattle.calculus.specs.Reduction.{Outcome, value, moved, denied, stuck, operand_first}
 
 pub moved_injective : {e e' : Term} → moved e ≡ moved e' → e ≡ e'
 moved_injective h = cc

@@ -1,13 +1,15 @@
 -- Subject reduction: a reduction keeps the type of a closed term.
-use Rattle.std.proofs.lemmas.Grind.{common_steps}
-use Rattle.std.proofs.Common.{arith, ◌≡◌, sym, ap, ◌∙◌, [], ◌∷◌, ℕ, zero, IsTrue}
+use Rattle.std.proofs.Common.{◌≡◌, sym, ap, ◌∙◌, [], ◌∷◌, ℕ, zero, IsTrue}
 use Rattle.std.proofs.Math.Option.{some}
 use Rattle.std.proofs.Math.Bool.{false≢true}
-use Rattle.calculus.specs.Prelude.{Property, Reader, Indirect, Security, Laws, one, Ty, leaf, top, raise_t, Subtype}
-use Rattle.calculus.specs.Prelude.{Side, first, second, choose, Operation, Term, unit, protect, is_value, substitute}
-use Rattle.calculus.specs.Prelude.{raise_value, side, less_side, reckon_result, Reckons, a_number, a_flag, Contracts}
-use Rattle.calculus.specs.Prelude.{c_app, c_proj, c_case, c_mu, c_reckon, c_protect, Reduces, moved, step, HasType}
-use Rattle.calculus.specs.Prelude.{t_unit, t_lam, t_pair, t_inj, t_protect, t_mu, t_literal, Table, infer}
+use Rattle.calculus.specs.Security.{Property, Reader, Indirect, Security, Laws}
+use Rattle.calculus.specs.Types.{one, Ty, leaf, top, raise_t}
+use Rattle.calculus.specs.Subtyping.{Subtype}
+use Rattle.calculus.specs.Terms.{Side, first, second, choose, Operation, Term, unit, protect, is_value, substitute}
+use Rattle.calculus.specs.Terms.{raise_value}
+use Rattle.calculus.specs.Numbers.{side, less_side, reckon_result, Reckons, a_number, a_flag}
+use Rattle.calculus.specs.Reduction.{Contracts, c_app, c_proj, c_case, c_mu, c_reckon, c_protect, Reduces, moved, step}
+use Rattle.calculus.specs.Typing.{HasType, t_unit, t_lam, t_pair, t_inj, t_protect, t_mu, t_literal, Table, infer}
 use Rattle.calculus.proofs.Sides.{choose_both}
 use Rattle.calculus.proofs.Numbers.{of_both_secure}
 use Rattle.calculus.proofs.Raising.{raise_fits}
@@ -55,11 +57,12 @@ module _ {S : Security} {tab : ℕ → Ty} (L : Laws S) (T : Table S tab) where
       let u = flag_typed (less_side m n) p q (top_secure S _ x.left) (top_secure S _ x.right) in
       t_inj {d = less_side m n} h e (rw (← ap (λ (t : Ty). top (side (less_side m n) t)) e) at u)
 
-  -- what a reduction rule makes of a closed term has the type that was found for the term
+  -- lemma A.4
   contraction : {e e' : Term} {t : Ty} → Contracts S tab e e' → Inferred S tab [] e t → HasType S tab [] e' t
   contraction (c_app {i = i} {w = w} x g) (i_app (i_lam h q f) r s m) =
       protected w h m (substitution (subsumption (closed_typed L T r) s (T.secure i)) [] (bound_typed L T (tab i) (T.secure i) q))
-  contraction (c_proj {d = d} {w = w} x y g) (i_proj (i_pair h q r f) m) = grind (arith, common_steps, protected, choose_both, closed_typed)
+  contraction (c_proj {d = d} {w = w} x y g) (i_proj (i_pair h q r f) m) =
+      protected w h m (choose_both (HasType S tab []) d (closed_typed L T q) (closed_typed L T r))
   contraction (c_case {d = d} {i = i} {j = j} {w = w} x g) (i_case (i_inj h e q z) m p p' r) =
       let y = table_parts T i e in
       let x = branches_typed L T j (sc_extend y.left sc_empty) (sc_extend y.right sc_empty)
@@ -68,7 +71,8 @@ module _ {S : Security} {tab : ℕ → Ty} (L : Laws S) (T : Table S tab) where
   contraction (c_mu {i = i} x) (i_mu y m a p s) =
       let q = subsumption (bound_typed L T (tab i) (T.secure i) p) s (T.secure i) in
       rw (ap top (sym x ∙ y)) (substitution (unrolled_typed L T i y m a (t_mu y m a q)) [] q)
-  contraction (c_reckon {w = w} {k = k} {l = l} {m = m} {n = n} x y) (i_reckon (i_literal h) g (i_literal h') g' z) = grind (arith, common_steps, reckoned_typed, of_both_secure)
+  contraction (c_reckon {w = w} {k = k} {l = l} {m = m} {n = n} x y) (i_reckon (i_literal h) g (i_literal h') g' z) =
+      reckoned_typed m n (of_both_secure L w k l h g h' g') z
   contraction (c_protect {m = m} x) (i_protect h p) = raised_typed m h x p
 
   inferred_preservation : {e e' : Term} {t : Ty} → Inferred S tab [] e t → Reduces S tab e e' → HasType S tab [] e' t

@@ -3,11 +3,14 @@
 use Rattle.std.proofs.Common.{◌≡◌, sym, ap, ◌∙◌, false, List, [], ℕ, IsTrue, arith}
 use Rattle.std.proofs.Math.Option.{none-ne-some}
 use Rattle.std.proofs.Math.Bool.{false≢true}
-use Rattle.calculus.specs.Prelude.{Security, Laws, Former, sum, product, function, Ty, exists, parts, Term, is_value}
-use Rattle.calculus.specs.Prelude.{literal_of, number_property, Reduces, Outcome, value, moved, denied, stuck, step}
-use Rattle.calculus.specs.Prelude.{built_by, Denied, denied_app, denied_proj, denied_case, denied_reckon, Wrong}
-use Rattle.calculus.specs.Prelude.{wrong_var, wrong_app, wrong_proj, wrong_case, wrong_reckon, wrong_mu, InContext}
-use Rattle.calculus.specs.Prelude.{lookup, HasType, Table}
+use Rattle.calculus.specs.Security.{Security, Laws}
+use Rattle.calculus.specs.Types.{Former, sum, product, function, Ty, exists, parts}
+use Rattle.calculus.specs.Terms.{Term, is_value}
+use Rattle.calculus.specs.Numbers.{literal_of, number_property}
+use Rattle.calculus.specs.Reduction.{Reduces, Outcome, value, moved, denied, stuck, step}
+use Rattle.calculus.specs.Stuck.{built_by, Denied, denied_app, denied_proj, denied_case, denied_reckon, Wrong}
+use Rattle.calculus.specs.Stuck.{wrong_var, wrong_app, wrong_proj, wrong_case, wrong_reckon, wrong_mu, InContext}
+use Rattle.calculus.specs.Typing.{lookup, HasType, Table}
 use Rattle.calculus.proofs.Booleans.{both}
 use Rattle.calculus.proofs.Directed.{formed}
 use Rattle.calculus.proofs.Inferred.{Inferred, i_var, i_lam, i_pair, i_inj, i_app, i_proj, i_case, i_mu, i_literal}

@@ -1,7 +1,7 @@
 -- Properties over a lattice of groups obey the calculus's laws.
-use Rattle.std.proofs.lemmas.Grind.{common_steps}
-use Rattle.std.proofs.Common.{arith, Bool, ◌&&◌, IsTrue}
-use Rattle.calculus.specs.Prelude.{Property, Indirect, Laws, Groups, Lattice, properties}
+use Rattle.std.proofs.Common.{Bool, ◌&&◌, IsTrue}
+use Rattle.calculus.specs.Security.{Property, Indirect, Laws}
+use Rattle.calculus.specs.Groups.{Groups, Lattice, properties}
 use Rattle.calculus.proofs.Booleans.{both, and_left, and_right}
 use Rattle.calculus.proofs.Lattices.{join_mono, join_comm, meet_mono, meet_comm}
 
@@ -12,12 +12,18 @@ module _ {G : Groups} (X : Lattice G) where
   -- the four parts of κ ≤ κ'
   le_parts : {P : Type 0} (k l : Property) → IsTrue ((properties G).le k l)
       → (IsTrue (G.leq k.r l.r) → IsTrue (G.leq k.ir l.ir) → IsTrue (G.leq l.c k.c) → IsTrue (G.leq l.ic k.ic) → P) → P
-  le_parts k l p f = grind (arith, common_steps, and_right, and_left)
+  le_parts k l p f =
+      let q = and_right (G.leq k.r l.r) _ p in
+      let s = and_right (G.leq k.ir l.ir) _ q in
+      f (and_left _ _ p) (and_left _ _ q) (and_left _ _ s) (and_right (G.leq l.c k.c) _ s)
 
   -- each group of a secure property
   own_groups : {P : Type 0} (k : Property) → IsTrue ((properties G).secure k)
       → (IsTrue (G.leq k.r k.r) → IsTrue (G.leq k.ir k.ir) → IsTrue (G.leq k.c k.c) → IsTrue (G.leq k.ic k.ic) → P) → P
-  own_groups k h f = grind (arith, common_steps, and_left, and_right)
+  own_groups k h f =
+      let p = and_left _ _ h in
+      let q = and_right (G.leq k.ir k.r) _ h in
+      f (X.self_right _ _ p) (X.self_left _ _ p) (X.self_right _ _ q) (X.self_left _ _ q)
 
   r_secure : (k : Property) → IsTrue ((properties G).secure k) → IsTrue (G.leq k.ir k.r)
   r_secure k h = and_left _ _ h

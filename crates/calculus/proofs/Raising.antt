@@ -1,12 +1,14 @@
 -- Raising on types: it keeps order, security and size, and two raisings commute.
-use Rattle.std.proofs.lemmas.Grind.{common_steps}
 use Rattle.std.proofs.Common.{◌≡◌, IsTrue, arith}
-use Rattle.calculus.specs.Prelude.{Indirect, Security, Laws, Ty, raise_t, secure_t, size_t, fits, below}
-use Rattle.calculus.proofs.Directed.{Directed, d_leaf, d_node}
+use Rattle.calculus.specs.Security.{Indirect, Security, Laws}
+use Rattle.calculus.specs.Types.{Ty, raise_t, secure_t, size_t, fits}
+use Rattle.calculus.specs.Subtyping.{Subtype, below}
+use Rattle.calculus.proofs.Directed.{Directed, d_leaf, d_node, directed_subtype, subtype_directed}
 
 module _ {S : Security} (L : Laws S) where
   pub raise_directed : {s t : Ty} (m n : Indirect) → Directed S below s t → IsTrue (S.le_i m n) → Directed S below (raise_t S s m) (raise_t S t n)
-  raise_directed m n h = grind (arith, common_steps, d_leaf, d_node)
+  raise_directed m n (d_leaf {k = k} {l = l} h) g = d_leaf (L.raise_mono k l m n h g)
+  raise_directed m n (d_node {k = k} {l = l} h p q) g = d_node (L.raise_mono k l m n h g) p q
 
   pub raise_commutes : (s : Ty) (m n : Indirect) → IsTrue (secure_t S s) → IsTrue (S.secure_i m) → IsTrue (S.secure_i n)
       → raise_t S (raise_t S s m) n ≡ raise_t S (raise_t S s n) m

@@ -1,13 +1,16 @@
 -- What the step function does at the position that reduces next: a reduction rule, a reading denied, or a wrong kind,
 -- and the three exclude one another.
-use Rattle.std.proofs.Common.{◌≡◌, refl, ap, Bool, true, false, ◌&&◌, ℕ, IsTrue, arith}
-use Rattle.std.proofs.Math.Option.{none, some, Option}
-use Rattle.calculus.specs.Prelude.{Property, Reader, Security, function, Ty, node, parts, Side, Operation, Term, lam}
-use Rattle.calculus.specs.Prelude.{pair, inj, app, proj, case, mu, reckon, is_value, Literal, literal_of, Contracts}
-use Rattle.calculus.specs.Prelude.{c_app, c_proj, c_case, c_mu, c_reckon, Outcome, moved, denied, stuck, operand_first}
-use Rattle.calculus.specs.Prelude.{if_permitted, apply, project, branch, unroll, calculate, step, built_by, Denied}
-use Rattle.calculus.specs.Prelude.{denied_app, denied_proj, denied_case, denied_reckon, Wrong, wrong_var, wrong_app}
-use Rattle.calculus.specs.Prelude.{wrong_proj, wrong_case, wrong_reckon, wrong_mu}
+use Rattle.std.proofs.Common.{◌≡◌, refl, sym, ap, ◌∙◌, Bool, true, false, ◌&&◌, true≢false, ℕ, IsTrue, arith}
+use Rattle.std.proofs.Math.Option.{none, some, none-ne-some, Option}
+use Rattle.calculus.specs.Security.{Property, Reader, Security}
+use Rattle.calculus.specs.Types.{function, Ty, node, parts}
+use Rattle.calculus.specs.Terms.{Side, Operation, Term, lam, pair, inj, app, proj, case, mu, reckon, is_value}
+use Rattle.calculus.specs.Numbers.{Literal, literal_of}
+use Rattle.calculus.specs.Reduction.{Contracts, c_app, c_proj, c_case, c_mu, c_reckon, c_protect, Outcome, moved}
+use Rattle.calculus.specs.Reduction.{denied, stuck, operand_first, if_permitted, apply, project, branch, unroll}
+use Rattle.calculus.specs.Reduction.{calculate, step}
+use Rattle.calculus.specs.Stuck.{built_by, Denied, denied_app, denied_proj, denied_case, denied_reckon, Wrong}
+use Rattle.calculus.specs.Stuck.{wrong_var, wrong_app, wrong_proj, wrong_case, wrong_reckon, wrong_mu}
 use Rattle.calculus.proofs.Booleans.{and_left, and_right}
 use Rattle.calculus.proofs.Numbers.{literal_some}
 use Rattle.calculus.proofs.Outcomes.{unfinished}

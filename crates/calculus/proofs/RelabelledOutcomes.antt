@@ -1,5 +1,6 @@
 -- The labels of what a step gives.
-use Rattle.calculus.specs.Prelude.{Labels, relabel, Outcome, denied, moved, stuck, value}
+use Rattle.calculus.specs.Relabelling.{Labels, relabel}
+use Rattle.calculus.specs.Reduction.{Outcome, denied, moved, stuck, value}
 
 abbrev pub relabel_o : Labels → Outcome → Outcome
 relabel_o R value = value

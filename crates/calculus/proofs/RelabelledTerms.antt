@@ -1,10 +1,14 @@
 -- Relabelling goes with everything that reduction does to terms: values, kinds, substitution and contexts.
 use Rattle.std.proofs.Common.{◌≡◌, refl, Bool, cond, ℕ, suc, nat_eq, IsTrue, arith}
 use Rattle.std.proofs.Math.Option.{none}
-use Rattle.calculus.specs.Prelude.{Former, Ty, top, exists, parts, Side, Term, var, unit, lam, pair, inj, app, proj}
-use Rattle.calculus.specs.Prelude.{case, protect, mu, literal, reckon, is_value, substitute, literal_of, side, Context}
-use Rattle.calculus.specs.Prelude.{hole, app_left, app_right, in_proj, in_inj, pair_left, pair_right, in_protect}
-use Rattle.calculus.specs.Prelude.{in_case, reckon_left, reckon_right, plug, built_by, Labels, relabel_t, relabel}
+use Rattle.calculus.specs.Types.{Former, Ty, top, when, exists, parts}
+use Rattle.calculus.specs.Terms.{Side, choose, Term, var, unit, lam, pair, inj, app, proj, case, protect, mu, literal}
+use Rattle.calculus.specs.Terms.{reckon, is_value, substitute}
+use Rattle.calculus.specs.Numbers.{literal_of, side}
+use Rattle.calculus.specs.Reduction.{Context, hole, app_left, app_right, in_proj, in_inj, pair_left, pair_right}
+use Rattle.calculus.specs.Reduction.{in_protect, in_case, reckon_left, reckon_right, plug}
+use Rattle.calculus.specs.Stuck.{built_by}
+use Rattle.calculus.specs.Relabelling.{Labels, relabel_t, relabel}
 
 module _ (R : Labels) where
   pub relabel_top : (t : Ty) → top (relabel_t R t) ≡ R.property (top t)

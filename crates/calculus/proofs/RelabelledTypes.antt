@@ -1,12 +1,17 @@
 -- Relabelling goes with typing and with a step where every operation goes with the labels and every test answers as
 -- before.
-use Rattle.std.proofs.lemmas.Grind.{common_steps}
-use Rattle.std.proofs.Common.{◌≡◌, refl, Bool, ℕ, arith}
+use Rattle.std.proofs.Common.{◌≡◌, refl, sym, ◌∙◌, Bool, true, false, ℕ, arith}
 use Rattle.std.proofs.Math.Option.{none, some, Option}
-use Rattle.calculus.specs.Prelude.{Property, Reader, Indirect, Security, Leaf, Former, Ty, leaf, node, top, same_leaf}
-use Rattle.calculus.specs.Prelude.{raise_t, size_t, when, ◌>>=◌, Direction, leftward, le_toward, subtype}
-use Rattle.calculus.specs.Prelude.{nearest_property, nearest_type, Term, of_both, step, Labels, relabel_t, relabel}
-use Rattle.calculus.proofs.Relabelling.{relabel_denied, relabel_step}
+use Rattle.calculus.specs.Security.{Property, Reader, Indirect, Security}
+use Rattle.calculus.specs.Types.{Leaf, Former, Ty, leaf, node, top, same_leaf, equal_formers, raise_t, size_t, when}
+use Rattle.calculus.specs.Types.{◌>>=◌}
+use Rattle.calculus.specs.Subtyping.{Direction, below, above, leftward, le_toward, subtype}
+use Rattle.calculus.specs.Common.{nearest_property, nearest_type}
+use Rattle.calculus.specs.Terms.{Term}
+use Rattle.calculus.specs.Numbers.{of_both}
+use Rattle.calculus.specs.Reduction.{step}
+use Rattle.calculus.specs.Relabelling.{Labels, relabel_t, relabel}
+use Rattle.calculus.proofs.Relabelling.{Keeps, relabel_denied, relabel_step}
 use Rattle.calculus.proofs.Erased.{public}
 use Rattle.calculus.proofs.RelabelledOutcomes.{relabel_o}
 
@@ -66,7 +71,9 @@ module _ {R : Labels} {S S' : Security} {tab : ℕ → Ty} (agrees : Agrees R S 
   relabel_common d (leaf b k) (leaf b' l) = rw (relabel_bound d k l) (leaf_found R b (same_leaf b b') (nearest_property S d k l))
   relabel_common d (leaf b k) (node f l s t) = refl
   relabel_common d (node f k s t) (leaf b l) = refl
-  relabel_common d (node f k s t) (node g l s' t') = grind (arith, common_steps, relabel_bound, both_found, relabel_common (leftward f d) s s', relabel_common d t t')
+  relabel_common d (node f k s t) (node g l s' t') =
+      rw (relabel_bound d k l, relabel_common (leftward f d) s s', relabel_common d t t')
+      (both_found R f (equal_formers f g) (nearest_property S d k l) (nearest_type S (leftward f d) s s') (nearest_type S d t t'))
 
   -- whatever the step's end
   pub agreed_step : (tab' : ℕ → Ty) → ((i : ℕ) → tab' i ≡ relabel_t R (tab i)) → (e : Term) → step S' tab' (relabel R e) ≡ relabel_o R (step S tab e)

@@ -1,13 +1,15 @@
 -- Relabelling of a step: where the operations go with the labels, and what is denied stays so, the relabelled term does
 -- the same.
-use Rattle.std.proofs.lemmas.Grind.{common_steps}
-use Rattle.std.proofs.Common.{◌≡◌, ap, ◌∙◌, Bool, false, ◌&&◌, ℕ, zero, IsTrue, arith}
-use Rattle.calculus.specs.Prelude.{Property, Reader, Indirect, Security, sum, product, function, Ty, top, parts}
-use Rattle.calculus.specs.Prelude.{Operation, Term, choose, raise_value, of_both, reckon_result, Contracts, c_app}
-use Rattle.calculus.specs.Prelude.{c_proj, c_case, c_mu, c_reckon, c_protect, unrolled_function, Reduces, Outcome, step}
-use Rattle.calculus.specs.Prelude.{Denied, denied_app, denied_proj, denied_case, denied_reckon, Wrong, wrong_var}
-use Rattle.calculus.specs.Prelude.{wrong_app, wrong_proj, wrong_case, wrong_reckon, wrong_mu, DeniedAt, StuckAt, Labels}
-use Rattle.calculus.specs.Prelude.{relabel_t, relabel}
+use Rattle.std.proofs.Common.{◌≡◌, refl, sym, ap, ◌∙◌, Bool, true, false, ◌&&◌, ℕ, zero, IsTrue, arith}
+use Rattle.std.proofs.Math.Bool.{false≢true}
+use Rattle.calculus.specs.Security.{Property, Reader, Indirect, Security}
+use Rattle.calculus.specs.Types.{sum, product, function, Ty, top, parts}
+use Rattle.calculus.specs.Terms.{Operation, plus, less, Term, var, unit, lam, pair, inj, app, proj, case, protect, mu, literal, reckon, choose, raise_value}
+use Rattle.calculus.specs.Numbers.{of_both, less_side, reckon_result}
+use Rattle.calculus.specs.Reduction.{Contracts, c_app, c_proj, c_case, c_mu, c_reckon, c_protect, unrolled_function, Reduces, Outcome, value, moved, denied, stuck, step}
+use Rattle.calculus.specs.Stuck.{Denied, denied_app, denied_proj, denied_case, denied_reckon, Wrong, wrong_var}
+use Rattle.calculus.specs.Stuck.{wrong_app, wrong_proj, wrong_case, wrong_reckon, wrong_mu, DeniedAt, StuckAt}
+use Rattle.calculus.specs.Relabelling.{Labels, relabel_t, relabel}
 use Rattle.calculus.proofs.Sides.{choose_map}
 use Rattle.calculus.proofs.RelabelledTerms.{relabelled_value, relabel_built_by, relabel_literal, relabel_side}
 use Rattle.calculus.proofs.RelabelledTerms.{relabel_parts, relabel_subst, relabel_c, relabel_plug}
@@ -37,7 +39,12 @@ module _ (R : Labels) (S S' : Security) (refuses : (k : Property) (w : Reader) �
   relabel_refused (denied_reckon {w = w} {k = k} {l = l} g) = denied_reckon (both_refused (S.permits k w) _ _ _ (refuses k w) (refuses l w) g)
 
   pub relabel_denied : {e : Term} → DeniedAt S e → DeniedAt S' (relabel R e)
-  relabel_denied a = grind (arith, common_steps, relabel_c, relabel_refused, relabel_plug)
+  relabel_denied a = record {
+    context = relabel_c R a.context;
+    position = relabel R a.position;
+    holds = relabel_refused a.holds;
+    whole = ap (relabel R) a.whole ∙ relabel_plug R a.context a.position;
+  }
 
 module _ {R : Labels} {S S' : Security} {tab : ℕ → Ty} (keeps : Keeps R S S' tab) (tab' : ℕ → Ty) (relabelled : (i : ℕ) → tab' i ≡ relabel_t R (tab i)) where
   relabel_raise : (v : Term) (m : Indirect) → relabel R (raise_value S v m) ≡ raise_value S' (relabel R v) (R.indirect m)
@@ -79,13 +86,28 @@ module _ {R : Labels} {S S' : Security} {tab : ℕ → Ty} (keeps : Keeps R S S'
   relabel_wrong (wrong_mu {i = i} h) = wrong_mu (ap (parts function) (relabelled i) ∙ relabel_parts R function (tab i) h)
 
   pub relabel_reduces : {e e' : Term} → Reduces S tab e e' → Reduces S' tab' (relabel R e) (relabel R e')
-  relabel_reduces r = grind (arith, common_steps, relabel_c, relabel_contracts, relabel_plug)
+  relabel_reduces r = record {
+    context = relabel_c R r.context;
+    redex = relabel R r.redex;
+    contractum = relabel R r.contractum;
+    contracts = relabel_contracts r.contracts;
+    before = ap (relabel R) r.before ∙ relabel_plug R r.context r.redex;
+    after = ap (relabel R) r.after ∙ relabel_plug R r.context r.contractum;
+  }
 
   pub relabel_stuck : {e : Term} → StuckAt tab e → StuckAt tab' (relabel R e)
-  relabel_stuck a = grind (arith, common_steps, relabel_c, relabel_wrong, relabel_plug)
+  relabel_stuck a = record {
+    context = relabel_c R a.context;
+    position = relabel R a.position;
+    holds = relabel_wrong a.holds;
+    whole = ap (relabel R) a.whole ∙ relabel_plug R a.context a.position;
+  }
 
   relabel_says : (e : Term) (x : Outcome) → (DeniedAt S e → DeniedAt S' (relabel R e)) → Says S tab e x → Says S' tab' (relabel R e) (relabel_o R x)
-  relabel_says e x h k = grind (arith, common_steps, relabelled_value, relabel_reduces, relabel_stuck)
+  relabel_says e value h v = relabelled_value R e v
+  relabel_says e (moved e') h r = relabel_reduces r
+  relabel_says e denied h a = h a
+  relabel_says e stuck h a = relabel_stuck a
 
   pub relabel_step : (e : Term) → (DeniedAt S e → DeniedAt S' (relabel R e)) → step S' tab' (relabel R e) ≡ relabel_o R (step S tab e)
   relabel_step e h = says_step S' tab' (relabel R e) _ (relabel_says e (step S tab e) h (step_says S tab e))

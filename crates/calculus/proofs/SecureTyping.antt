@@ -1,11 +1,12 @@
 -- In a context of secure types, the typing rules give secure types.
-use Rattle.std.proofs.lemmas.Grind.{common_steps}
 use Rattle.std.proofs.Common.{◌≡◌, List, [], ◌∷◌, ℕ, suc, zero, IsTrue, arith}
 use Rattle.std.proofs.Math.Option.{some, some-injective, none-ne-some}
-use Rattle.calculus.specs.Prelude.{Property, Reader, Security, Laws, Leaf, Former, Ty, leaf, node, top, raise_t}
-use Rattle.calculus.specs.Prelude.{secure_t, Side, choose, Operation, Term, Reckons, a_number, a_flag, lookup, HasType}
-use Rattle.calculus.specs.Prelude.{t_sub, t_var, t_unit, t_lam, t_pair, t_inj, t_app, t_proj, t_case, t_protect, t_mu}
-use Rattle.calculus.specs.Prelude.{t_literal, t_reckon, Table}
+use Rattle.calculus.specs.Security.{Property, Reader, Security, Laws}
+use Rattle.calculus.specs.Types.{Leaf, Former, Ty, leaf, node, top, raise_t, secure_t}
+use Rattle.calculus.specs.Terms.{Side, choose, Operation, Term}
+use Rattle.calculus.specs.Numbers.{Reckons, a_number, a_flag}
+use Rattle.calculus.specs.Typing.{lookup, HasType, t_sub, t_var, t_unit, t_lam, t_pair, t_inj, t_app, t_proj, t_case}
+use Rattle.calculus.specs.Typing.{t_protect, t_mu, t_literal, t_reckon, Table}
 use Rattle.calculus.proofs.Booleans.{both, and_left, and_right}
 use Rattle.calculus.proofs.Sides.{choose_each}
 use Rattle.calculus.proofs.Numbers.{of_both_secure}
@@ -29,7 +30,9 @@ pub record SecureParts (S : Security) (k : Property) (s t : Ty) : Type 0 where
 
 pub secure_parts : (S : Security) (f : Former) (k : Property) (s t : Ty) → IsTrue (secure_t S (node f k s t)) → SecureParts S k s t
 unfolding secure_t
-secure_parts S f k s t h = grind (arith, common_steps, and_right, and_left)
+secure_parts S f k s t h =
+    let h1 = and_right (S.secure k) _ h in
+    record { own = and_left _ _ h; left = and_left _ _ h1; right = and_right (secure_t S s) _ h1 }
 
 pub top_secure : (S : Security) (t : Ty) → IsTrue (secure_t S t) → IsTrue (S.secure (top t))
 unfolding secure_t

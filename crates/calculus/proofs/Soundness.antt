@@ -1,10 +1,12 @@
 -- Type inference is sound: what `infer` finds, the typing rules give, and it is secure.
 use Rattle.std.proofs.Common.{◌≡◌, List, ◌∷◌, ℕ, IsTrue}
 use Rattle.std.proofs.Math.Option.{some}
-use Rattle.calculus.specs.Prelude.{Property, Reader, Security, Laws, sum, function, Ty, node, raise_t, secure_t, below}
-use Rattle.calculus.specs.Prelude.{Side, choose, Term, inj, app, case, HasType, t_sub, t_var, t_unit, t_lam, t_pair}
-use Rattle.calculus.specs.Prelude.{t_inj, t_app, t_proj, t_case, t_protect, t_mu, t_literal, t_reckon, Table}
-use Rattle.calculus.specs.Prelude.{TypeOfCase, type_of_case, infer}
+use Rattle.calculus.specs.Security.{Property, Reader, Security, Laws}
+use Rattle.calculus.specs.Types.{sum, function, Ty, node, raise_t, secure_t}
+use Rattle.calculus.specs.Subtyping.{below}
+use Rattle.calculus.specs.Terms.{Side, choose, Term, inj, app, case}
+use Rattle.calculus.specs.Typing.{HasType, t_sub, t_var, t_unit, t_lam, t_pair, t_inj, t_app, t_proj, t_case, t_protect}
+use Rattle.calculus.specs.Typing.{t_mu, t_literal, t_reckon, Table, TypeOfCase, type_of_case, infer}
 use Rattle.calculus.proofs.Directed.{Directed, directed_subtype}
 use Rattle.calculus.proofs.Inferred.{Inferred, i_var, i_unit, i_lam, i_pair, i_inj, i_app, i_proj, i_case, i_protect}
 use Rattle.calculus.proofs.Inferred.{i_mu, i_literal, i_reckon}

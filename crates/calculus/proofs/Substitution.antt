@@ -1,12 +1,14 @@
--- The substitution lemma, for a closed value and the outermost variable.
-use Rattle.std.proofs.lemmas.Grind.{common_steps}
+-- The substitution lemma (A.3), for a closed value and the outermost variable.
 use Rattle.std.proofs.Common.{◌≡◌, refl, ap, ◌∙◌, true, false, List, [], ◌∷◌, ◌++◌, ℕ, suc, zero, ◌≤◌, ◌<◌, arith}
 use Rattle.std.proofs.Common.{length, nat_eq}
 use Rattle.std.proofs.Math.Option.{some, some-injective, none-ne-some}
 use Rattle.std.proofs.Math.Dec.{eqb-zero-suc, eqb-suc-suc}
 use Rattle.std.proofs.lemmas.Bool.{ne_eqb}
-use Rattle.calculus.specs.Prelude.{Security, Ty, Term, var, substitute, lookup, HasType, t_sub, t_var, t_unit, t_lam}
-use Rattle.calculus.specs.Prelude.{t_pair, t_inj, t_app, t_proj, t_case, t_protect, t_mu, t_literal, t_reckon}
+use Rattle.calculus.specs.Security.{Security}
+use Rattle.calculus.specs.Types.{Ty}
+use Rattle.calculus.specs.Terms.{Term, var, substitute}
+use Rattle.calculus.specs.Typing.{lookup, HasType, t_sub, t_var, t_unit, t_lam, t_pair, t_inj, t_app, t_proj, t_case}
+use Rattle.calculus.specs.Typing.{t_protect, t_mu, t_literal, t_reckon}
 use Rattle.calculus.proofs.Weakening.{weakening}
 
 -- a variable is the outermost one, or one of the others
@@ -68,7 +70,8 @@ subst_nothing k v (t_pair h p q f) l = rw (subst_nothing k v p l, subst_nothing 
 subst_nothing k v (t_inj h e p) l = rw (subst_nothing k v p l)
 subst_nothing k v (t_app p q m) l = rw (subst_nothing k v p l, subst_nothing k v q l)
 subst_nothing k v (t_proj p m) l = rw (subst_nothing k v p l)
-subst_nothing k v (t_case p m r q q') l = grind (arith, common_steps, subst_nothing k v p l, subst_nothing (suc k) v q (omega arith), subst_nothing (suc k) v q' (omega arith))
+subst_nothing k v (t_case p m r q q') l =
+    rw (subst_nothing k v p l, subst_nothing (suc k) v q (omega arith), subst_nothing (suc k) v q' (omega arith))
 subst_nothing k v (t_protect h p) l = rw (subst_nothing k v p l)
 subst_nothing k v (t_mu e m h p) l = rw (subst_nothing (suc k) v p (omega arith))
 subst_nothing k v (t_literal h) l = refl

@@ -1,8 +1,10 @@
 -- The theorems on subtyping: the relation and the test agree, and subtyping is an order on secure types that keeps the
 -- size.
 use Rattle.std.proofs.Common.{◌≡◌, refl, ap, ◌∙◌, nat_le, IsTrue}
-use Rattle.calculus.specs.Prelude.{Security, Laws, Ty, secure_t, size_t, fits, type_limit, Subtype, s_trans, s_unit}
-use Rattle.calculus.specs.Prelude.{s_number, s_sum, s_product, s_function, Direction, below, opposite, subtype}
+use Rattle.calculus.specs.Security.{Security, Laws}
+use Rattle.calculus.specs.Types.{Ty, secure_t, size_t, fits, type_limit}
+use Rattle.calculus.specs.Subtyping.{Subtype, s_trans, s_unit, s_number, s_sum, s_product, s_function, Direction, below}
+use Rattle.calculus.specs.Subtyping.{opposite, subtype}
 use Rattle.calculus.proofs.Directed.{directed_test, test_directed, directed_opposite, directed_refl, directed_antisym}
 use Rattle.calculus.proofs.Directed.{directed_subtype, subtype_directed}
 

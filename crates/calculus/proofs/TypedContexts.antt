@@ -1,8 +1,11 @@
 -- An evaluation context around a closed term: the term has a type, and any other of that type may take its place.
 use Rattle.std.proofs.Common.{[], ◌∷◌, ℕ, IsTrue}
-use Rattle.calculus.specs.Prelude.{Security, Laws, Ty, secure_t, Term, Context, hole, app_left, app_right, in_proj}
-use Rattle.calculus.specs.Prelude.{in_inj, pair_left, pair_right, in_protect, in_case, reckon_left, reckon_right, plug}
-use Rattle.calculus.specs.Prelude.{HasType, t_pair, t_proj, t_protect, t_reckon, Table}
+use Rattle.calculus.specs.Security.{Security, Laws}
+use Rattle.calculus.specs.Types.{Ty, secure_t}
+use Rattle.calculus.specs.Terms.{Term}
+use Rattle.calculus.specs.Reduction.{Context, hole, app_left, app_right, in_proj, in_inj, pair_left, pair_right}
+use Rattle.calculus.specs.Reduction.{in_protect, in_case, reckon_left, reckon_right, plug}
+use Rattle.calculus.specs.Typing.{HasType, t_pair, t_proj, t_protect, t_reckon, Table}
 use Rattle.calculus.proofs.Inferred.{Inferred, i_pair, i_inj, i_app, i_proj, i_case, i_protect, i_reckon}
 use Rattle.calculus.proofs.SecureTyping.{sc_empty, sc_extend, secure_parts, typed_secure}
 use Rattle.calculus.proofs.Soundness.{inferred_typed, inj_typed, app_typed, case_typed}

@@ -1,10 +1,13 @@
 -- What stands for f when μf : s. e unrolls has the recursion's type. This is where a recursion's conditions (questions
 -- 21 and 23) are needed.
-use Rattle.std.proofs.lemmas.Grind.{common_steps}
-use Rattle.std.proofs.Common.{arith, ◌≡◌, ap, [], ◌∷◌, ℕ, suc, zero, IsTrue}
+use Rattle.std.proofs.Common.{◌≡◌, ap, [], ◌∷◌, ℕ, suc, zero, IsTrue}
 use Rattle.std.proofs.Math.Option.{some, Option}
-use Rattle.calculus.specs.Prelude.{Property, Reader, Security, Laws, function, Ty, node, top, raise_t, secure_t, below}
-use Rattle.calculus.specs.Prelude.{Term, var, app, mu, unrolled_function, lookup, HasType, t_var, t_lam, t_app, Table}
+use Rattle.calculus.specs.Security.{Property, Reader, Security, Laws}
+use Rattle.calculus.specs.Types.{function, Ty, leaf, node, top, raise_t, secure_t}
+use Rattle.calculus.specs.Subtyping.{below}
+use Rattle.calculus.specs.Terms.{Term, var, app, mu}
+use Rattle.calculus.specs.Reduction.{unrolled_function}
+use Rattle.calculus.specs.Typing.{lookup, HasType, t_var, t_lam, t_app, Table}
 use Rattle.calculus.proofs.Directed.{Directed, d_leaf, d_node, directed_refl}
 use Rattle.calculus.proofs.SecureTyping.{secure_parts, table_parts}
 use Rattle.calculus.proofs.Soundness.{subsumption}
@@ -15,7 +18,10 @@ module _ {S : Security} {tab : ℕ → Ty} (L : Laws S) (T : Table S tab) where
   pub absorbed : (k : Property) (w : Reader) (t : Ty) → IsTrue (S.secure k) → IsTrue (secure_t S t) → IsTrue (S.permits k w) → IsTrue (S.absorbs k w (top t))
       → Directed S below (raise_t S t (S.influence k w)) t
   unfolding secure_t
-  absorbed k w t h g m a = grind (arith, common_steps, d_leaf, secure_parts, d_node, directed_refl)
+  absorbed k w (leaf b l) h g m a = d_leaf (L.absorption k l w h g m a)
+  absorbed k w (node f l s t) h g m a =
+      let x = secure_parts S f l s t g in
+      d_node (L.absorption k l w h x.own m a) (directed_refl L _ s x.left) (directed_refl L below t x.right)
 
   pub unrolled_typed : {w : Reader} {e : Term} {k : Property} {s t : Ty} (i : ℕ) → tab i ≡ node function k s t → IsTrue (S.permits k (S.caller k w))
       → IsTrue (S.absorbs k (S.caller k w) (top t)) → HasType S tab [] (mu w i e) (tab i) → HasType S tab [] (unrolled_function S w i k e) (tab i)

@@ -1,8 +1,11 @@
 -- The step function leaves a value as it is, and what values are made into stays one.
 use Rattle.std.proofs.Common.{◌≡◌, refl, ℕ, IsTrue, arith}
 use Rattle.std.proofs.Math.Bool.{false≢true}
-use Rattle.calculus.specs.Prelude.{Property, Indirect, Security, Ty, Operation, Term, unit, lam, pair, inj, literal}
-use Rattle.calculus.specs.Prelude.{is_value, raise_value, reckon_result, value, step, operand_first}
+use Rattle.calculus.specs.Security.{Property, Indirect, Security}
+use Rattle.calculus.specs.Types.{Ty}
+use Rattle.calculus.specs.Terms.{Operation, Term, unit, lam, pair, inj, literal, is_value, raise_value}
+use Rattle.calculus.specs.Numbers.{reckon_result}
+use Rattle.calculus.specs.Reduction.{value, step, operand_first}
 use Rattle.calculus.proofs.Booleans.{and_left, and_right}
 
 pub value_step : (S : Security) (tab : ℕ → Ty) (v : Term) → IsTrue (is_value v) → step S tab v ≡ value

@@ -1,10 +1,13 @@
 -- Weakening: a term keeps its types in a longer context. No binder comes nearer, so no number changes.
 use Rattle.std.proofs.Common.{◌≡◌, List, [], ◌∷◌, ◌++◌, ℕ, suc, zero}
 use Rattle.std.proofs.Math.Option.{some, none-ne-some}
-use Rattle.calculus.specs.Prelude.{Security, Ty, Term, lookup, HasType, t_sub, t_var, t_unit, t_lam, t_pair, t_inj}
-use Rattle.calculus.specs.Prelude.{t_app, t_proj, t_case, t_protect, t_mu, t_literal, t_reckon}
+use Rattle.calculus.specs.Security.{Security}
+use Rattle.calculus.specs.Types.{Ty}
+use Rattle.calculus.specs.Terms.{Term}
 use Rattle.calculus.proofs.Inferred.{Inferred, i_var, i_unit, i_lam, i_pair, i_inj, i_app, i_proj, i_case, i_protect}
 use Rattle.calculus.proofs.Inferred.{i_mu, i_literal, i_reckon}
+use Rattle.calculus.specs.Typing.{lookup, HasType, t_sub, t_var, t_unit, t_lam, t_pair, t_inj, t_app, t_proj, t_case}
+use Rattle.calculus.specs.Typing.{t_protect, t_mu, t_literal, t_reckon}
 
 pub lookup_longer : (Γ Δ : List Ty) (n : ℕ) {t : Ty} → lookup Γ n ≡ some t → lookup (Γ ++ Δ) n ≡ some t
 unfolding lookup

@@ -3,7 +3,20 @@ use Rattle.calculus.specs.Security.{Property, Reader, Security}
 
 -- the same rules, but for the group that a recursive call is made as
 abbrev pub called_as : (Property → Reader → Reader) → Security → Security
-called_as caller S = record S { caller = caller }
+called_as caller S = record {
+  le = S.le;
+  le_i = S.le_i;
+  join = S.join;
+  meet = S.meet;
+  fresh = S.fresh;
+  raise = S.raise;
+  permits = S.permits;
+  influence = S.influence;
+  caller = caller;
+  absorbs = S.absorbs;
+  secure = S.secure;
+  secure_i = S.secure_i;
+}
 
 -- Today's rule: the group that the recursion carries.
 abbrev pub as_written : Property → Reader → Reader

@@ -13,14 +13,16 @@ nearest_property S above k l = S.meet k l
 -- the nearest type that both are below, or that both are above; a function's left sides turn it round
 unfoldable pub nearest_type : Security → Direction → Ty → Ty → Option Ty
 nearest_type S d (leaf b k) (leaf b' l) = when (same_leaf b b') (leaf b (nearest_property S d k l))
+nearest_type S d (leaf b k) (node f l s t) = none
+nearest_type S d (node f k s t) (leaf b l) = none
 nearest_type S d (node f k s t) (node f' l s' t') = do
   a ← nearest_type S (leftward f d) s s'
   b ← nearest_type S d t t'
   when (equal_formers f f') (node f (nearest_property S d k l) a b)
-nearest_type S d _ _ = none
 
 -- the same kinds in the same order
 unfoldable pub same_shape : Ty → Ty → Bool
 same_shape (leaf b k) (leaf b' l) = same_leaf b b'
+same_shape (leaf b k) (node f l s t) = false
+same_shape (node f k s t) (leaf b l) = false
 same_shape (node f k s t) (node f' l s' t') = same_shape s s' && (same_shape t t' && equal_formers f f')
-same_shape _ _ = false

@@ -1,4 +1,5 @@
--- The calculus: properties, types, terms, reduction and typing, each on those before it; then what compares rules.
+-- The calculus: properties, types, terms, reduction and typing, each built on those before it; then what compares
+-- rules.
 pub mod Security
 pub mod Groups
 pub mod Types
@@ -14,4 +15,3 @@ pub mod Relabelling
 pub mod Callers
 pub mod Creators
 pub mod Metatheory
-pub mod Prelude

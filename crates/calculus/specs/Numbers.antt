@@ -3,8 +3,8 @@ use Rattle.std.specs.Prelude.{◌≡◌, Bool, true, false, if◌then◌else◌,
 use Rattle.std.proofs.Math.Option.{Option, none, some}
 use Rattle.calculus.specs.Security.{Property, Reader, Security}
 use Rattle.calculus.specs.Types.{one, number, sum, Ty, leaf, node, top, when, ◌>>=◌, parts}
-use Rattle.calculus.specs.Terms.{Side, first, second, choose, Operation, plus, less, Term, unit, inj}
-use Rattle.calculus.specs.Terms.{literal}
+use Rattle.calculus.specs.Terms.{Side, first, second, choose, Operation, plus, less, Term, var, unit, lam, pair, inj}
+use Rattle.calculus.specs.Terms.{app, proj, case, protect, mu, literal, reckon}
 
 -- a literal in hand
 pub record Literal : Type 0 where
@@ -16,7 +16,8 @@ unfoldable pub literal_of : Term → Option Literal
 literal_of (literal k n) = some (record { own = k; value = n })
 literal_of _ = none
 
--- The property of a result, in typing and stepping: new by the node's group, raised by reading left, then right.
+-- The property of a result: new by the node's group, then raised by what reading the left operand passes on, and then
+-- by the right. Typing and stepping both use it.
 abbrev pub of_both : Security → Reader → Property → Property → Property
 of_both S w k l = S.raise (S.raise (S.fresh w) (S.influence k w)) (S.influence l w)
 
@@ -38,7 +39,8 @@ unfoldable pub reckon_result : (ℕ → Ty) → Operation → Property → ℕ �
 reckon_result tab plus k m n = literal k (min (m + n) number_limit)
 reckon_result tab (less i) k m n = inj (less_side m n) k i (unit (top (side (less_side m n) (tab i))))
 
--- The type of a result with this property: a number, or the named sum of two units, whose own property isn't read.
+-- The type of what is reckoned, with this property: a number, or the named sum of two units, whose own groups aren't
+-- read.
 pub data Reckons (tab : ℕ → Ty) : Operation → Property → Ty → Type 0 where
   a_number : {k : Property} → Reckons tab plus k (leaf number k)
   a_flag : {i : ℕ} {k l p q : Property} → tab i ≡ node sum l (leaf one p) (leaf one q)
@@ -59,5 +61,6 @@ reckon_type tab (less i) k = do
 
 -- the property of a number's type
 abbrev pub number_property : Ty → Option Property
+number_property (leaf one k) = none
 number_property (leaf number k) = some k
-number_property _ = none
+number_property (node f k s t) = none

@@ -1,9 +1,9 @@
 -- Reduction: as a relation with evaluation contexts and as a function (manual, 6.2 and 6.3).
 use Rattle.std.specs.Prelude.{◌≡◌, Bool, true, false, ◌&&◌, ℕ, suc, zero, IsTrue}
-use Rattle.std.proofs.Math.Option.{Option, some}
+use Rattle.std.proofs.Math.Option.{Option, none, some}
 use Rattle.calculus.specs.Security.{Property, Reader, Indirect, Security}
-use Rattle.calculus.specs.Types.{function, Ty, node}
-use Rattle.calculus.specs.Terms.{Side, choose, Operation, Term, var, lam, pair, inj, app, proj, case, protect, mu}
+use Rattle.calculus.specs.Types.{sum, product, function, Ty, leaf, node}
+use Rattle.calculus.specs.Terms.{Side, choose, Operation, Term, var, unit, lam, pair, inj, app, proj, case, protect, mu}
 use Rattle.calculus.specs.Terms.{literal, reckon, is_value, substitute, raise_value}
 use Rattle.calculus.specs.Numbers.{Literal, literal_of, of_both, reckon_result}
 
@@ -115,9 +115,10 @@ unroll S w i e _ = stuck
 
 -- (v + v')_w or (v < v')_w of two values: a wrong kind comes before a reader that may not
 unfoldable pub calculate : Security → (ℕ → Ty) → Operation → Reader → Option Literal → Option Literal → Outcome
+calculate S tab o w none y = stuck
+calculate S tab o w (some x) none = stuck
 calculate S tab o w (some x) (some y) =
     if_permitted (S.permits x.own w && S.permits y.own w) (reckon_result tab o (of_both S w x.own y.own) x.value y.value)
-calculate S tab o w _ _ = stuck
 
 -- One step: left to right, never inside a function, a recursion or a branch.
 unfoldable pub step : Security → (ℕ → Ty) → Term → Outcome

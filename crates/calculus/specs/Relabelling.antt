@@ -3,6 +3,7 @@ use Rattle.std.specs.Prelude.{ℕ}
 use Rattle.calculus.specs.Security.{Property, Reader, Indirect}
 use Rattle.calculus.specs.Types.{Ty, leaf, node}
 use Rattle.calculus.specs.Terms.{Term, var, unit, lam, pair, inj, app, proj, case, protect, mu, literal, reckon}
+use Rattle.calculus.specs.Reduction.{Outcome, value, moved, denied, stuck}
 
 -- what becomes of each label
 pub record Labels : Type 0 where

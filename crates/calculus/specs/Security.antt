@@ -37,7 +37,8 @@ pub record Security : Type 0 where
   pub influence : Property → Reader → Indirect
   -- the group as which a recursion of this property, labelled with this group, is called when it unrolls
   pub caller : Property → Reader → Reader
-  -- may the result of a recursion, of the second property, be read through the first by a call as this group?
+  -- the condition on a recursion: may its result, of the second property, be read through the first by a call as this
+  -- group?
   pub absorbs : Property → Reader → Property → Bool
   -- ir ⊑ r and ic ⊑ c, and all are groups
   pub secure : Property → Bool

@@ -3,7 +3,7 @@ use Rattle.std.specs.Prelude.{◌≡◌, Bool, false, ◌&&◌, ℕ, IsTrue}
 use Rattle.std.proofs.Math.Option.{none}
 use Rattle.calculus.specs.Security.{Property, Reader, Security}
 use Rattle.calculus.specs.Types.{Former, sum, product, function, Ty, equal_formers, exists, parts}
-use Rattle.calculus.specs.Terms.{Side, Operation, Term, var, lam, pair, inj, app, proj, case, mu}
+use Rattle.calculus.specs.Terms.{Side, Operation, Term, var, unit, lam, pair, inj, app, proj, case, protect, mu}
 use Rattle.calculus.specs.Terms.{literal, reckon, is_value}
 use Rattle.calculus.specs.Numbers.{literal_of}
 use Rattle.calculus.specs.Reduction.{Context, plug}

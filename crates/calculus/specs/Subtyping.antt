@@ -26,8 +26,9 @@ opposite above = below
 
 -- the direction in which the left sides of a type of this form are compared
 abbrev pub leftward : Former → Direction → Direction
+leftward sum d = d
+leftward product d = d
 leftward function d = opposite d
-leftward _ d = d
 
 -- κ ≤ κ' below, κ' ≤ κ above
 abbrev pub le_toward : Security → Direction → Property → Property → Bool
@@ -37,5 +38,6 @@ le_toward S above k l = S.le l k
 -- the test: is the first type at or below the second, or, upward, at or above it?
 unfoldable pub subtype : Security → Direction → Ty → Ty → Bool
 subtype S d (leaf b k) (leaf b' l) = same_leaf b b' && le_toward S d k l
+subtype S d (leaf b k) (node f l s t) = false
+subtype S d (node f k s t) (leaf b l) = false
 subtype S d (node f k s t) (node f' l s' t') = equal_formers f f' && (le_toward S d k l && (subtype S (leftward f d) s s' && subtype S d t t'))
-subtype S d _ _ = false

@@ -1,4 +1,5 @@
--- Terms and values; substitution and raising (manual, 4.2, 6.1 and 6.3).
+-- Terms and values; substitution and raising (manual, 4.2, 6.1 and 6.3). A variable is a number, and a type is named by
+-- an index.
 use Rattle.std.specs.Prelude.{Bool, true, false, if◌then◌else◌, ◌&&◌, ℕ, suc, nat_eq}
 use Rattle.calculus.specs.Security.{Property, Reader, Indirect, Security}
 
@@ -16,7 +17,8 @@ pub data Operation : Type 0 where
   plus : Operation
   less : ℕ → Operation
 
--- A variable's number counts binders outward, 0 the nearest. A type is named by its index in a types table.
+-- A variable's number counts binders outward, 0 the nearest: de Bruijn numbers. A type is named by its index in a types
+-- table.
 pub data Term : Type 0 where
   var : ℕ → Term
   unit : Property → Term
@@ -67,9 +69,15 @@ substitute n v (reckon o w a b) = reckon o w (substitute n v a) (substitute n v 
 
 -- bv_κ • ir is bv_(κ • ir)
 unfoldable pub raise_value : Security → Term → Indirect → Term
+raise_value S (var n) m = var n
 raise_value S (unit k) m = unit (S.raise k m)
 raise_value S (lam k i e) m = lam (S.raise k m) i e
 raise_value S (pair k a b) m = pair (S.raise k m) a b
 raise_value S (inj d k i e) m = inj d (S.raise k m) i e
+raise_value S (app w f a) m = app w f a
+raise_value S (proj d w e) m = proj d w e
+raise_value S (case w i e a b) m = case w i e a b
+raise_value S (protect n e) m = protect n e
+raise_value S (mu w i e) m = mu w i e
 raise_value S (literal k n) m = literal (S.raise k m) n
-raise_value S e m = e
+raise_value S (reckon o w a b) m = reckon o w a b

@@ -21,15 +21,21 @@ pub data Ty : Type 0 where
 -- are two leaves the same?
 abbrev pub same_leaf : Leaf → Leaf → Bool
 same_leaf one one = true
+same_leaf one number = false
+same_leaf number one = false
 same_leaf number number = true
-same_leaf _ _ = false
 
 -- are two forms the same?
 abbrev pub equal_formers : Former → Former → Bool
 equal_formers sum sum = true
+equal_formers sum product = false
+equal_formers sum function = false
+equal_formers product sum = false
 equal_formers product product = true
+equal_formers product function = false
+equal_formers function sum = false
+equal_formers function product = false
 equal_formers function function = true
-equal_formers _ _ = false
 
 -- the outermost property
 abbrev pub top : Ty → Property

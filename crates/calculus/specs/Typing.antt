@@ -31,8 +31,9 @@ pub data TypeOfCase (tab : ℕ → Ty) : ℕ → Ty → Type 0 where
   -- one that finds its own type may give its branches any
   as_found : {i : ℕ} {t : Ty} → IsTrue (finds_own i) → TypeOfCase tab i t
 
--- The typing rules, Γ ⊢ e : s (manual, 5.13). `tab i` is the type with index i. Types are secure, so [Sub] leads to no
--- other. The last premise of functions and pairs is question 24, and recursions have 21 and 23.
+-- The typing rules, Γ ⊢ e : s (manual, 5.13). `tab i` is the type with index i. Types are secure types, so [Sub] leads
+-- to no other. Question 24 is the last premise of functions and of pairs, and questions 21 and 23 are premises of
+-- recursions.
 pub data HasType (S : Security) (tab : ℕ → Ty) : List Ty → Term → Ty → Type 0 where
   -- [Sub]: what has a type has every type above it.
   t_sub : {Γ : List Ty} {e : Term} {s s' : Ty} → HasType S tab Γ e s → Subtype S s s' → IsTrue (secure_t S s') → HasType S tab Γ e s'
@@ -73,7 +74,8 @@ pub data HasType (S : Security) (tab : ℕ → Ty) : List Ty → Term → Ty →
       → IsTrue (S.permits k w) → HasType S tab Γ b (leaf number l) → IsTrue (S.permits l w) → Reckons tab o (of_both S w k l) t
       → HasType S tab Γ (reckon o w a b) t
 
--- A table as the theory needs it: secure types within the limit, where the type after i is the left side of type i.
+-- A table of types as the theory needs it: secure types within the limit, in which the type after i is the left side of
+-- type i.
 pub record Table (S : Security) (tab : ℕ → Ty) : Type 0 where
   pub secure : (i : ℕ) → IsTrue (secure_t S (tab i))
   pub small : (i : ℕ) → IsTrue (fits (tab i))

@@ -2,7 +2,7 @@
 use Rattle.std.proofs.Common.{◌≡◌, ℕ, Some, None, refl, arith}
 use Rattle.std.proofs.Math.Option as math
 use Rattle.std.proofs.Math.Option.{none, some}
-use Rattle.rules.specs.Prelude.{Ty, size_t}
+use Rattle.calculus.specs.Types.{Ty, size_t}
 use Rattle.common_types.specs.Walks.{walk_answer}
 
 pub found_is : (o : math.Option Ty) {n : ℕ} → Some n ≡ walk_answer o → (u : Ty) × (o ≡ some u) × (n ≡ size_t u)

@@ -2,8 +2,13 @@
 -- sides stand.
 use Rattle.std.proofs.Common.{◌≡◌, ℕ, zero, suc, ◌+◌, ◌*◌, ◌≤◌, ◌<◌, [], ◌∷◌, ◌++◌, length, take, drop, set, refl, ap}
 use Rattle.std.proofs.Common.{ap₂, sym, ◌∙◌, arith, length-drop, get_or-drop, drop-drop}
-use Rattle.rules.specs.Prelude.{Property, Security, Direction, nearest_property, Ty, top, size_t, Bytes, byte}
-use Rattle.rules.specs.Prelude.{type_width, type_count, sides, type_record, encode_type}
+use Rattle.calculus.specs.Security.{Property, Security}
+use Rattle.calculus.specs.Subtyping.{Direction}
+use Rattle.calculus.specs.Common.{nearest_property}
+use Rattle.calculus.specs.Types.{Ty, top, size_t}
+use Rattle.rules.specs.Answer.{Bytes, byte}
+use Rattle.rules.specs.Limits.{type_width}
+use Rattle.rules.specs.Types.{type_count, sides, type_record, encode_type}
 use Rattle.memory.specs.Splice.{splice}
 use Rattle.types.specs.Held.{Held, kind_of_type, left_of, right_of, type_property, with_property}
 use Rattle.common_types.specs.Walks.{TypeAt, TwoTypes, common_record}

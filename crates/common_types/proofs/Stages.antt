@@ -5,8 +5,13 @@ use Rattle.std.proofs.Common.{ap, ap₂, sym, ◌∙◌, subst, arith, append_as
 use Rattle.std.proofs.Common.{eq-eqb}
 use Rattle.std.proofs.Math.Option as math
 use Rattle.std.proofs.Math.Option.{none, some, none-ne-some}
-use Rattle.rules.specs.Prelude.{Property, Security, Ty, top, size_t, Direction, opposite, nearest_property}
-use Rattle.rules.specs.Prelude.{nearest_type, Bytes, type_width, encode_type, sides}
+use Rattle.calculus.specs.Security.{Property, Security}
+use Rattle.calculus.specs.Types.{Ty, top, size_t}
+use Rattle.calculus.specs.Subtyping.{Direction, opposite}
+use Rattle.calculus.specs.Common.{nearest_property, nearest_type}
+use Rattle.rules.specs.Answer.{Bytes}
+use Rattle.rules.specs.Limits.{type_width}
+use Rattle.rules.specs.Types.{encode_type, sides}
 use Rattle.memory.specs.Splice.{splice}
 use Rattle.memory.proofs.Laws.{splice_none, drop_past, join_after}
 use Rattle.types.specs.declared.Kind.{Kind}

@@ -1,11 +1,13 @@
 -- The common type as a walk finds it: the kinds, the first records, the left sides, the right sides. Once for both
 -- directions.
-use Rattle.std.proofs.Common.{◌≡◌, ◌+◌, ◌++◌, ap, sym, arith}
+use Rattle.std.proofs.Common.{◌≡◌, ◌+◌, Bool, false, ◌++◌, ap, sym, arith}
 use Rattle.std.proofs.Math.Option.{Option, none, some, none-ne-some}
-use Rattle.rules.specs.Prelude.{Property, Security, Ty, leaf, node, top, size_t, same_leaf, equal_formers, Direction}
-use Rattle.rules.specs.Prelude.{leftward, nearest_property, nearest_type, type_record, encode_type, sides}
-use Rattle.calculus.specs.Prelude.{◌>>=◌}
-use Rattle.rules.proofs.Prelude.{bind_some, when_some}
+use Rattle.calculus.specs.Security.{Property, Security}
+use Rattle.calculus.specs.Types.{sum, product, function, Ty, leaf, node, top, size_t, same_leaf, equal_formers, when, ◌>>=◌}
+use Rattle.calculus.specs.Subtyping.{Direction, leftward}
+use Rattle.calculus.specs.Common.{nearest_property, nearest_type}
+use Rattle.calculus.proofs.Answers.{bind_some, when_some}
+use Rattle.rules.specs.Types.{type_record, encode_type, sides}
 use Rattle.types.specs.Held.{kind_of_type, left_of, right_of}
 use Rattle.subtyping.proofs.Order.{turned}
 

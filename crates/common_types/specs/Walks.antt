@@ -1,8 +1,13 @@
 -- Two types in one buffer, and what a walk over both answers and leaves there.
 use Rattle.std.specs.Prelude.{◌≡◌, ℕ, ◌+◌, ◌*◌, ◌≤◌, Option, Some, None, length, drop}
 use Rattle.std.proofs.Math.Option as math
-use Rattle.rules.specs.Prelude.{Security, Ty, top, size_t, Direction, nearest_property, Bytes, type_width, type_record}
-use Rattle.rules.specs.Prelude.{encode_type}
+use Rattle.calculus.specs.Security.{Security}
+use Rattle.calculus.specs.Types.{Ty, top, size_t}
+use Rattle.calculus.specs.Subtyping.{Direction}
+use Rattle.calculus.specs.Common.{nearest_property}
+use Rattle.rules.specs.Answer.{Bytes}
+use Rattle.rules.specs.Limits.{type_width}
+use Rattle.rules.specs.Types.{type_record, encode_type}
 use Rattle.memory.specs.Splice.{splice}
 use Rattle.types.specs.Held.{Held, kind_of_type}
 

@@ -1,13 +1,19 @@
 -- What a plan's contractum is: counted, and as bytes.
 use Rattle.std.proofs.Common.{◌≡◌, refl, sym, ap, ◌∙◌, cond, Bool, [], ◌++◌, ℕ, suc, ◌+◌, ◌*◌, ◌≤◌, ◌<◌, arith, drop}
 use Rattle.std.proofs.Common.{drop_at, subst as transport, IsTrue}
-use Rattle.rules.specs.Prelude.{Property, Reader, Indirect, Security, Ty, top, first, second, Operation, plus, less}
-use Rattle.rules.specs.Prelude.{Term, unit, protect, mu, literal, reckon, is_value, substitute, raise_value, Literal}
-use Rattle.rules.specs.Prelude.{literal_of, of_both, side, reckon_result, unrolled_function, Bytes, script_width}
-use Rattle.rules.specs.Prelude.{script_limit, properties_of, type_at, records, kind, number, object_record, encode}
-use Rattle.rules.specs.Prelude.{size, depth}
-use Rattle.rules.proofs.Prelude.{and_left, and_right, joined, term_head, term_head_length, term_operands}
-use Rattle.rules.proofs.Prelude.{term_encode_is, two_bytes}
+use Rattle.calculus.specs.Security.{Property, Reader, Indirect, Security}
+use Rattle.calculus.specs.Types.{Ty, top}
+use Rattle.calculus.specs.Terms.{first, second, Operation, plus, less, Term, unit, protect, mu, literal, reckon, is_value, substitute, raise_value, var, lam, pair, inj}
+use Rattle.calculus.specs.Numbers.{Literal, literal_of, of_both, side, reckon_result}
+use Rattle.calculus.specs.Reduction.{unrolled_function}
+use Rattle.calculus.proofs.Booleans.{and_left, and_right}
+use Rattle.rules.specs.Answer.{Bytes}
+use Rattle.rules.specs.Limits.{script_width, script_limit}
+use Rattle.rules.specs.Groups.{properties_of}
+use Rattle.rules.specs.Types.{type_at}
+use Rattle.rules.specs.Script.{records, kind, number, object_record, encode, size, depth}
+use Rattle.rules.proofs.Prefix.{joined}
+use Rattle.rules.proofs.TermCode.{term_head, term_head_length, term_operands, term_encode_is, two_bytes}
 use Rattle.records.specs.Kinds as kinds
 use Rattle.records.specs.Place.{At}
 use Rattle.records.specs.Operands.{first_operand}
@@ -17,8 +23,7 @@ use Rattle.records.specs.Numbers.{kind_number}
 use Rattle.records.specs.declared.Kind.{Kind}
 use Rattle.records.specs.declared.Kind.TheVariants.{Sum}
 use Rattle.redex.proofs.Stages.{kind_read}
-use Rattle.redex.specs.Fates.{only_reader, property_of, is_function, reduces, is_potential_redex, fate}
-use Rattle.redex.specs.Fates.{contractum}
+use Rattle.redex.specs.Fates.{only_reader, property_of, is_function, reduces, no_rule, is_potential_redex, fate, contractum}
 use Rattle.records.proofs.Made.{number_of, number_at, influence_of}
 use Rattle.types.specs.Held.{type_property}
 use Rattle.redex.proofs.Answers.{function_top}
@@ -182,7 +187,7 @@ raise_size S v m = grind arith
 pub unrolled_size : (S : Security) (w : Reader) (i : ℕ) (k : Property) (b : Term)
     → (size (unrolled_function S w i k b) ≡ size (mu w i b) + 3) × (depth (unrolled_function S w i k b) ≡ depth (mu w i b) + 2)
 unfolding size depth
-unrolled_size S w i k b = grind arith
+unrolled_size S w i k b = (omega arith, omega arith)
 
 pub protect_size : (m : Indirect) (e : Term) → (size (protect m e) ≡ size e + 1) × (depth (protect m e) ≡ depth e + 1)
 unfolding size depth
@@ -212,7 +217,7 @@ raised_bytes S v m h = grind (arith, term_encode_is, two_bytes)
 -- as the code puts it together
 pub raised_from : (S : Security) (v : Term) (m : Indirect) → IsTrue (is_value v) → {k n : ℕ} {p : Property} {own : Bytes} → own ≡ object_record k p n → k ≡ kind_of v
     → p ≡ S.raise (property_of v) m → n ≡ number_of v → encode (raise_value S v m) ≡ own ++ drop script_width (encode v)
-raised_from S v m h o k p n = grind (arith, operand_bytes, raised_bytes)
+raised_from S v m h o k p n = rw (o, k, p, n, operand_bytes v) (sym (raised_bytes S v m h))
 
 -- the unrolled function: two records, the recursion, a variable
 pub rolled_bytes : (g : Bytes) (w : Reader) (i : ℕ) (k : Property) (b : Term)
@@ -270,7 +275,7 @@ pub reckon_counted : (S : Security) (tab : ℕ → Ty) (o : Operation) (w : Read
     → (m.records ≡ reckoned_records o) × (m.depth ≡ reckoned_records o) → Measures (contractum S tab (reckon o w (literal x.own x.value) (literal y.own y.value))) m
 reckon_counted S tab o w x y {m} h =
     let z = reckoned_size tab o (of_both S w x.own y.own) x.value y.value in
-    rw (reckon_is S tab o w x y) (record { records = grind arith; deep = grind arith })
+    counted {m = m} (reckon_is S tab o w x y) (record { records = h.0 ∙ sym z.0; deep = h.1 ∙ sym z.1 })
 
 -- the operation of a node, by the kind of its record
 module _ {s : Bytes} {at : ℕ} {o : Operation} {w : Reader} {a b : Term} (stands : At s at (reckon o w a b)) {k : Kind} (kind_is : kind_number k ≡ kind s at) where

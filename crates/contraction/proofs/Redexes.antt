@@ -2,16 +2,21 @@
 -- records.
 use Rattle.std.proofs.Common.{◌≡◌, refl, sym, subst, ◌∙◌, inr, Bool, true, false, ◌&&◌, ℕ, ◌+◌, ◌≤◌, arith, nat_eq}
 use Rattle.std.proofs.Common.{eqb-true, IsTrue}
-use Rattle.rules.specs.Prelude.{Reader, Security, sum, product, function, Ty, exists, Side, first, second, Operation}
-use Rattle.rules.specs.Prelude.{plus, less, Term, pair, app, proj, case, protect, literal, reckon, literal_of, built_by}
-use Rattle.rules.specs.Prelude.{Bytes, size}
-use Rattle.rules.proofs.Prelude.{and_left, and_right}
+use Rattle.std.proofs.lemmas.Bool.{false≢true}
+use Rattle.calculus.specs.Security.{Reader, Security}
+use Rattle.calculus.specs.Types.{sum, product, function, Ty, exists}
+use Rattle.calculus.specs.Terms.{Side, first, second, Operation, plus, less, Term, var, pair, app, proj, case, protect, mu, literal, reckon}
+use Rattle.calculus.specs.Numbers.{literal_of}
+use Rattle.calculus.proofs.Booleans.{and_left, and_right}
+use Rattle.calculus.specs.Stuck.{built_by}
+use Rattle.rules.specs.Answer.{Bytes}
+use Rattle.rules.specs.Script.{size}
 use Rattle.records.specs.Kinds as kinds
 use Rattle.records.specs.Place.{At}
 use Rattle.records.specs.Operands.{first_operand, second_operand}
 use Rattle.records.proofs.Made.{form, by_kind}
 use Rattle.records.proofs.Stands.{kind_of, operands, at_first, at_second, at_third}
-use Rattle.redex.specs.Fates.{reduces, reading_fate, is_potential_redex, fate}
+use Rattle.redex.specs.Fates.{property_of, reduces, reading_fate, is_potential_redex, fate}
 use Rattle.redex.specs.Found.{is_destructor, is_reckoning}
 use Rattle.redex.proofs.Forms.{built_is, literal_is, one_reads}
 use Rattle.contraction.specs.declared.Plan.TheVariants.{Part, Body, Raised, Unrolled, Reckoned}
@@ -22,7 +27,7 @@ fits_it : (fits may : Bool) → reading_fate fits may ≡ reduces → IsTrue fit
 fits_it fits may h = grind arith
 
 application : (w : Reader) (f v : Term) → IsTrue (built_by function f) → Left (app w f v)
-application w f v h = by_kind (λ x. Left (app w x v)) kinds.function f (grind (arith, built_is)) applies
+application w f v h = by_kind (λ x. Left (app w x v)) kinds.function f (eqb-true _ _ (sym (built_is f).0 ∙ h)) applies
 
 projection : (d : Side) (w : Reader) (e : Term) → IsTrue (built_by product e) → Left (proj d w e)
 projection d w e h = by_kind (λ x. Left (proj d w x)) kinds.pair e (eqb-true _ _ (sym (built_is e).1 ∙ h)) (projects d)
@@ -43,7 +48,15 @@ reckoning o w a b h =
 
 pub left_side : (S : Security) (tab : ℕ → Ty) (e : Term) → IsTrue (is_potential_redex e) → fate S tab e ≡ reduces → Left e
 unfolding is_potential_redex fate
-left_side S tab e h g = grind (arith, application, projection, choice, reckoning, lifts, unrolls, fits_it)
+left_side S tab (var n) h g = let z : ◌≡◌ {A = ℕ} 0 1 = cc in absurd (omega arith)
+left_side S tab (app w f a) h g = application w f a (fits_it (built_by function f) (S.permits (property_of f) w) g)
+left_side S tab (proj d w e) h g = projection d w e (fits_it (built_by product e) (S.permits (property_of e) w) g)
+left_side S tab (case w i e a b) h g = choice w i e a b (fits_it (built_by sum e) (S.permits (property_of e) w) g)
+left_side S tab (protect m e) h g = lifts h
+left_side S tab (mu w i e) h g = unrolls
+left_side S tab (reckon o w a b) h g =
+    reckoning o w a b (fits_it (exists (literal_of a) && exists (literal_of b)) (S.permits (property_of a) w && S.permits (property_of b) w) g)
+left_side S tab _ h g = absurd (false≢true h)
 
 -- what a destructor takes apart has an operand,
 destructs : {e : Term} → Left e → IsTrue (is_destructor (kind_of e)) → (1 ≤ operands e) × (1 ≤ operands (first_operand e))
@@ -66,16 +79,26 @@ taken {s} {at} {e} a l h =
 
 module _ (s : Bytes) (at : ℕ) where
   pub plan_unrolled : {e : Term} → Left e → kind_of e ≡ kinds.recursion → Planned s e Unrolled
-  plan_unrolled l h = grind (arith, unrolled_one)
+  plan_unrolled (projects first) h = absurd (omega arith)
+  plan_unrolled unrolls h = unrolled_one
+  plan_unrolled (reckons plus) h = absurd (omega arith)
+  plan_unrolled _ h = absurd (omega arith)
 
   pub plan_raised : {e : Term} → Left e → kind_of e ≡ kinds.protect → Planned s e Raised
-  plan_raised l h = grind (arith, lifted)
+  plan_raised (projects first) h = absurd (omega arith)
+  plan_raised (lifts v) h = lifted v
+  plan_raised (reckons plus) h = absurd (omega arith)
+  plan_raised _ h = absurd (omega arith)
 
   pub plan_reckoned : {e : Term} → Left e → IsTrue (is_reckoning (kind_of e)) → Planned s e Reckoned
-  plan_reckoned l h = grind (arith, reckoned_one)
+  plan_reckoned (projects first) h = absurd (false≢true h)
+  plan_reckoned (reckons o) h = reckoned_one
+  plan_reckoned _ h = absurd (false≢true h)
 
   pub plan_first : {e : Term} → Left e → kind_of e ≡ kinds.first_projection → At s (at + 2) (first_operand (first_operand e)) → Planned s e (Part (at + 2))
-  plan_first l h x = grind (arith, projected)
+  plan_first (projects first) h x = projected x
+  plan_first (reckons plus) h x = absurd (omega arith)
+  plan_first _ h x = absurd (omega arith)
 
   -- `next` is the record after the first inner operand
   pub plan_second : {e : Term} (next : ℕ) → Left e → kind_of e ≡ kinds.second_projection → At s (at + 1) (first_operand e) → next ≡ at + 2 + size (first_operand (first_operand e)) → Planned s e (Part next)

@@ -1,8 +1,15 @@
 -- A planned redex whose contractum has room: the room that its plan's writer asks for, and what that writer leaves in
 -- the buffer.
 use Rattle.std.proofs.Common.{◌≡◌, sym, ap, ap₂, ◌∙◌, ℕ, ◌+◌, ◌≤◌, arith, subst as transport}
-use Rattle.rules.specs.Prelude.{Security, Ty, top, Operation, Term, protect, literal, reckon, substitute, raise_value}
-use Rattle.rules.specs.Prelude.{of_both, unrolled_function, Bytes, properties_of, type_at, encode, size, depth}
+use Rattle.calculus.specs.Security.{Security}
+use Rattle.calculus.specs.Types.{Ty, top}
+use Rattle.calculus.specs.Terms.{Operation, Term, protect, literal, reckon, substitute, raise_value}
+use Rattle.calculus.specs.Numbers.{of_both}
+use Rattle.calculus.specs.Reduction.{unrolled_function}
+use Rattle.rules.specs.Answer.{Bytes}
+use Rattle.rules.specs.Groups.{properties_of}
+use Rattle.rules.specs.Types.{type_at}
+use Rattle.rules.specs.Script.{encode, size, depth}
 use Rattle.records.specs.Place.{At}
 use Rattle.records.specs.Labels.{influence_at}
 use Rattle.records.proofs.Stands.{operands, at_first}

@@ -1,11 +1,16 @@
 -- How a redex's contractum is made from parts of its script, and what counting and writing it are given.
 use Rattle.std.specs.Prelude.{◌≡◌, Bool, if◌then◌else◌, ℕ, ◌+◌, ◌≤◌, ◌<◌, IsTrue}
-use Rattle.rules.specs.Prelude.{Property, Reader, Indirect, Ty, top, Side, first, second, choose, Operation, less, Term}
-use Rattle.rules.specs.Prelude.{unit, lam, pair, inj, app, proj, case, protect, mu, literal, reckon, is_value}
-use Rattle.rules.specs.Prelude.{substitute, raise_value, Literal, of_both, side, reckon_result, unrolled_function}
-use Rattle.rules.specs.Prelude.{Bytes, script_limit, depth_limit, table_limit, properties_of, type_count, type_at, kind}
-use Rattle.rules.specs.Prelude.{r, full_record, encode, size, depth}
-use Rattle.rules.specs.Script.{records as record_count}
+use Rattle.calculus.specs.Security.{Property, Reader, Indirect}
+use Rattle.calculus.specs.Types.{Ty, top}
+use Rattle.calculus.specs.Terms.{Side, first, second, choose, Operation, less, Term, unit, lam, pair, inj, app, proj}
+use Rattle.calculus.specs.Terms.{case, protect, mu, literal, reckon, is_value, substitute, raise_value}
+use Rattle.calculus.specs.Numbers.{Literal, of_both, side, reckon_result}
+use Rattle.calculus.specs.Reduction.{unrolled_function}
+use Rattle.rules.specs.Answer.{Bytes}
+use Rattle.rules.specs.Limits.{script_limit, depth_limit, table_limit}
+use Rattle.rules.specs.Groups.{properties_of}
+use Rattle.rules.specs.Types.{type_count, type_at}
+use Rattle.rules.specs.Script.{records as record_count, kind, r, full_record, encode, size, depth}
 use Rattle.records.specs.Kinds as kinds
 use Rattle.records.specs.Place.{At}
 use Rattle.records.specs.Labels.{property_at, influence_at}

@@ -2,12 +2,12 @@
 
 #![tactic(auto)]
 
-ghost use Rattle.std.specs.Prelude.{◌≡◌, if◌then◌else◌, ◌++◌, ℕ, ◌+◌, ◌*◌, ◌^◌, ◌<◌, take, drop, IsTrue};
+ghost use Rattle.std.specs.Prelude.{◌≡◌, if◌then◌else◌, ◌++◌, ℕ, ◌+◌, ◌^◌, ◌<◌, drop, IsTrue};
 ghost use Rattle.calculus.specs.Security.{Security};
 ghost use Rattle.calculus.specs.Types.{Ty, top};
 ghost use Rattle.calculus.specs.Terms.{Term, protect, mu, literal, reckon, is_value, substitute, raise_value};
 ghost use Rattle.calculus.specs.Reduction.{unrolled_function};
-ghost use Rattle.rules.specs.Limits.{row_width, script_width};
+ghost use Rattle.rules.specs.Limits.{script_width};
 ghost use Rattle.rules.specs.Groups.{properties_of};
 ghost use Rattle.rules.specs.Types.{type_at};
 ghost use Rattle.rules.specs.Script.{records as record_count, encode};
@@ -19,12 +19,12 @@ ghost use Rattle.records.specs.Labels.{influence_at};
 ghost use Rattle.records.specs.Place.{At, Here};
 ghost use Rattle.redex.specs.Fates.{only_reader, contractum};
 ghost use Rattle.memory.specs.Written.{Room, Written};
-ghost use Rattle.contraction.specs.Order.{InOrder};
+ghost use Rattle.contraction.specs.Order.{InOrder, up_to};
 ghost use Rattle.contraction.specs.Plans.{Fires, CaseRedex, Planned, PlannedRedex, Measures, BodyAndValue, Recursive, Literals};
 ghost use Rattle.contraction.specs.Plans.{PartRoom, BodyRoom, RaisedRoom, protection, protect_record, UnrolledRoom};
 ghost use Rattle.contraction.specs.Plans.{reckon_contractum, flag, FlagRoom, ReckonedRoom, ContractumRoom};
 
-use lattice::{Creator, Group, Indirect, IndirectCreator, Influence, Property, ROW_WIDTH, Reader};
+use lattice::{Creator, Indirect, IndirectCreator, Influence, Property, ROW_WIDTH, Reader};
 use memory::Writer;
 use records::{Kind, SCRIPT_WIDTH};
 use substitution::Size;
@@ -160,19 +160,12 @@ fn term_bytes(script: &[u8], i: usize) -> &[u8]
     records::part(script, i, records::end_of(script, i))
 }
 
-// How many rows of a groups table there are up to a group, with its own.
-fn rows_to<G: Group>(group: G) -> u16
-    ensures { result ≡ G.number group + 1 }
+// The rows of groups 0 to g. No later group is below g, so a search for a meet with g finds in them what it finds in
+// the whole table.
+fn up_to(groups: &[u8], g: u8) -> &[u8]
+    ensures { result.now ≡ up_to groups.now g }
 {
-    u16::from(group.number()) + 1
-}
-
-// So many first rows of a table. No later group is below one of theirs, so a search for a meet with one finds in them
-// what it finds in the whole table.
-fn first_rows(groups: &[u8], count: u16) -> &[u8]
-    ensures { result.now ≡ take (row_width * count) groups.now }
-{
-    let end = ROW_WIDTH * usize::from(count);
+    let end = ROW_WIDTH * (usize::from(g) + 1);
     &groups[..end.min(groups.len())]
 }
 
@@ -181,8 +174,8 @@ fn influence(groups: &[u8], read: Property, reader: Reader) -> Influence
     requires { InOrder groups.now }
     ensures { said_influence result ≡ (properties_of groups.now).influence (said_property read) reader.0 }
 {
-    let met = rows_to(read.ic).min(rows_to(reader));
-    read.influence(first_rows(groups, met), reader)
+    let met = read.ic.0.min(reader.0);
+    read.influence(up_to(groups, met), reader)
 }
 
 // κ • (ir, ic). The rows reach to each group that is joined and to the lower of any two that meet.
@@ -190,9 +183,9 @@ fn raised(groups: &[u8], own: Property, by: Influence) -> Property
     requires { InOrder groups.now }
     ensures { said_property result ≡ (properties_of groups.now).raise (said_property own) (said_influence by) }
 {
-    let joined = rows_to(own.r).max(rows_to(own.ir)).max(rows_to(by.ir));
-    let met = rows_to(by.ic).min(rows_to(own.c).max(rows_to(own.ic)));
-    own.raised(first_rows(groups, joined.max(met)), by)
+    let joined = own.r.0.max(own.ir.0).max(by.ir.0);
+    let met = by.ic.0.min(own.c.0.max(own.ic.0));
+    own.raised(up_to(groups, joined.max(met)), by)
 }
 
 // What reckoning by this group gives of operands of these properties.
@@ -201,9 +194,9 @@ fn reckoned(groups: &[u8], left: Property, right: Property, reader: Reader) -> P
     ensures { said_property result
         ≡ of_both (properties_of groups.now) reader.0 (said_property left) (said_property right) }
 {
-    let joined = rows_to(left.ir).max(rows_to(right.ir));
-    let met = rows_to(reader).min(rows_to(left.ic).max(rows_to(right.ic)));
-    left.reckoned_with(first_rows(groups, joined.max(met)), right, reader)
+    let joined = left.ir.0.max(right.ir.0);
+    let met = reader.0.min(left.ic.0.max(right.ic.0));
+    left.reckoned_with(up_to(groups, joined.max(met)), right, reader)
 }
 
 // The groups of a record that names a reader only.

@@ -3,8 +3,9 @@ use Rattle.std.proofs.Common.{◌≡◌, sym, ap, ◌∙◌, cond, [], ◌∷◌
 use Rattle.std.proofs.Common.{◌<◌, add-one, add-zero, zero-add, arith, length, take, drop, set, get_or, take-suc}
 use Rattle.std.proofs.Common.{drop-cons, length-take-le, take_all}
 use Rattle.std.proofs.Math.Seq.{set_at, get_or_at, drop-length}
-use Rattle.rules.specs.Prelude.{Bytes, group_byte, strip_from}
-use Rattle.rules.proofs.Prelude.{strip_length}
+use Rattle.rules.specs.Answer.{Bytes}
+use Rattle.rules.specs.Strip.{group_byte, strip_from}
+use Rattle.rules.proofs.Strip.{strip_length}
 
 strip_at_from : (w j : ℕ) (s : Bytes) (i : ℕ) → i < length s
     → get_or (strip_from w j s) i 0 ≡ cond (group_byte w ((j + i) % w)) 0 (get_or s i 0)

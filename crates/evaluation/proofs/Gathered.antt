@@ -3,8 +3,14 @@ use Rattle.std.proofs.Common.{◌≡◌, refl, sym, ap, ◌∙◌, [], ◌++◌,
 use Rattle.std.proofs.Common.{length, take, drop, length-append, length-drop, length-take-le, take_at, drop_at, Some}
 use Rattle.std.proofs.Common.{Result, subst as transport}
 use Rattle.std.proofs.Math.ListN.{drop_of_length-le}
-use Rattle.rules.specs.Prelude.{Term, hole, plug, Bytes, script_width, properties_of, type_at, records, encode, size}
-use Rattle.rules.specs.Prelude.{Ran, run}
+use Rattle.calculus.specs.Terms.{Term}
+use Rattle.calculus.specs.Reduction.{hole, plug}
+use Rattle.rules.specs.Answer.{Bytes}
+use Rattle.rules.specs.Limits.{script_width}
+use Rattle.rules.specs.Groups.{properties_of}
+use Rattle.rules.specs.Types.{type_at}
+use Rattle.rules.specs.Script.{records, encode, size}
+use Rattle.rules.specs.Run.{Ran, run}
 use Rattle.memory.specs.Splice.{splice}
 use Rattle.substitution.proofs.Reading.{term_length}
 use Rattle.redex.specs.Contexts.{before, after, level}
@@ -55,7 +61,9 @@ module _ {g t a : Bytes} {n : ℕ} (q : Loaded g t a n (length a)) (b : Bytes) {
   pub run_ends : {x y : Bytes} {r : Result Point Ended} {z : Ended} → Settles g t budget 0 (record { left = 0; right = right; steps = 0 }) a b' x y r → z ≡ run_end r
       → EndedRun g t (length a) budget (front_term a n) x y z
   unfolding level
-  run_ends {x} {y} {r} f h = grind (arith, settled_ends, begins)
+  run_ends {x} {y} {r} f h =
+      transport (λ z. EndedRun g t (length a) budget (front_term a n) x y z) (sym h)
+      (transport (λ m. EndedRun g t m budget (front_term a n) x y (run_end r)) (kept ∙ same) (settled_ends (f (front_term a n) hole (front_term a n) begins refl)))
 
 -- what is left, gathered in a
 module _ {g t : Bytes} {room budget : ℕ} {whole : Term} {a b : Bytes} {x : Ended} (z : EndedRun g t room budget whole a b x) (same : length a ≡ room) where

@@ -1,17 +1,27 @@
 -- Too big is judged by whole records: a run in a buffer is a run in as many bytes as its whole records have.
-use Rattle.std.proofs.Common.{◌≡◌, refl, ap, ◌∙◌, ◌||◌, ℕ, zero, suc, ◌*◌, ◌/◌, ◌≤◌, arith, length, take}
+use Rattle.std.proofs.Common.{◌≡◌, refl, ap, ◌∙◌, ◌||◌, ℕ, zero, suc, ◌*◌, ◌/◌, ◌≤◌, arith, nat_lt, length, take}
 use Rattle.std.proofs.Common.{length-take-le, take-take}
-use Rattle.rules.specs.Prelude.{Security, Ty, Term, Outcome, step, script_width, Bytes, properties_of, type_at, term}
-use Rattle.rules.specs.Prelude.{End, moves, exceeds, end_of_outcome, step_in, one_step_more, run}
+use Rattle.calculus.specs.Security.{Security}
+use Rattle.calculus.specs.Types.{Ty}
+use Rattle.calculus.specs.Terms.{Term}
+use Rattle.calculus.specs.Reduction.{Outcome, value, moved, denied, stuck, step}
+use Rattle.rules.specs.Limits.{script_width, script_limit, depth_limit}
+use Rattle.rules.specs.Answer.{Bytes}
+use Rattle.rules.specs.Groups.{properties_of}
+use Rattle.rules.specs.Types.{type_at}
+use Rattle.rules.specs.Script.{term, size, depth}
+use Rattle.rules.specs.Step.{End, at_value, moves, may_not, wrong_kind, too_big, exceeds, end_of_outcome, step_in}
+use Rattle.rules.specs.Run.{one_step_more, run}
 use Rattle.evaluation.specs.Runs.{front_term, Loaded}
 
 module _ (S : Security) (tab : ℕ → Ty) (room room' : ℕ) (h : room / script_width ≡ room' / script_width) where
   same_limits : (e : Term) → exceeds room e ≡ exceeds room' e
   unfolding exceeds
-  same_limits e = rw h
+  same_limits e = ap (λ n. nat_lt script_limit (size e) || (nat_lt n (size e) || nat_lt depth_limit (depth e))) h
 
   same_end : (x : Outcome) → end_of_outcome room x ≡ end_of_outcome room' x
-  same_end x = grind (arith, same_limits)
+  same_end (moved e) = rw (same_limits e)
+  same_end _ = refl
 
   same_step : (e : Term) → step_in S tab room e ≡ step_in S tab room' e
   unfolding step_in
@@ -33,4 +43,7 @@ module _ {g t a : Bytes} {n room : ℕ} (q : Loaded g t a n room) (inside : room
 
   pub run_within : (budget : ℕ) → run (properties_of g) (type_at t) (length (take k a)) budget (front_term (take k a) n)
       ≡ run (properties_of g) (type_at t) room budget (front_term a n)
-  run_within budget = grind (arith, length-take-le, same_run, front_within)
+  run_within budget =
+      let l : length (take k a) ≡ k = length-take-le k a (omega arith) in
+      same_run (properties_of g) (type_at t) (length (take k a)) room (omega arith) budget (front_term (take k a) n)
+      ∙ ap (run (properties_of g) (type_at t) room budget) front_within

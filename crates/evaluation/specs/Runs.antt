@@ -1,7 +1,12 @@
 -- A run: what it is given, and what it reports.
 use Rattle.std.specs.Prelude.{◌≡◌, ℕ, ◌*◌, ◌≤◌, take, Some, Result, Ok, Err, MatchResult}
-use Rattle.rules.specs.Prelude.{Ty, Term, Bytes, Answer, accepted, refused, script_width, encode, term, size, Ran}
-use Rattle.rules.specs.Prelude.{Report, run_report, first_after, scratch_after}
+use Rattle.calculus.specs.Types.{Ty}
+use Rattle.calculus.specs.Terms.{Term}
+use Rattle.rules.specs.Answer.{Bytes, Answer, accepted, refused}
+use Rattle.rules.specs.Limits.{script_width}
+use Rattle.rules.specs.Script.{encode, term, size}
+use Rattle.rules.specs.Run.{Ran}
+use Rattle.rules.specs.Calls.{Report, run_report, first_after, scratch_after}
 use Rattle.promises.specs.Promises.{AcceptedRun}
 use Rattle.refocusing.specs.declared.Point.{Point}
 use Rattle.refocusing.specs.declared.Ended.{Ended}

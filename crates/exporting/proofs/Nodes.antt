@@ -1,11 +1,17 @@
 -- The records of a term in the old office form, by its operands, whatever its kind.
-use Rattle.std.proofs.Common.{◌≡◌, refl, sym, ap, ◌∙◌, List, [], ◌∷◌, ◌++◌, append-nil, ℕ, suc, ◌+◌, ◌*◌, ◌-◌, ◌/◌}
+use Rattle.std.proofs.Common.{◌≡◌, refl, sym, ap, ap₂, ◌∙◌, List, [], ◌∷◌, ◌++◌, append-nil, ℕ, suc, ◌+◌, ◌*◌, ◌-◌, ◌/◌}
 use Rattle.std.proofs.Common.{◌%◌, ◌<◌, arith, add-one, add-zero, length, length-append}
-use Rattle.rules.specs.Prelude.{first, second, plus, less, Term, var, unit, lam, inj, proj, case, mu, literal, reckon}
-use Rattle.rules.specs.Prelude.{Bytes, office_width, size, kind, r, ir, number, Named, level_names, office_record}
-use Rattle.rules.specs.Prelude.{office}
-use Rattle.rules.proofs.Prelude.{joined, total, term_operands, term_head, two_bytes, r_is, ir_is, office_head}
-use Rattle.rules.proofs.Prelude.{office_length}
+use Rattle.calculus.specs.Terms.{first, second, plus, less, Term, var, unit, lam, pair, inj, app, proj, case, protect}
+use Rattle.calculus.specs.Terms.{mu, literal, reckon}
+use Rattle.rules.specs.Answer.{Bytes, byte}
+use Rattle.rules.specs.Limits.{office_width}
+use Rattle.rules.specs.Script.{size, kind, r, ir, number}
+use Rattle.rules.specs.Names.{Named, level_names}
+use Rattle.rules.specs.Office.{office_record, office}
+use Rattle.rules.proofs.Prefix.{joined, total}
+use Rattle.rules.proofs.TermCode.{term_operands, term_head, two_bytes}
+use Rattle.rules.proofs.RecordFields.{r_is, ir_is}
+use Rattle.rules.proofs.Exports.{office_head, office_length}
 use Rattle.records.specs.Binders.{binds}
 use Rattle.records.specs.Place.{At}
 use Rattle.records.proofs.Stands.{kind_of, stands_kind}

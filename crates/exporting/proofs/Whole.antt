@@ -1,10 +1,16 @@
 -- A whole script: what its walk is given, and what stands in front of the lent buffer.
 use Rattle.std.proofs.Common.{◌≡◌, refl, sym, ap, ap₂, ◌∙◌, [], ℕ, ◌*◌, ◌≤◌, arith, nat_le, leb-true, length}
 use Rattle.std.specs.Borrow.{MutBor}
-use Rattle.rules.specs.Prelude.{Bytes, Octets, accepted, ◌>>◌, ask, office_width, depth_limit, encode, term, depth}
-use Rattle.rules.specs.Prelude.{records, q13, q18, q19, types_check, form_check, own_check, script_check, q27}
-use Rattle.rules.specs.Prelude.{export_of, export_call, q28_of_export}
-use Rattle.rules.proofs.Prelude.{ask_true, and_then, form_yes, q18_depth, Whole, whole, office_length}
+use Rattle.rules.specs.Answer.{Bytes, Octets, accepted, ◌>>◌, ask}
+use Rattle.rules.specs.Limits.{office_width, depth_limit}
+use Rattle.rules.specs.Script.{encode, term, depth, records, q13, q18, q19}
+use Rattle.rules.specs.Calls.{types_check, form_check, own_check, script_check, q27}
+use Rattle.rules.specs.Office.{export_of, export_call, q28_of_export}
+use Rattle.rules.proofs.Asked.{ask_true, and_then}
+use Rattle.rules.proofs.Form.{form_yes}
+use Rattle.rules.proofs.Depth.{q18_depth}
+use Rattle.rules.proofs.Scripts.{Whole, whole}
+use Rattle.rules.proofs.Exports.{office_length}
 use Rattle.memory.specs.Splice.{splice}
 use Rattle.memory.specs.declared.Writer.{Writer}
 use Rattle.records.proofs.Stands.{at_start}

@@ -1,8 +1,16 @@
 -- A walk over a term's operands, one after the other: what is written.
-use Rattle.std.proofs.Common.{◌≡◌, sym, ap, ◌∙◌, [], ◌∷◌, ◌++◌, append_assoc, append-nil, ℕ, suc, ◌+◌, ◌*◌}
+use Rattle.std.proofs.Common.{◌≡◌, refl, sym, ap, ◌∙◌, List, [], ◌∷◌, ◌++◌, append_assoc, append-nil, ℕ, suc, ◌+◌, ◌*◌}
 use Rattle.std.proofs.Common.{◌≤◌, arith, length, length-append, subst as transport}
-use Rattle.rules.specs.Prelude.{Term, Bytes, office_width, size, depth, level_names, office}
-use Rattle.rules.proofs.Prelude.{total, joined_append, term_operands, term_size_is, office_head, head_length}
+use Rattle.calculus.specs.Terms.{Term}
+use Rattle.rules.specs.Answer.{Bytes}
+use Rattle.rules.specs.Limits.{office_width}
+use Rattle.rules.specs.Script.{size, depth}
+use Rattle.rules.specs.Names.{level_names}
+use Rattle.rules.specs.Office.{office}
+use Rattle.rules.proofs.Prefix.{total}
+use Rattle.rules.proofs.Parts.{joined_append}
+use Rattle.rules.proofs.TermCode.{term_operands, term_size_is}
+use Rattle.rules.proofs.Exports.{office_head, head_length}
 use Rattle.memory.specs.Written.{Written}
 use Rattle.memory.specs.declared.Writer.{Writer}
 use Rattle.memory.proofs.Placed.{then, keeps}

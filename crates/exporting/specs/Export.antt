@@ -1,6 +1,11 @@
 -- The export of a term: what its walk is given, and what it tells.
 use Rattle.std.specs.Prelude.{◌≡◌, ℕ, ◌+◌, ◌*◌, ◌≤◌, length}
-use Rattle.rules.specs.Prelude.{Term, Bytes, office_width, depth_limit, size, depth, level_names, office}
+use Rattle.calculus.specs.Terms.{Term}
+use Rattle.rules.specs.Answer.{Bytes}
+use Rattle.rules.specs.Limits.{office_width, depth_limit}
+use Rattle.rules.specs.Script.{size, depth}
+use Rattle.rules.specs.Names.{level_names}
+use Rattle.rules.specs.Office.{office}
 use Rattle.records.specs.Place.{At}
 use Rattle.memory.specs.Written.{Written}
 use Rattle.memory.specs.declared.Writer.{Writer}

@@ -1,7 +1,7 @@
 -- What an old office record holds beside its kind and groups: a variable its own name and number 0, a function or a
 -- recursion the name that it binds, a case a name for each branch (manual, 7.9).
 use Rattle.std.specs.Prelude.{if◌then◌else◌, ℕ, suc, ◌-◌, nat_eq}
-use Rattle.rules.specs.Prelude.{has_first_name, has_second_name}
+use Rattle.rules.specs.Office.{has_first_name, has_second_name}
 
 -- its number, where m is the script's
 abbrev pub number_in : ℕ → ℕ → ℕ

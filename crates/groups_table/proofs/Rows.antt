@@ -1,33 +1,41 @@
 -- The questions of one row, said of whole words.
 use Rattle.std.proofs.Common.{◌≡◌, refl, sym, ap, ◌∙◌, Bool, true, false, ◌&&◌, ℕ, ◌+◌, ◌-◌, ◌/◌, ◌^◌, ◌≤◌, ◌<◌, arith}
 use Rattle.std.proofs.Common.{eq-eqb, ne_eqb, eqb-true, ltb-false, le-ltb, nat_eq, nat_lt, shr_lt, pow_pos, bit_and}
-use Rattle.std.proofs.Math.Bool.{beq}
+use Rattle.std.proofs.Math.Bool.{beq, false≢true}
 use Rattle.std.proofs.Math.Decide.{ℕ_discrete}
 use Rattle.std.proofs.Math.Option.{Option}
 use lib.Bits.{and_lt}
 use lib.Count.{count_trailing_zeros, trailing_le}
 use Rattle.std.specs.Bool.{one_answer}
-use Rattle.rules.specs.Prelude.{Bytes, first_below, all_below, ◌⇒◌, group_limit, row, bit, in_both_rows, is_row_within}
-use Rattle.rules.specs.Prelude.{holds_number, row_of_lowest}
-use Rattle.rules.proofs.Prelude.{all_below_true, all_below_all, implied, same_bits}
+use Rattle.rules.specs.Answer.{Bytes, first_below, all_below, ◌⇒◌}
+use Rattle.rules.specs.Limits.{group_limit}
+use Rattle.rules.specs.Groups.{row, bit, in_both_rows, is_row_within, holds_number, row_of_lowest}
+use Rattle.rules.proofs.Search.{all_below_true, all_below_all}
+use Rattle.rules.proofs.Asked.{implied}
+use Rattle.calculus.proofs.Booleans.{same_bits}
 use Rattle.lattice.proofs.Bits.{bit_of_and, bit_shr, bits_same}
 use Rattle.lattice.proofs.Words.{bit_of_zero, lowest_some, lowest_none, lowest_zero, common_word, common_some}
 use Rattle.groups_table.specs.Pairs.{pair5, pair6}
 
 implies : (a b : Bool) → (a ≡ true → b ≡ true) → (a ⇒ b) ≡ true
-implies a b f = grind arith
+implies true b f = f refl
+implies false b f = refl
 
 no_implied : (a : Bool) → (a ⇒ false) ≡ true → a ≡ false
-no_implied a e = grind arith
+no_implied true e = sym e
+no_implied false e = refl
 
 both_first : (a b : Bool) → (a ≡ true → b ≡ true) → (a && b) ≡ a
-both_first a b f = grind arith
+both_first true b f = f refl
+both_first false b f = refl
 
 both_second : (a b : Bool) → (a && b) ≡ a → a ≡ true → b ≡ true
-both_second a b e h = grind arith
+both_second true b e h = e
+both_second false b e h = absurd (false≢true h)
 
 equal_self : (a : Bool) → beq a a ≡ true
-equal_self a = grind arith
+equal_self true = refl
+equal_self false = refl
 
 -- a test that says of all numbers below n what another says of each
 all_same : (n : ℕ) (ok : ℕ → Bool) (b : Bool)

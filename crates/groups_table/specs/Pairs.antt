@@ -1,7 +1,8 @@
 -- Questions 5 and 6 of two groups: what `ok5` and `ok6` ask of a row with each other one.
 use Rattle.std.specs.Prelude.{Bool, ℕ}
-use Rattle.rules.specs.Prelude.{Bytes, first_below, ◌⇒◌, group_limit, row, bit, is_row_within, in_both_rows}
-use Rattle.rules.specs.Prelude.{row_of_lowest}
+use Rattle.rules.specs.Answer.{Bytes, first_below, ◌⇒◌}
+use Rattle.rules.specs.Limits.{group_limit}
+use Rattle.rules.specs.Groups.{row, bit, is_row_within, in_both_rows, row_of_lowest}
 
 -- if bit h is in row g: is row h within row g?
 abbrev pub pair5 : Bytes → ℕ → ℕ → Bool

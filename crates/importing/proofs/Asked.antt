@@ -1,10 +1,18 @@
 -- The questions of an import, one after another, and what then stands in front of the two copies.
 use Rattle.std.proofs.Common.{◌≡◌, refl, sym, ap, ◌∙◌, [], ℕ, ◌*◌, ◌≤◌, arith, length, take, drop, take_at}
-use Rattle.rules.specs.Prelude.{Bytes, Octets, Answer, accepted, refused, ◌>>◌, script_width, depth_limit, office_limit}
-use Rattle.rules.specs.Prelude.{encode, term, depth, q18, types_check, form_check, meant, office_records, nameless}
-use Rattle.rules.specs.Prelude.{with_names, named_term, q28, q29, q30, import_of, import_call}
-use Rattle.rules.proofs.Prelude.{and_then, encode_length, term_code, q18_depth, Whole, form_yes, form_whole}
-use Rattle.rules.proofs.Prelude.{q28_measured, nameless_13, nameless_length, nameless_records, nameless_octets}
+use Rattle.rules.specs.Answer.{Bytes, Octets, Answer, accepted, refused, ◌>>◌}
+use Rattle.rules.specs.Limits.{script_width, depth_limit, office_limit}
+use Rattle.rules.specs.Script.{encode, term, depth, q18}
+use Rattle.rules.specs.Calls.{types_check, form_check}
+use Rattle.rules.specs.Names.{meant}
+use Rattle.rules.specs.Office.{office_records, nameless, with_names, named_term, q28, q29, q30, import_of, import_call}
+use Rattle.rules.proofs.Asked.{and_then}
+use Rattle.rules.proofs.PrefixLaws.{encode_length}
+use Rattle.rules.proofs.TermCode.{term_code}
+use Rattle.rules.proofs.Depth.{q18_depth}
+use Rattle.rules.proofs.Scripts.{Whole}
+use Rattle.rules.proofs.Form.{form_yes, form_whole}
+use Rattle.rules.proofs.Office.{q28_measured, nameless_13, nameless_length, nameless_records, nameless_octets}
 use Rattle.memory.specs.Splice.{splice}
 use Rattle.memory.proofs.Laws.{splice_front}
 use Rattle.rewriting.specs.Widened.{after_27}

@@ -1,8 +1,9 @@
 -- Names in an array: those that stand before place n are the names over a record under n binders.
-use Rattle.std.proofs.Common.{◌≡◌, refl, sym, ap, ap₂, ◌∙◌, Bool, true, false, cond, List, ◌∷◌, ℕ, zero, suc, ◌+◌}
+use Rattle.std.proofs.Common.{◌≡◌, refl, sym, ap, ap₂, ◌∙◌, Bool, true, false, cond, List, [], ◌∷◌, ℕ, zero, suc, ◌+◌}
 use Rattle.std.proofs.Common.{◌-◌, ◌≤◌, ◌<◌, arith, nat_eq, length, get_or, set, eq-eqb, ne_eqb}
 use Rattle.std.proofs.lemmas.List.{get_or-set_same, get_or-set_other}
-use Rattle.rules.specs.Prelude.{Bytes, nearest}
+use Rattle.rules.specs.Answer.{Bytes}
+use Rattle.rules.specs.Names.{nearest}
 use Rattle.records.specs.Binders.{binds}
 use Rattle.importing.specs.Fields.{name_over}
 use Rattle.importing.specs.Scope.{scope}

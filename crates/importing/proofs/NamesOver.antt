@@ -1,6 +1,6 @@
 -- The names over an operand.
 use Rattle.std.proofs.Common.{List, if◌then◌else◌, nat_eq, ℕ, ◌∷◌}
-use Rattle.rules.specs.Prelude.{Bytes}
+use Rattle.rules.specs.Answer.{Bytes}
 use Rattle.records.specs.Binders.{binds}
 use Rattle.importing.specs.Fields.{name_over}
 

@@ -1,9 +1,14 @@
 -- What a term with names means, and the names over its records, by its operands, whatever its kind.
-use Rattle.std.proofs.Common.{◌≡◌, refl, ap, ap₂, ◌∙◌, List, [], ◌∷◌, ◌++◌, append-nil, ℕ, suc, ◌+◌, ◌<◌, arith}
-use Rattle.std.proofs.Common.{length}
-use Rattle.rules.specs.Prelude.{first, plus, Term, var, unit, inj, proj, literal, reckon, Bytes, encode, size, meant}
-use Rattle.rules.specs.Prelude.{scopes, with_names}
-use Rattle.rules.proofs.Prelude.{joined, total, term_operands, term_head, term_encode_is}
+use Rattle.std.proofs.Common.{◌≡◌, refl, sym, ap, ap₂, ◌∙◌, List, [], ◌∷◌, ◌++◌, append-nil, ℕ, suc, ◌+◌, ◌<◌, arith}
+use Rattle.std.proofs.Common.{nat_eq, length, ne_eqb}
+use Rattle.calculus.specs.Terms.{first, second, plus, less, Term, var, unit, lam, pair, inj, app, proj, case, protect}
+use Rattle.calculus.specs.Terms.{mu, literal, reckon}
+use Rattle.rules.specs.Answer.{Bytes}
+use Rattle.rules.specs.Script.{encode, size}
+use Rattle.rules.specs.Names.{meant, scopes}
+use Rattle.rules.specs.Office.{with_names}
+use Rattle.rules.proofs.Prefix.{joined, total}
+use Rattle.rules.proofs.TermCode.{term_operands, term_head, term_encode_is}
 use Rattle.records.specs.Kinds as kinds
 use Rattle.records.specs.Binders.{binds}
 use Rattle.records.proofs.Stands.{kind_of}

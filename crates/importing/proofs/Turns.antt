@@ -3,21 +3,28 @@
 use Rattle.std.proofs.Common.{◌≡◌, refl, sym, ap, ap₂, ◌∙◌, List, [], ◌∷◌, ◌++◌, ℕ, suc, ◌+◌, ◌*◌, ◌≤◌, ◌<◌, arith}
 use Rattle.std.proofs.Common.{length, set, length-append, subst as transport}
 use Rattle.std.proofs.lemmas.List.{length-set}
-use Rattle.rules.specs.Prelude.{Term, Bytes, Answer, accepted, refused, script_width, encode, size, depth, meant}
-use Rattle.rules.specs.Prelude.{with_names}
-use Rattle.rules.proofs.Prelude.{joined, total, joined_length, term_code, term_head, term_head_length, blank_size}
-use Rattle.rules.proofs.Prelude.{blank_meant}
+use Rattle.calculus.specs.Terms.{Term}
+use Rattle.rules.specs.Answer.{Bytes, Answer, accepted, refused}
+use Rattle.rules.specs.Limits.{script_width}
+use Rattle.rules.specs.Script.{encode, size, depth, records}
+use Rattle.rules.specs.Names.{meant, scopes}
+use Rattle.rules.specs.Office.{office_records, office_kind, with_names}
+use Rattle.rules.proofs.Prefix.{joined, total}
+use Rattle.rules.proofs.PrefixLaws.{joined_length}
+use Rattle.rules.proofs.TermCode.{term_code, term_operands, term_head, term_head_length}
+use Rattle.rules.proofs.Names.{blank, blank_size, blank_meant}
 use Rattle.memory.specs.Written.{Written}
 use Rattle.memory.specs.declared.Writer.{Writer}
 use Rattle.memory.proofs.Placed.{keeps}
 use Rattle.records.specs.Binders.{binds}
-use Rattle.records.proofs.Passing.{Ahead, split_at, operand_here}
+use Rattle.records.specs.Place.{At}
+use Rattle.records.proofs.Passing.{Passed, Ahead, split_at, operand_here}
 use Rattle.records.proofs.Stands.{kind_of}
 use Rattle.records.proofs.Weights.{weights}
 use Rattle.substitution.proofs.Nodes.{term_depth_is, operand_size, operand_depth}
-use Rattle.importing.specs.Fields.{name_over}
+use Rattle.importing.specs.Fields.{name_over, is_bound}
 use Rattle.importing.specs.Scope.{scope, Importable, Resolved}
-use Rattle.importing.proofs.Names.{scope_set, scope_inner}
+use Rattle.importing.proofs.Names.{scope_set, scope_inner, at_most_one}
 use Rattle.importing.proofs.Operands.{meant_from}
 use Rattle.importing.proofs.Walks.{scanned, Reached, stop, pass}
 use Rattle.importing.proofs.NamesOver.{inner}

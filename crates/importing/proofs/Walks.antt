@@ -1,10 +1,17 @@
 -- A walk over a term, operand by operand: what question 30 is asked of, and what is written.
 use Rattle.std.proofs.Common.{◌≡◌, refl, sym, ap, ap₂, ◌∙◌, List, [], ◌∷◌, ◌++◌, append_assoc, append-nil, ℕ, suc, ◌+◌}
-use Rattle.std.proofs.Common.{◌*◌, ◌≤◌, ◌<◌, arith, true, nat_lt, length, subst as transport, ne_eqb}
-use Rattle.rules.specs.Prelude.{Term, var, Bytes, Answer, accepted, refused, ask, ◌>>◌, script_record, encode, size}
-use Rattle.rules.specs.Prelude.{nearest, meant, scopes, office_kind, first_name, with_names}
-use Rattle.rules.proofs.Prelude.{joined, total, joined_append, term_operands, term_head, scopes_length}
-use Rattle.memory.specs.Written.{Written}
+use Rattle.std.proofs.Common.{◌*◌, ◌≤◌, ◌<◌, arith, true, nat_eq, nat_lt, length, subst as transport, ne_eqb}
+use Rattle.calculus.specs.Terms.{Term, var}
+use Rattle.rules.specs.Answer.{Bytes, Answer, accepted, refused, ask, ◌>>◌}
+use Rattle.rules.specs.Limits.{script_width}
+use Rattle.rules.specs.Script.{script_record, encode, size}
+use Rattle.rules.specs.Names.{nearest, meant, scopes}
+use Rattle.rules.specs.Office.{office_kind, first_name, with_names}
+use Rattle.rules.proofs.Prefix.{joined, total}
+use Rattle.rules.proofs.Parts.{joined_append}
+use Rattle.rules.proofs.TermCode.{term_operands, term_head}
+use Rattle.rules.proofs.Office.{scopes_length}
+use Rattle.memory.specs.Written.{Room, Written}
 use Rattle.memory.specs.declared.Writer.{Writer}
 use Rattle.memory.proofs.Placed.{then as written_then}
 use Rattle.records.specs.Kinds as kinds

@@ -1,15 +1,22 @@
 -- A whole old script: what the walk over it is given, and what it gives.
-use Rattle.std.proofs.Common.{◌≡◌, refl, sym, ap, ap₂, ◌∙◌, List, [], ◌++◌, ℕ, ◌+◌, ◌*◌, ◌≤◌, ◌<◌, arith}
-use Rattle.std.proofs.Common.{length, subst as transport, get_or}
+use Rattle.std.proofs.Common.{◌≡◌, refl, sym, ap, ap₂, ◌∙◌, List, [], ◌++◌, append-nil, ℕ, ◌+◌, ◌*◌, ◌≤◌, ◌<◌, arith}
+use Rattle.std.proofs.Common.{length, drop, subst as transport, get_or}
 use Rattle.std.specs.Borrow.{MutBor}
-use Rattle.rules.specs.Prelude.{Bytes, Answer, accepted, each, depth_limit, encode, term, size, depth, kind, records}
-use Rattle.rules.specs.Prelude.{meant, scopes, office_records, office_kind, nameless, with_names, named_term, ok30, q30}
-use Rattle.rules.specs.Prelude.{import_of}
-use Rattle.rules.proofs.Prelude.{records_encode, nameless_records, nameless_kind, scopes_length, encode_length}
-use Rattle.rules.proofs.Prelude.{term_code}
+use Rattle.calculus.specs.Terms.{Term}
+use Rattle.rules.specs.Answer.{Bytes, Answer, accepted, each}
+use Rattle.rules.specs.Limits.{script_width, depth_limit}
+use Rattle.rules.specs.Script.{encode, term, size, depth, kind, records}
+use Rattle.rules.specs.Names.{meant, scopes}
+use Rattle.rules.specs.Office.{office_records, office_kind, nameless, with_names, named_term, ok30, q30, import_of}
+use Rattle.rules.proofs.Scripts.{records_encode}
+use Rattle.rules.proofs.Office.{nameless_records, nameless_kind, scopes_length}
+use Rattle.rules.proofs.PrefixLaws.{encode_length}
+use Rattle.rules.proofs.TermCode.{term_code}
+use Rattle.memory.specs.Splice.{splice}
 use Rattle.memory.specs.Written.{Written}
 use Rattle.memory.specs.declared.Writer.{Writer}
 use Rattle.records.proofs.Stands.{at_start}
+use Rattle.scope.specs.Walk.{scan_records}
 use Rattle.scope.proofs.Scans.{finish, scan_each}
 use Rattle.importing.specs.Fields.{is_bound}
 use Rattle.importing.specs.Scope.{scope, Importable, Resolved}

@@ -1,5 +1,7 @@
 -- What is asked before the names are looked up.
-use Rattle.rules.specs.Prelude.{Bytes, Answer, ◌>>◌, first_from, types_check, form_check, nameless, ok29, q28, q29}
+use Rattle.rules.specs.Answer.{Bytes, Answer, ◌>>◌, first_from}
+use Rattle.rules.specs.Calls.{types_check, form_check}
+use Rattle.rules.specs.Office.{nameless, ok29, q28, q29}
 
 -- 2 to 12, 28, 14 to 18 and 29
 unfoldable pub office_check : Bytes → Bytes → Bytes → Answer (Unit {0})

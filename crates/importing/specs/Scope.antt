@@ -1,7 +1,11 @@
 -- The names over a record in an array, the outermost first, and what a walk over a term makes of them.
 use Rattle.std.specs.Prelude.{◌≡◌, List, [], ◌∷◌, ℕ, zero, suc, ◌+◌, ◌*◌, ◌≤◌, length, get_or}
-use Rattle.rules.specs.Prelude.{Term, Bytes, Answer, accepted, script_width, depth_limit, encode, records, size, depth}
-use Rattle.rules.specs.Prelude.{meant, scopes, office_records, with_names}
+use Rattle.calculus.specs.Terms.{Term}
+use Rattle.rules.specs.Answer.{Bytes, Answer, accepted}
+use Rattle.rules.specs.Limits.{script_width, depth_limit}
+use Rattle.rules.specs.Script.{encode, records, size, depth}
+use Rattle.rules.specs.Names.{meant, scopes}
+use Rattle.rules.specs.Office.{office_records, with_names}
 use Rattle.records.specs.Place.{At}
 use Rattle.memory.specs.Written.{Written}
 use Rattle.memory.specs.declared.Writer.{Writer}

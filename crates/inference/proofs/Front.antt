@@ -1,8 +1,13 @@
 -- What a list that starts with a type has at its front.
 use Rattle.std.proofs.Common.{◌≡◌, ◌++◌, ℕ, ◌+◌, ◌-◌, ◌*◌, ◌≤◌, arith, length, take, drop, length-append, length-drop}
 use Rattle.std.proofs.Common.{length-take-le, take_at}
-use Rattle.rules.specs.Prelude.{Indirect, Security, Ty, size_t, raise_t, Side, type_width, Bytes, sides, encode_type}
-use Rattle.rules.specs.Prelude.{left, right}
+use Rattle.calculus.specs.Security.{Indirect, Security}
+use Rattle.calculus.specs.Types.{Ty, size_t, raise_t}
+use Rattle.calculus.specs.Terms.{Side}
+use Rattle.rules.specs.Limits.{type_width}
+use Rattle.rules.specs.Answer.{Bytes}
+use Rattle.rules.specs.Types.{sides, encode_type}
+use Rattle.rules.specs.Typing.{left, right}
 use Rattle.types.specs.Held.{Held, kind_of_type, left_of, right_of}
 use Rattle.types.proofs.Parts.{type_length, type_positive, left_held, right_held, sides_size}
 use Rattle.inference.specs.Stages.{type_side}

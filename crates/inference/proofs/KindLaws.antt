@@ -1,6 +1,9 @@
 -- A type's kind is told by the number of its first record.
-use Rattle.std.proofs.Common.{◌≡◌, nat_eq, arith}
-use Rattle.rules.specs.Prelude.{Ty}
+use Rattle.std.proofs.Common.{◌≡◌, refl, sym, nat_eq, ne_eqb, arith}
+use Rattle.calculus.specs.Types.{one, number, Former, sum, product, function, Ty, leaf, node}
+use Rattle.calculus.specs.Numbers.{is_unit}
+use Rattle.rules.specs.Types.{leaf_kind, former_kind}
+use Rattle.rules.specs.Typing.{has_form, is_number}
 use Rattle.types.specs.Held.{kind_of_type}
 use Rattle.types.specs.Kinds.{type_kind_number}
 use Rattle.types.specs.declared.Kind.{Kind}

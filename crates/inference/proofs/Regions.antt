@@ -3,14 +3,16 @@ use Rattle.std.proofs.Common.{Result, Ok, ◌≡◌, refl, ◌∙◌, subst, Lis
 use Rattle.std.proofs.Common.{◌*◌, ◌≤◌, ◌<◌, arith, length, take, drop, get_or, length-append, length-drop}
 use Rattle.std.proofs.Common.{take-append-drop, drop_at, drop-drop}
 use borrow.Rule.Slice.PartMut.{put_mid}
-use Rattle.rules.specs.Prelude.{Ty, size_t, type_limit, answer_length, type_width, Bytes, Answer, accepted, encode_type}
-use Rattle.rules.specs.Prelude.{no_type, sides, left, right}
+use Rattle.calculus.specs.Types.{Ty, size_t, type_limit}
+use Rattle.rules.specs.Limits.{answer_length, type_width}
+use Rattle.rules.specs.Answer.{Bytes, Answer, accepted}
+use Rattle.rules.specs.Types.{encode_type, no_type, sides}
+use Rattle.rules.specs.Typing.{left, right}
 use Rattle.types.specs.Held.{Held, kind_of_type}
 use Rattle.answer.specs.declared.Refusal.{Refusal}
 use Rattle.memory.specs.Splice.{splice}
 use Rattle.memory.proofs.Laws.{length_splice, drop_past}
-use Rattle.inference.specs.Memory.{high, Slot, Sized, HoldsContext, Wrote, Meets, meets_type, meets_refusal, Gives}
-use Rattle.inference.specs.Memory.{Entered, Beside}
+use Rattle.inference.specs.Memory.{high, Slot, Sized, HoldsContext, Wrote, Meets, meets_type, meets_refusal, Gives, Entered, Beside}
 use Rattle.inference.proofs.Front.{held_take, rule_sides_size}
 use Rattle.types.proofs.Parts.{type_length}
 use Rattle.std.proofs.lemmas.Grind.{common_steps}

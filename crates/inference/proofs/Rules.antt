@@ -1,10 +1,15 @@
 -- What the rule functions ask, and what they leave in the work buffer.
-use Rattle.std.proofs.Common.{◌≡◌, refl, ◌∙◌, Bool, true, eqb-true, nat_le, Result, Ok, Err, IsErrAnd, List, ◌++◌}
+use Rattle.std.proofs.Common.{◌≡◌, refl, ◌∙◌, Bool, true, cond, eqb-true, nat_le, Result, Ok, Err, IsErrAnd, List, ◌++◌}
 use Rattle.std.proofs.Common.{ℕ, ◌+◌, ◌*◌, ◌≤◌, ◌<◌, arith, length, drop, drop_at}
-use Rattle.rules.specs.Prelude.{Property, Indirect, Security, Former, sum, product, function, Ty, node, size_t, top}
-use Rattle.rules.specs.Prelude.{raise_t, type_limit, below, nearest_type, finds_own, answer_length, type_width, Bytes}
-use Rattle.rules.specs.Prelude.{Answer, accepted, refused, ◌>>=◌, ◌>>◌, ask, former_kind, type_record, sides}
-use Rattle.rules.specs.Prelude.{encode_type, left, right, q24, found_or}
+use Rattle.calculus.specs.Security.{Property, Indirect, Security}
+use Rattle.calculus.specs.Types.{Former, sum, product, function, Ty, node, size_t, top, raise_t, type_limit}
+use Rattle.calculus.specs.Subtyping.{below}
+use Rattle.calculus.specs.Common.{nearest_type}
+use Rattle.calculus.specs.Typing.{finds_own}
+use Rattle.rules.specs.Limits.{answer_length, type_width}
+use Rattle.rules.specs.Answer.{Bytes, Answer, accepted, refused, ◌>>=◌, ◌>>◌, ask}
+use Rattle.rules.specs.Types.{former_kind, type_record, sides, encode_type}
+use Rattle.rules.specs.Typing.{left, right, q22, q24, found_or}
 use Rattle.types.specs.Held.{kind_of_type}
 use Rattle.types.specs.Kinds.{type_kind_number}
 use Rattle.types.specs.declared.Kind.{Kind}
@@ -24,8 +29,12 @@ use Rattle.inference.proofs.Regions.{high_past, written}
 
 -- of a case's branches, and its result type
 module _ (S : Security) (p : ℕ) (tab : ℕ → Ty) (i : ℕ) (t u : Ty) where
+  result_as : (b : Bool) → finds_own i ≡ b
+      → result_type S tab p i t u ≡ ◌>>◌ (cond b (accepted tt) (q22 S p u (tab i))) (cond b (found_or p (nearest_type S below t u)) (accepted (tab i)))
+  result_as b e = rw e
+
   pub result_own : finds_own i ≡ true → result_type S tab p i t u ≡ found_or p (nearest_type S below t u)
-  result_own e = rw e
+  result_own e = result_as true e
 
   pub case_raises : (by : Indirect) → case_type S tab p i t u by ≡ ◌>>=◌ (result_type S tab p i t u) (λ r. accepted (raise_t S r by))
   case_raises by = grind arith

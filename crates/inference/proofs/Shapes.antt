@@ -1,9 +1,13 @@
 -- A node's record tells its kind, its fields and its operands.
 use Rattle.std.proofs.Common.{◌≡◌, refl, sym, ap, ◌∙◌, cond, List, [], append-nil, ◌⊎◌, inl, inr, ℕ, ◌≤◌, length, arith}
-use Rattle.rules.specs.Prelude.{Property, Indirect, Security, Ty, Side, Operation, plus, less, Term, pair, inj, app}
-use Rattle.rules.specs.Prelude.{proj, case, reckon, script_width, type_width, Bytes, accepted, kind, r, ir, number, c}
-use Rattle.rules.specs.Prelude.{ic, arity, encode, depth, make}
-use Rattle.rules.proofs.Prelude.{encode_length, size_positive, term_code}
+use Rattle.calculus.specs.Security.{Property, Indirect, Security}
+use Rattle.calculus.specs.Types.{Ty}
+use Rattle.calculus.specs.Terms.{Side, Operation, plus, less, Term, unit, pair, inj, app, proj, case, reckon, first}
+use Rattle.rules.specs.Limits.{script_width, type_width}
+use Rattle.rules.specs.Answer.{Bytes, accepted}
+use Rattle.rules.specs.Script.{kind, r, ir, number, c, ic, arity, encode, depth, make}
+use Rattle.rules.proofs.PrefixLaws.{encode_length, size_positive}
+use Rattle.rules.proofs.TermCode.{term_code}
 use Rattle.inference.specs.Operands.{operand_count}
 use Rattle.records.specs.Kinds as kinds
 use Rattle.records.specs.Kinds.{is_injection}

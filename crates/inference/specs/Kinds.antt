@@ -1,6 +1,8 @@
 -- What the rules ask of a type for each kind that its first record may have.
 use Rattle.std.specs.Prelude.{Bool}
-use Rattle.rules.specs.Prelude.{sum, product, function, Ty, is_unit, has_form, is_number}
+use Rattle.calculus.specs.Types.{sum, product, function, Ty}
+use Rattle.calculus.specs.Numbers.{is_unit}
+use Rattle.rules.specs.Typing.{has_form, is_number}
 use Rattle.types.specs.declared.Kind.{Kind}
 use Rattle.types.specs.declared.Kind.TheVariants.{Unit, Sum, Pair, Function, Number}
 

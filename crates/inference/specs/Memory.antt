@@ -1,8 +1,12 @@
 -- The work buffer: the found type in front, the binders' types in slots at the high end, the nearest binder's lowest.
 use Rattle.std.specs.Prelude.{◌≡◌, List, ℕ, ◌+◌, ◌-◌, ◌*◌, ◌≤◌, ◌<◌, Result, Ok, Err, length, drop, get_or}
-use Rattle.rules.specs.Prelude.{Ty, size_t, type_limit, Term, Bytes, Answer, accepted, refused, type_width}
-use Rattle.rules.specs.Prelude.{script_limit, answer_length, type_count, no_type, sides, type_at, encode, size, depth}
-use Rattle.rules.specs.Prelude.{left, right}
+use Rattle.calculus.specs.Types.{Ty, size_t, type_limit}
+use Rattle.calculus.specs.Terms.{Term}
+use Rattle.rules.specs.Answer.{Bytes, Answer, accepted, refused}
+use Rattle.rules.specs.Limits.{type_width, script_limit, answer_length}
+use Rattle.rules.specs.Types.{type_count, no_type, sides, type_at}
+use Rattle.rules.specs.Script.{encode, size, depth}
+use Rattle.rules.specs.Typing.{left, right}
 use Rattle.types.specs.Held.{Held, kind_of_type}
 use Rattle.inference.specs.Operands.{WellFormed}
 use Rattle.answer.specs.Numbers.{question_number}

@@ -1,7 +1,11 @@
 -- How many operands a term has (`records` says which they are), and what it may name.
 use Rattle.std.specs.Prelude.{◌≡◌, false, ℕ, suc, ◌<◌}
-use Rattle.rules.specs.Prelude.{sum, function, finds_own, plus, less, Term, var, unit, lam, pair, inj, app, proj, case}
-use Rattle.rules.specs.Prelude.{protect, mu, literal, reckon, Bytes, former_kind, type_count, type_kind}
+use Rattle.calculus.specs.Types.{sum, function}
+use Rattle.calculus.specs.Typing.{finds_own}
+use Rattle.calculus.specs.Terms.{plus, less, Term, var, unit, lam, pair, inj, app, proj, case, protect, mu, literal}
+use Rattle.calculus.specs.Terms.{reckon}
+use Rattle.rules.specs.Answer.{Bytes}
+use Rattle.rules.specs.Types.{former_kind, type_count, type_kind}
 
 -- the number of operands
 unfoldable pub operand_count : Term → ℕ

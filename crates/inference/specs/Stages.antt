@@ -1,12 +1,17 @@
 -- The rules of `typing`, taken apart at the operands: what is asked before, between and after them.
 use Rattle.std.specs.Prelude.{◌≡◌, true, false, if◌then◌else◌, List, ◌∷◌, ℕ, ◌+◌, ◌*◌, ◌≤◌, ◌<◌, length, get_or, drop}
-use Rattle.rules.specs.Prelude.{Property, Indirect, Security, one, sum, product, function, Ty, leaf, node, top, raise_t}
-use Rattle.rules.specs.Prelude.{finds_own, Side, first, second, Operation, Term, var, unit, lam, pair, inj, app, proj}
-use Rattle.rules.specs.Prelude.{case, protect, mu, literal, reckon, of_both, Bytes, Answer, accepted, ◌>>=◌, ◌>>◌, ask}
-use Rattle.rules.specs.Prelude.{type_width, script_width, answer_length, no_type, type_count, kind, number, own_at}
-use Rattle.rules.specs.Prelude.{encode, properties_of, left, right, q21, q22, q23, q24, q22_of_branch, branch_type}
-use Rattle.rules.specs.Prelude.{number_result}
-use Rattle.calculus.specs.Types.{number as number_leaf}
+use Rattle.calculus.specs.Security.{Property, Indirect, Security}
+use Rattle.calculus.specs.Types.{one, number as number_leaf, sum, product, function, Ty, leaf, node, top, raise_t}
+use Rattle.calculus.specs.Typing.{finds_own}
+use Rattle.calculus.specs.Terms.{Side, first, second, Operation, Term, var, unit, lam, pair, inj, app, proj, case}
+use Rattle.calculus.specs.Terms.{protect, mu, literal, reckon}
+use Rattle.calculus.specs.Numbers.{of_both}
+use Rattle.rules.specs.Answer.{Bytes, Answer, accepted, ◌>>=◌, ◌>>◌, ask}
+use Rattle.rules.specs.Limits.{type_width, script_width, answer_length}
+use Rattle.rules.specs.Types.{no_type, type_count}
+use Rattle.rules.specs.Script.{kind, number, own_at, encode}
+use Rattle.rules.specs.Groups.{properties_of}
+use Rattle.rules.specs.Typing.{left, right, q21, q22, q23, q24, q22_of_branch, branch_type, number_result}
 use Rattle.types.specs.Held.{Held}
 use Rattle.types.specs.declared.Kind.{Kind}
 use Rattle.types.specs.declared.Kind.TheVariants.{Sum, Pair, Function, Number}

@@ -155,10 +155,7 @@ fn may_read(groups: &[u8], kind: types::Kind, r: Reader, place: usize, work: &[u
     let of_kind = types::kind_of(work) == kind;
     let own = types::reader(work);
     let readable = own.at_or_below(groups, r);
-    let former = answer::ask(Question::Former, place, of_kind);
-    let Ok(()) = former else {
-        return former;
-    };
+    answer::ask(Question::Former, place, of_kind)?;
     answer::ask(Question::Reader, place, readable)
 }
 
@@ -235,10 +232,7 @@ fn may_recur(groups: &[u8], t: &[u8], caller: Reader, place: usize) -> Checked
 {
     let called = types::reader(t).at_or_below(groups, caller);
     let absorbed = absorbs(groups, t, caller);
-    let read = answer::ask(Question::Reader, place, called);
-    let Ok(()) = read else {
-        return read;
-    };
+    answer::ask(Question::Reader, place, called)?;
     answer::ask(Question::Recursion, place, absorbed)
 }
 

@@ -2,19 +2,31 @@
 use Rattle.std.proofs.Common.{◌≡◌, refl, sym, ap, ◌∙◌, true, false, ◌&&◌, ℕ, zero, suc, ◌+◌, ◌/◌, ◌%◌, ◌^◌, ◌<◌, min}
 use Rattle.std.proofs.Common.{arith, div-one, mod-lt, zero-lt-suc, one-add, add-one, eq-eqb, nat_eq, shr-shr, shr_lt}
 use Rattle.std.proofs.Common.{bit_and}
-use Rattle.std.proofs.lemmas.Bool.Decides.{nat_tests}
+use Rattle.std.proofs.Math.Bool.{false≢true}
 use lib.Bits.{and_shr, and_step}
 use lib.Count.{count_trailing_zeros, under}
-use Rattle.rules.specs.Prelude.{bit}
+use Rattle.rules.specs.Groups.{bit}
 
 pub digit_lt : (x : ℕ) → x % 2 < 2
 digit_lt x = mod-lt x (zero-lt-suc 1)
 
 digit_same : (a b : ℕ) → a < 2 → b < 2 → nat_eq a 1 ≡ nat_eq b 1 → a ≡ b
-digit_same a b l m e = grind (arith, nat_tests)
+digit_same zero zero l m e = refl
+digit_same zero (suc zero) l m e = absurd (false≢true e)
+digit_same (suc zero) zero l m e = absurd (false≢true (sym e))
+digit_same (suc zero) (suc zero) l m e = refl
+digit_same zero (suc (suc b)) l m e = absurd (omega arith)
+digit_same (suc zero) (suc (suc b)) l m e = absurd (omega arith)
+digit_same (suc (suc a)) b l m e = absurd (omega arith)
 
 digit_both : (a b : ℕ) → a < 2 → b < 2 → nat_eq (min a b) 1 ≡ (nat_eq a 1 && nat_eq b 1)
-digit_both a b l m = grind (arith, nat_tests)
+digit_both zero zero l m = refl
+digit_both zero (suc zero) l m = refl
+digit_both (suc zero) zero l m = refl
+digit_both (suc zero) (suc zero) l m = refl
+digit_both zero (suc (suc b)) l m = absurd (omega arith)
+digit_both (suc zero) (suc (suc b)) l m = absurd (omega arith)
+digit_both (suc (suc a)) b l m = absurd (omega arith)
 
 -- the common bits of two numbers
 pub bit_of_and : (a b h : ℕ) → bit (bit_and a b) h ≡ (bit a h && bit b h)

@@ -1,8 +1,7 @@
 -- The bits of a word are its binary digits.
 use Rattle.std.proofs.Common.{◌≡◌, refl, ap, ◌∙◌, Bool, true, false, cond, ℕ, zero, suc, ◌+◌, ◌*◌, ◌/◌, ◌%◌, ◌^◌, ◌<◌}
 use Rattle.std.proofs.Common.{arith, eq-eqb, ne_eqb, nat_eq}
-use Rattle.std.proofs.lemmas.Bool.Decides.{nat_tests}
-use Rattle.rules.specs.Prelude.{bit}
+use Rattle.rules.specs.Groups.{bit}
 use Rattle.lattice.proofs.Bits.{bit_suc, bit_zero, half_lt, digit_lt}
 use Rattle.lattice.specs.Digits.{word_of, BitsAreDigits, BitsOfWords}
 
@@ -13,7 +12,12 @@ word_same (suc n) a b e = rw (e 0, word_same n (λ h. a (suc h)) (λ h. b (suc h
 
 -- the lowest digit, as a number
 low : (x : ℕ) → cond (nat_eq (x % 2) 1) 1 0 ≡ x % 2
-low x = grind (arith, nat_tests, digit_lt x)
+low x = go (x % 2) (digit_lt x)
+  where
+    go : (d : ℕ) → d < 2 → cond (nat_eq d 1) 1 0 ≡ d
+    go zero l = refl
+    go (suc zero) l = refl
+    go (suc (suc d)) l = absurd (omega arith)
 
 every_word : (n word : ℕ) → word < 2 ^ n → word_of (bit word) n ≡ word
 unfolding word_of

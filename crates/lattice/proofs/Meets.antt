@@ -2,7 +2,9 @@
 use Rattle.std.proofs.Common.{◌≡◌, ap, sym, ◌∙◌, Bool, true, false, ◌&&◌, ℕ, zero, suc, ◌-◌, ◌≤◌, ◌<◌, arith}
 use Rattle.std.proofs.Math.Decide.{ℕ_discrete}
 use Rattle.std.proofs.Math.Option.{some}
-use Rattle.rules.specs.Prelude.{Bytes, last_below, group_limit, row, bit, below_both, meet, or_zero}
+use Rattle.rules.specs.Answer.{Bytes, last_below}
+use Rattle.rules.specs.Limits.{group_limit}
+use Rattle.rules.specs.Groups.{row, bit, below_both, meet, or_zero}
 use Rattle.lattice.proofs.Words.{bit_of_zero}
 
 -- numbers that fail are left out of the search

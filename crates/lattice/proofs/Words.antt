@@ -7,8 +7,10 @@ use Rattle.std.proofs.Math.Option.{none, some}
 use Rattle.std.proofs.Math.Pow.{pow-lt}
 use lib.Bits.{and_lt}
 use lib.Count.{count_trailing_zeros, trailing_of_zero}
-use Rattle.rules.specs.Prelude.{Bytes, first_below, group_limit, row, bit, in_both_rows, join, or_zero}
-use Rattle.rules.proofs.Prelude.{from_none, from_some}
+use Rattle.rules.specs.Answer.{Bytes, first_below}
+use Rattle.rules.specs.Limits.{group_limit}
+use Rattle.rules.specs.Groups.{row, bit, in_both_rows, join, or_zero}
+use Rattle.rules.proofs.Search.{from_none, from_some}
 use Rattle.lattice.proofs.Bits.{bit_of_and, trailing_set, trailing_clear, trailing_lt}
 
 -- a word has 32 bits

@@ -1,6 +1,6 @@
 -- What bit h of a word is, apart from how it is taken: the binary digit of weight 2^h.
 use Rattle.std.specs.Prelude.{◌≡◌, Bool, if◌then◌else◌, ℕ, zero, suc, ◌+◌, ◌*◌, ◌^◌, ◌<◌}
-use Rattle.rules.specs.Prelude.{bit}
+use Rattle.rules.specs.Groups.{bit}
 
 -- the word of n digits, the lowest first
 unfoldable pub word_of : (ℕ → Bool) → ℕ → ℕ

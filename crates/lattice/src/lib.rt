@@ -244,16 +244,15 @@ fn meet(groups: &[u8], g: u8, h: u8) -> u8
 
 // g ⊓ by and h ⊓ also. One search serves both where they are the same, as a group and the indirect one beside it
 // mostly are.
-fn meet_both<G: Group, H: Group>(groups: &[u8], g: G, by: G, h: H, also: H) -> (G, H)
-    ensures first { G.number result.0 ≡ meet groups.now (G.number g) (G.number by) }
-    ensures second { H.number result.1 ≡ meet groups.now (H.number h) (H.number also) }
+fn meet_both(groups: &[u8], g: u8, by: u8, h: u8, also: u8) -> (u8, u8)
+    ensures first { result.0 ≡ meet groups.now g by }
+    ensures second { result.1 ≡ meet groups.now h also }
 {
-    let first = meet(groups, g.number(), by.number());
-    if (g.number() == h.number()) & (by.number() == also.number()) {
-        return (G::numbered(first), H::numbered(first));
+    let first = meet(groups, g, by);
+    if (g == h) & (by == also) {
+        return (first, first);
     }
-    let second = meet(groups, h.number(), also.number());
-    (G::numbered(first), H::numbered(second))
+    (first, meet(groups, h, also))
 }
 
 impl Reader {
@@ -317,7 +316,9 @@ impl Property {
     {
         let r = self.r.join(groups, property.r);
         let ir = self.ir.join(groups, property.ir);
-        let (c, ic) = meet_both(groups, self.c, property.c, self.ic, property.ic);
+        let (c, ic) = meet_both(groups, self.c.0, property.c.0, self.ic.0, property.ic.0);
+        let c = Creator(c);
+        let ic = IndirectCreator(ic);
         Property { r, ir, c, ic }
     }
 
@@ -326,7 +327,9 @@ impl Property {
         ensures { said_property result
             ≡ (properties_of groups.now).meet (said_property self) (said_property property) }
     {
-        let (r, ir) = meet_both(groups, self.r, property.r, self.ir, property.ir);
+        let read = meet_both(groups, self.r.0, property.r.0, self.ir.0, property.ir.0);
+        let r = Reader(read.0);
+        let ir = Indirect(read.1);
         let c = self.c.join(groups, property.c);
         let ic = self.ic.join(groups, property.ic);
         Property { r, ir, c, ic }
@@ -338,7 +341,9 @@ impl Property {
     {
         let r = self.r.joined(groups, by.ir);
         let ir = self.ir.join(groups, by.ir);
-        let (c, ic) = meet_both(groups, self.c, Creator(by.ic.0), self.ic, by.ic);
+        let made = meet_both(groups, self.c.0, by.ic.0, self.ic.0, by.ic.0);
+        let c = Creator(made.0);
+        let ic = IndirectCreator(made.1);
         Property { r, ir, c, ic }
     }
 

@@ -2,9 +2,11 @@
 use Rattle.std.proofs.Common.{Bool, true, false, cond, nat_eq, ◌≡◌, ℕ, ◌+◌, ◌*◌, ◌/◌, ◌≤◌, ◌<◌, [], ◌∷◌, ◌++◌, length}
 use Rattle.std.proofs.Common.{get_or, refl, ap, ◌∙◌, arith, length-append}
 use Rattle.std.proofs.lemmas.Fmt.{length-decimal-le}
-use Rattle.rules.specs.Prelude.{Bytes, Octets, sheet_width, text, decimal_digits, word_and_number, refusal_line}
-use Rattle.rules.specs.Prelude.{accepted_line, run_line, printed_number, sheet_line, sheet_lines}
-use Rattle.rules.proofs.Prelude.{octets_drop}
+use Rattle.rules.specs.Answer.{Bytes, Octets}
+use Rattle.rules.specs.Limits.{sheet_width}
+use Rattle.rules.specs.Report.{text, decimal_digits, word_and_number, refusal_line, accepted_line, run_line}
+use Rattle.rules.specs.Report.{printed_number, sheet_line, sheet_lines}
+use Rattle.rules.proofs.Octets.{octets_drop}
 use Rattle.text.proofs.Digits.{decimal_is, decimal_length}
 use Rattle.text.proofs.Words.{word_length}
 

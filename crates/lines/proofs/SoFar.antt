@@ -1,6 +1,8 @@
 -- The lines of a sheet's first records, and those that follow.
 use Rattle.std.proofs.Common.{◌≡◌, ◌<◌, [], ◌++◌, length, refl, sym, ap, ◌∙◌, append_assoc, append-nil}
-use Rattle.rules.specs.Prelude.{Bytes, sheet_width, sheet_lines}
+use Rattle.rules.specs.Answer.{Bytes}
+use Rattle.rules.specs.Limits.{sheet_width}
+use Rattle.rules.specs.Report.{sheet_lines}
 use Rattle.memory.specs.Written.{Room, Written}
 use Rattle.memory.specs.declared.Writer.{Writer}
 use Rattle.memory.proofs.Placed.{nothing, then, room_first, room_next}

@@ -1,8 +1,9 @@
 -- Laws of writing over a piece.
-use Rattle.std.proofs.Common.{◌≡◌, List, [], ◌++◌, ℕ, ◌+◌, ◌≤◌, arith, length, take, drop, append_assoc}
+use Rattle.std.proofs.Common.{◌≡◌, List, [], ◌++◌, ℕ, ◌+◌, ◌-◌, ◌≤◌, arith, length, take, drop, append_assoc}
+use Rattle.std.proofs.Common.{length-take-le, drop-drop}
 use Rattle.std.proofs.lemmas.Grind.{common_steps}
 use Rattle.std.proofs.lemmas.Slice.{drop-append-drop}
-use Rattle.std.proofs.lemmas.List.{take_at}
+use Rattle.std.proofs.lemmas.List.{drop-append-le, drop-take, take_at}
 use Rattle.memory.specs.Splice.{splice}
 
 pub length_splice : (at : ℕ) (x w : List ℕ) → at + length x ≤ length w → length (splice at x w) ≡ length w

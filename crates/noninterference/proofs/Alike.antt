@@ -1,13 +1,16 @@
 -- Two terms that are alike come to values that are alike: induction on how they come to them.
-use Rattle.std.proofs.Common.{rules}
 use Rattle.std.proofs.Common.{◌≡◌, ℕ, suc, zero, Bool, true, false, ◌||◌, cond, nat_eq, IsTrue, refl, ap, arith}
 use Rattle.std.proofs.Math.Bool.{false≢true}
-use Rattle.calculus.specs.Prelude.{Property, Reader, Indirect, Security, Laws, Ty, top, secure_t, Side, choose, plus}
-use Rattle.calculus.specs.Prelude.{less, Operation, Term, var, unit, lam, pair, inj, app, proj, case, protect, mu}
-use Rattle.calculus.specs.Prelude.{literal, reckon, is_value, substitute, raise_value, side, less_side, of_both}
-use Rattle.calculus.specs.Prelude.{reckon_result, unrolled_function, Contracts, c_app, c_proj, c_case, c_mu, c_reckon}
-use Rattle.calculus.specs.Prelude.{c_protect, Table}
-use Rattle.calculus.proofs.Prelude.{top_secure, secure_parts, side_secure, of_both_secure, choose_each, choose_both}
+use Rattle.calculus.specs.Security.{Property, Reader, Indirect, Security, Laws}
+use Rattle.calculus.specs.Types.{Ty, leaf, node, top, secure_t}
+use Rattle.calculus.specs.Terms.{Side, choose, plus, less, Operation, Term, var, unit, lam, pair, inj, app, proj, case}
+use Rattle.calculus.specs.Terms.{protect, mu, literal, reckon, is_value, substitute, raise_value}
+use Rattle.calculus.specs.Numbers.{side, less_side, of_both, reckon_result}
+use Rattle.calculus.specs.Reduction.{unrolled_function, Contracts, c_app, c_proj, c_case, c_mu, c_reckon, c_protect}
+use Rattle.calculus.specs.Typing.{Table}
+use Rattle.calculus.proofs.SecureTyping.{top_secure, secure_parts, side_secure}
+use Rattle.calculus.proofs.Numbers.{of_both_secure}
+use Rattle.calculus.proofs.Sides.{choose_each, choose_both}
 use Rattle.noninterference.specs.Hidden.{Observer, dark, Alike, both_dark, variables, units, functions, pairs}
 use Rattle.noninterference.specs.Hidden.{injections, applications, projections, cases, protects, recursions, literals}
 use Rattle.noninterference.specs.Hidden.{reckonings, Labelled, Observes, AlikeRunsEndAlike}
@@ -22,7 +25,8 @@ or_left a b h = rw h refl
 
 -- the second of two tests, exchanged
 pub or_map : (a : Bool) {b c : Bool} → (IsTrue b → IsTrue c) → IsTrue (a || b) → IsTrue (a || c)
-or_map a f x = grind arith
+or_map true f h = refl
+or_map false f h = f h
 
 -- each of two
 or_both : {a b c d : Bool} → (IsTrue a → IsTrue c) → (IsTrue b → IsTrue d) → IsTrue (a || b) → IsTrue (c || d)
@@ -74,7 +78,8 @@ module _ (O : Observer) where
   alike_subst n p (reckonings w q r) = reckonings w (alike_subst n p q) (alike_subst n p r)
 
 side_top : (S : Security) (d : Side) (t : Ty) → IsTrue (secure_t S t) → IsTrue (S.secure (top (side d t)))
-side_top S d t h = search (rules, top_secure, side_secure, secure_parts)
+side_top S d (leaf b k) h = top_secure S (leaf b k) h
+side_top S d (node f k s t) h = top_secure S _ (side_secure d (secure_parts S f k s t h))
 
 -- What a step and a run keep of a term: labels in order, and that it is dark.
 record Kept (S : Security) (O : Observer) (e e' : Term) : Type 0 where
@@ -93,7 +98,12 @@ module _ {S : Security} {tab : ℕ → Ty} {O : Observer} (L : Laws S) (T : Tabl
 
   both_hide : (w : Reader) (k l : Property) → IsTrue (S.secure k) → IsTrue (S.permits k w) → IsTrue (S.secure l) → IsTrue (S.permits l w)
       → IsTrue (O.foreign w || (O.hidden k || O.hidden l)) → IsTrue (O.hidden (of_both S w k l))
-  both_hide w k l h m h' m' x = grind arith
+  both_hide w k l h m h' m' x =
+      let f = L.fresh_secure k w m in
+      let i = L.influence_secure k w h m in
+      let once = B.raised (S.fresh w) (S.influence k w) f i in
+      let twice = B.raised _ (S.influence l w) (L.raise_secure (S.fresh w) (S.influence k w) f i) (L.influence_secure l w h' m') in
+      grind (arith, B.read k w h m, B.read l w h' m', once, twice, x)
 
   contracts_keep : {e c : Term} → Contracts S tab e c → Labelled S e → Kept S O e c
   unfolding dark reckon_result
@@ -228,4 +238,7 @@ module _ {S : Security} {tab : ℕ → Ty} {O : Observer} (L : Laws S) (T : Tabl
 
 pub alike_runs_end_alike : AlikeRunsEndAlike
 unfolding AlikeRunsEndAlike
-alike_runs_end_alike S tab O e e' v v' L T B p p' a x x' = search (rules, evaluates, alike, labelled_too)
+alike_runs_end_alike S tab O e e' v v' L T B p p' a x x' =
+    let y = evaluates x.runs x.ended in
+    let y' = evaluates x'.runs x'.ended in
+    (alike L T B y y' a p p', labelled_too L T B y p, labelled_too L T B y' p')

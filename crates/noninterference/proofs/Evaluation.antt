@@ -1,12 +1,15 @@
 -- A run to a value by the form of its term: its parts come to values, and what those contract to comes to the whole's.
 use Rattle.std.proofs.Common.{ℕ}
 use Rattle.std.proofs.Math.Bool.{false≢true}
-use Rattle.calculus.specs.Prelude.{Property, Reader, Indirect, Security, Ty, Side, Operation, Term, unit, lam, pair}
-use Rattle.calculus.specs.Prelude.{inj, app, proj, case, protect, mu, literal, reckon, is_value, Contracts, c_app}
-use Rattle.calculus.specs.Prelude.{c_proj, c_case, c_mu, c_reckon, c_protect, Context, hole, app_left, app_right}
-use Rattle.calculus.specs.Prelude.{in_proj, in_inj, pair_left, pair_right, in_protect, in_case, reckon_left}
-use Rattle.calculus.specs.Prelude.{reckon_right, plug, Runs, runs_end, runs_on}
-use Rattle.calculus.proofs.Prelude.{and_left, and_right}
+use Rattle.calculus.specs.Security.{Property, Reader, Indirect, Security}
+use Rattle.calculus.specs.Types.{Ty}
+use Rattle.calculus.specs.Terms.{Side, Operation, Term, unit, lam, pair, inj, app, proj, case, protect, mu, literal}
+use Rattle.calculus.specs.Terms.{reckon, is_value}
+use Rattle.calculus.specs.Reduction.{Contracts, c_app, c_proj, c_case, c_mu, c_reckon, c_protect, Context, hole}
+use Rattle.calculus.specs.Reduction.{app_left, app_right, in_proj, in_inj, pair_left, pair_right, in_protect, in_case}
+use Rattle.calculus.specs.Reduction.{reckon_left, reckon_right, plug}
+use Rattle.calculus.specs.Runs.{Runs, runs_end, runs_on}
+use Rattle.calculus.proofs.Booleans.{and_left, and_right}
 use Rattle.std.specs.Prelude.{IsTrue}
 
 pub data Evaluates (S : Security) (tab : ℕ → Ty) : Term → Term → Type 0 where

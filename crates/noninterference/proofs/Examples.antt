@@ -1,10 +1,13 @@
 -- The conditions of nothing learned at work, over two groups 0 ⊑ 1: each line is computed.
 use Rattle.std.proofs.Common.{◌≡◌, refl, true, false, ◌&&◌, [], ◌∷◌, ℕ, min, max, nat_le, nat_lt}
 use Rattle.std.proofs.Math.Option.{some}
-use Rattle.calculus.specs.Prelude.{Property, Groups, properties, one, number, sum, product, function, Ty, leaf, node}
-use Rattle.calculus.specs.Prelude.{size_t, first, second, less, unit, pair, inj, literal, literal_of, reckon_result}
-use Rattle.calculus.specs.Prelude.{moved, step, operand_first, if_permitted, calculate, HasType, t_pair, t_proj}
-use Rattle.calculus.specs.Prelude.{t_literal, infer}
+use Rattle.calculus.specs.Security.{Property}
+use Rattle.calculus.specs.Groups.{Groups, properties}
+use Rattle.calculus.specs.Types.{one, number, sum, product, function, Ty, leaf, node, size_t}
+use Rattle.calculus.specs.Terms.{first, second, less, unit, pair, inj, literal}
+use Rattle.calculus.specs.Numbers.{literal_of, reckon_result}
+use Rattle.calculus.specs.Reduction.{moved, step, operand_first, if_permitted, calculate}
+use Rattle.calculus.specs.Typing.{HasType, t_pair, t_proj, t_literal, infer}
 use Rattle.noninterference.specs.Places.{Place, whole, in_pair_left, at_proj, in_reckon_left, put, shown_kind}
 use Rattle.noninterference.specs.Places.{shown_literal, shown_records, plain, type_within}
 use Rattle.noninterference.specs.Noninterference.{SamePlace}

@@ -1,19 +1,26 @@
 -- Nothing is learned from what you may not see, nor from what others made than those whom you trust.
 use Rattle.std.proofs.Common.{◌≡◌, refl, sym, ap, Bool, ◌&&◌, not, [], ℕ, arith, false, IsTrue}
 use Rattle.std.proofs.Math.Bool.{false≢true}
-use Rattle.calculus.specs.Prelude.{Property, Security, Laws, Groups, Lattice, properties, Leaf, sum, product, function}
-use Rattle.calculus.specs.Prelude.{Ty, leaf, node, top, below, Term, is_value, Table}
+use Rattle.calculus.specs.Security.{Property, Security, Laws}
+use Rattle.calculus.specs.Groups.{Groups, Lattice, properties}
+use Rattle.calculus.specs.Types.{Leaf, sum, product, function, Ty, leaf, node, top}
+use Rattle.calculus.specs.Subtyping.{below}
+use Rattle.calculus.specs.Terms.{Term, is_value}
+use Rattle.calculus.specs.Typing.{Table}
 use Rattle.noninterference.specs.Places.{Place, put, shown_records, plain}
 use Rattle.noninterference.specs.Noninterference.{Exchanged, EndsInValue, NothingLearned, OneValue, OneMade}
-use Rattle.calculus.proofs.Prelude.{and_left, and_right, choose_each, choose_both, Directed, d_node, directed_formed}
-use Rattle.calculus.proofs.Prelude.{infer_inferred, sc_empty, SecureParts, secure_parts, side_secure, typed_secure}
-use Rattle.calculus.proofs.Prelude.{n_empty, typed_inferred, properties_laws}
+use Rattle.calculus.proofs.Booleans.{and_left, and_right}
+use Rattle.calculus.proofs.Sides.{choose_each, choose_both}
+use Rattle.calculus.proofs.Directed.{Directed, d_node, directed_formed}
+use Rattle.calculus.proofs.Inference.{infer_inferred}
+use Rattle.calculus.proofs.SecureTyping.{sc_empty, SecureParts, secure_parts, side_secure, typed_secure}
+use Rattle.calculus.proofs.Completeness.{n_empty, typed_inferred}
+use Rattle.calculus.proofs.Properties.{properties_laws}
 use Rattle.noninterference.proofs.Related.{Related}
 use Rattle.noninterference.proofs.Observing.{Sight, Alike, a_unit, a_literal, a_lam, a_pair, a_inj, related_secure}
 use Rattle.noninterference.proofs.Observing.{observed}
 use Rattle.noninterference.proofs.Reading.{lifted}
 use Rattle.noninterference.proofs.PlacedTerms.{place_related}
-use Rattle.noninterference.proofs.Evaluation.{evaluates}
 use Rattle.noninterference.proofs.Indistinguishable.{related_ends}
 
 node_plain : (f : Property → Bool) (l : Property) (s t : Ty) → IsTrue (f l && (plain f s && plain f t)) → IsTrue (f l) × IsTrue (plain f s) × IsTrue (plain f t)
@@ -74,7 +81,7 @@ one_end {seen = seen} {P = P} {a = a} {b = b} {v = v} {v' = v'} {s = s} {t = t} 
     let p = infer_inferred a s h.first_reported in
     let q = infer_inferred b s h.second_reported in
     let r = lifted L T (place_related L T {seen = seen} p q (ap not u) P sc_empty l.inferred) l.below (typed_secure L T sc_empty h.first_typed) in
-    whole L T O i t g v v' (related_ends L T O r (evaluates x.runs x.ended) (evaluates x'.runs x'.ended)) x.ended
+    whole L T O i t g v v' (related_ends L T O _ _ v v' t _ _ r x.runs x.ended x'.runs x'.ended) x.ended
 
 -- Over groups: what an observer with the indirect readers of κ sees. Creators play no part in it.
 abbrev pub seen_by : Groups → Property → Property → Bool

@@ -1,9 +1,10 @@
 -- Readers and those who trust are observers; what is like a clear term in every label is that term; a place keeps terms
 -- alike.
 use Rattle.std.proofs.Common.{◌≡◌, ℕ, not, ◌||◌, IsTrue, refl, ap₂, arith}
-use Rattle.calculus.specs.Prelude.{Property, Reader, Indirect, Groups, Lattice, properties, Term, var, unit, lam, pair}
-use Rattle.calculus.specs.Prelude.{inj, app, proj, case, protect, mu, literal, reckon}
-use Rattle.calculus.proofs.Prelude.{and_left, and_right}
+use Rattle.calculus.specs.Security.{Property, Reader, Indirect}
+use Rattle.calculus.specs.Groups.{Groups, Lattice, properties}
+use Rattle.calculus.specs.Terms.{Term, var, unit, lam, pair, inj, app, proj, case, protect, mu, literal, reckon}
+use Rattle.calculus.proofs.Booleans.{and_left, and_right}
 use Rattle.noninterference.specs.Places.{whole, in_lam, in_pair_left, in_pair_right, at_inj, in_app_left, in_app_right}
 use Rattle.noninterference.specs.Places.{at_proj, in_tested, in_first, in_second, at_protect, in_mu, in_reckon_left}
 use Rattle.noninterference.specs.Places.{in_reckon_right, put}
@@ -26,10 +27,14 @@ exact_observes S O B = record {
 
 module _ {G : Groups} (X : Lattice G) where
   joined : (g a b : ℕ) → IsTrue (G.leq a a) → IsTrue (G.leq b b) → IsTrue (not (G.leq b g) || not (G.leq a g)) → IsTrue (not (G.leq (G.join a b) g))
-  joined g a b p q x = grind arith
+  joined g a b p q x =
+      let l = X.trans _ _ g (X.upper_left a b p q) in let r = X.trans _ _ g (X.upper_right a b p q) in grind (arith, l, r, x)
 
   met : (h a b : ℕ) → IsTrue (G.leq a a) → IsTrue (G.leq b b) → IsTrue (not (G.leq h b) || not (G.leq h a)) → IsTrue (not (G.leq h (G.meet a b)))
-  met h a b p q x = grind arith
+  met h a b p q x =
+      let l = λ (y : IsTrue (G.leq h (G.meet a b))). X.trans h _ _ y (X.lower_left a b p q) in
+      let r = λ (y : IsTrue (G.leq h (G.meet a b))). X.trans h _ _ y (X.lower_right a b p q) in
+      grind (arith, l, r, x)
 
   ir_group : (k : Property) → IsTrue ((properties G).secure k) → IsTrue (G.leq k.ir k.ir)
   ir_group k h = X.self_left _ _ (and_left _ _ h)

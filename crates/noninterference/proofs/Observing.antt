@@ -1,12 +1,14 @@
 -- Two related values of a type that is seen: they are made alike, and what a destructor reads of them is related.
-use Rattle.std.proofs.Common.{rules}
-use Rattle.std.proofs.Common.{◌≡◌, Bool, not, [], ◌∷◌, ℕ, IsTrue, arith}
+use Rattle.std.proofs.Common.{◌≡◌, Bool, true, false, not, [], ◌∷◌, ℕ, IsTrue, arith}
 use Rattle.std.proofs.Math.Option.{none-ne-some}
 use Rattle.std.proofs.Math.Bool.{false≢true}
-use Rattle.calculus.specs.Prelude.{Property, Reader, Indirect, Security, Laws, one, number, sum, product, function, Ty}
-use Rattle.calculus.specs.Prelude.{leaf, node, top, secure_t, fits, below, Side, choose, Term, unit, lam, pair, inj}
-use Rattle.calculus.specs.Prelude.{literal, is_value, lookup, Table}
-use Rattle.calculus.proofs.Prelude.{Directed, directed_refl, directed_trans, subtype_directed, sc_empty, typed_secure}
+use Rattle.calculus.specs.Security.{Property, Reader, Indirect, Security, Laws}
+use Rattle.calculus.specs.Types.{one, number, sum, product, function, Ty, leaf, node, top, secure_t, fits}
+use Rattle.calculus.specs.Subtyping.{below}
+use Rattle.calculus.specs.Terms.{Side, choose, Term, unit, lam, pair, inj, literal, is_value}
+use Rattle.calculus.specs.Typing.{lookup, Table}
+use Rattle.calculus.proofs.Directed.{Directed, directed_refl, directed_trans, subtype_directed}
+use Rattle.calculus.proofs.SecureTyping.{sc_empty, typed_secure}
 use Rattle.noninterference.proofs.Related.{Related, q_hidden, q_sub, q_var, q_unit, q_lam, q_pair, q_inj, q_app, q_proj}
 use Rattle.noninterference.proofs.Related.{q_case, q_protect, q_mu, q_literal, q_reckon, left_typed}
 
@@ -45,7 +47,8 @@ module _ {S : Security} {tab : ℕ → Ty} (L : Laws S) (T : Table S tab) {seen 
   top_down n x = grind arith
 
   not_both : {P : Type 0} (b : Bool) → IsTrue (not b) → IsTrue b → P
-  not_both b x y = search (rules, false≢true)
+  not_both true x y = absurd (false≢true x)
+  not_both false x y = absurd (false≢true y)
 
   same_type : {e e' : Term} {t : Ty} → Related S tab seen [] e e' t → Directed S below t t
   same_type p = directed_refl L below _ (related_secure p)

@@ -1,14 +1,17 @@
 -- The pairs, run.
-use Rattle.std.proofs.Common.{rules}
-use Rattle.std.proofs.Common.{zero, IsTrue, suc, ◌≡◌, ℕ, refl, false, true≢false, arith}
+use Rattle.std.proofs.Common.{zero, IsTrue, suc, ◌≡◌, ℕ, refl, false, true≢false, sym, ◌∙◌, arith}
 use Rattle.std.proofs.Math.Bool.{false≢true}
-use Rattle.calculus.specs.Prelude.{Property, Former, Ty, node, secure_t, size_t, fits, properties, first, second, Term}
-use Rattle.calculus.specs.Prelude.{unit, lam, inj, literal, is_value, substitute, raise_value, reckon_result, Contracts}
-use Rattle.calculus.specs.Prelude.{c_app, c_mu, c_reckon, c_protect, hole, plug, runs_end, runs_on}
+use Rattle.calculus.specs.Security.{Property}
+use Rattle.calculus.specs.Types.{Former, Ty, node, secure_t, size_t, fits}
 use Rattle.noninterference.specs.Pairs.{TypesOfPairs}
+use Rattle.calculus.specs.Groups.{properties}
+use Rattle.calculus.specs.Terms.{first, second, Term, unit, lam, inj, literal, is_value, substitute, raise_value}
+use Rattle.calculus.specs.Numbers.{reckon_result}
+use Rattle.calculus.specs.Reduction.{Contracts, c_app, c_mu, c_reckon, c_protect, hole, plug}
 use Rattle.noninterference.specs.Noninterference.{EndsInValue}
-use Rattle.noninterference.specs.Hidden.{Observer, dark, Alike, both_dark, functions, applications}
-use Rattle.noninterference.specs.Hidden.{pairs, variables, protects, units}
+use Rattle.calculus.specs.Runs.{runs_end, runs_on}
+use Rattle.noninterference.specs.Hidden.{Observer, dark, Alike, both_dark, functions, applications, recursions}
+use Rattle.noninterference.specs.Hidden.{literals, reckonings, pairs, variables, protects, units}
 use Rattle.noninterference.specs.Observers.{reader_at, who_trusts}
 use Rattle.noninterference.specs.Pairs.{two, types, open_to_all, made_by_1, asked, forgetful, unrolled_as_0}
 use Rattle.noninterference.specs.Pairs.{ReadersAloneHideNothing, ArgumentsHideNothing, RecursionsHideNothing}
@@ -28,11 +31,13 @@ go c x = record {
 -- Literals that aren't hidden are apart by their numbers, and so is what has them in a part that counts.
 other_number : {O : Observer} {k l : Property} {m n : ℕ} → O.hidden k ≡ false → (m ≡ n → ⊥) → Alike O (literal k m) (literal l n) → ⊥
 unfolding dark
-other_number h d a = search (rules, true≢false)
+other_number h d (both_dark x y) = true≢false (sym x ∙ h)
+other_number h d (literals e) = d refl
 
 other_body : {O : Observer} {k l : Property} {i j m n : ℕ} → O.hidden k ≡ false → (m ≡ n → ⊥) → Alike O (lam k i (literal k m)) (lam l j (literal l n)) → ⊥
 unfolding dark
-other_body h d a = search (rules, true≢false, other_number)
+other_body h d (both_dark x y) = true≢false (sym x ∙ h)
+other_body h d (functions e f a) = other_number h d a
 
 other_answer : Alike (reader_at two 0) (inj first open_to_all 0 (unit open_to_all)) (inj second open_to_all 0 (unit open_to_all)) → ⊥
 unfolding dark
@@ -40,15 +45,18 @@ other_answer (both_dark x y) = false≢true x
 
 asked_apart : Alike (reader_at two 0) (asked 1) (asked 2) → ⊥
 unfolding dark
-asked_apart a = search (rules, false≢true, other_number)
+asked_apart (both_dark x y) = false≢true x
+asked_apart (reckonings g a b) = other_number refl (λ e. absurd (omega arith)) a
 
 forgetful_apart : Alike (reader_at two 0) (forgetful 1) (forgetful 2) → ⊥
 unfolding dark
-forgetful_apart a = search (rules, false≢true, other_body)
+forgetful_apart (both_dark x y) = false≢true x
+forgetful_apart (applications g a b) = other_body refl (λ e. absurd (omega arith)) a
 
 unrolled_apart : Alike (who_trusts two 1) (unrolled_as_0 1) (unrolled_as_0 2) → ⊥
 unfolding dark
-unrolled_apart a = search (rules, false≢true, other_body)
+unrolled_apart (both_dark x y) = false≢true x
+unrolled_apart (recursions g a) = other_body refl (λ e. absurd (omega arith)) a
 
 pub readers_alone_hide_nothing : ReadersAloneHideNothing
 unfolding ReadersAloneHideNothing reckon_result is_value

@@ -1,17 +1,23 @@
 -- Two closed terms of one reported type that is not seen, at the same place of an otherwise equal script, make related
 -- scripts.
-use Rattle.std.proofs.Common.{rules}
 use Rattle.std.proofs.Common.{◌≡◌, sym, ◌∙◌, Bool, not, List, [], ◌∷◌, ℕ, IsTrue}
 use Rattle.std.proofs.Math.Option.{some, some-injective}
-use Rattle.calculus.specs.Prelude.{Property, Reader, Security, Laws, sum, function, Ty, node, top, raise_t, below, Term}
-use Rattle.calculus.specs.Prelude.{app, case, Table, type_of_case}
+use Rattle.calculus.specs.Security.{Property, Reader, Security, Laws}
+use Rattle.calculus.specs.Types.{sum, function, Ty, node, top, raise_t}
+use Rattle.calculus.specs.Subtyping.{below}
+use Rattle.calculus.specs.Terms.{Term, app, case}
+use Rattle.calculus.specs.Typing.{Table, type_of_case}
 use Rattle.noninterference.specs.Places.{Place, whole, in_lam, in_pair_left, in_pair_right, at_inj, in_app_left}
 use Rattle.noninterference.specs.Places.{in_app_right, at_proj, in_tested, in_first, in_second, at_protect, in_mu}
 use Rattle.noninterference.specs.Places.{in_reckon_left, in_reckon_right, put}
-use Rattle.calculus.proofs.Prelude.{Directed, directed_subtype, Inferred, i_lam, i_pair, i_inj, i_app, i_proj, i_case}
-use Rattle.calculus.proofs.Prelude.{i_protect, i_mu, i_reckon, inferred_infer, SecureContext, sc_empty, sc_extend}
-use Rattle.calculus.proofs.Prelude.{secure_parts, side_secure, table_parts, typed_secure, result_bound, inferred_typed}
-use Rattle.calculus.proofs.Prelude.{inferred_weakening}
+use Rattle.calculus.proofs.Directed.{Directed, directed_subtype}
+use Rattle.calculus.proofs.Inferred.{Inferred, i_lam, i_pair, i_inj, i_app, i_proj, i_case, i_protect, i_mu, i_reckon}
+use Rattle.calculus.proofs.Inference.{inferred_infer}
+use Rattle.calculus.proofs.SecureTyping.{SecureContext, sc_empty, sc_extend, secure_parts, side_secure, table_parts}
+use Rattle.calculus.proofs.SecureTyping.{typed_secure}
+use Rattle.calculus.proofs.Results.{result_bound}
+use Rattle.calculus.proofs.Soundness.{inferred_typed}
+use Rattle.calculus.proofs.Weakening.{inferred_weakening}
 use Rattle.noninterference.proofs.Related.{Related, q_hidden, q_sub, q_lam, q_pair, q_inj, q_app, q_proj, q_case}
 use Rattle.noninterference.proofs.Related.{q_protect, q_mu, q_reckon, left_typed, related_itself}
 
@@ -36,7 +42,11 @@ module _ {S : Security} {tab : ℕ → Ty} (L : Laws S) (T : Table S tab) {seen 
   case_related : {Γ : List Ty} {k : Property} {w : Reader} {i : ℕ} {e e' a a' b b' : Term} {s t u v r : Ty} → SecureContext S Γ
       → Related S tab seen Γ e e' (node sum k s t) → IsTrue (S.permits k w) → Related S tab seen (s ∷ Γ) a a' u → Related S tab seen (t ∷ Γ) b b' v
       → type_of_case S tab i u v ≡ some r → Related S tab seen Γ (case w i e a b) (case w i e' a' b') (raise_t S r (S.influence k w))
-  case_related {i = i} C p m q q' e = search (rules, secure_parts, typed_secure, left_typed, result_bound, sc_extend, q_case, q_sub, directed_subtype)
+  case_related {i = i} C p m q q' e =
+      let x = secure_parts S _ _ _ _ (typed_secure L T C (left_typed p)) in
+      let y = result_bound L T i _ _ _
+      (typed_secure L T (sc_extend x.left C) (left_typed q)) (typed_secure L T (sc_extend x.right C) (left_typed q')) e in
+      q_case p m y.0 (q_sub q (directed_subtype y.1.left) y.1.secure) (q_sub q' (directed_subtype y.1.right) y.1.secure)
 
   -- a part of an otherwise equal script
   unchanged : {Γ : List Ty} {e : Term} {t : Ty} → SecureContext S Γ → Inferred S tab Γ e t → Related S tab seen Γ e e t

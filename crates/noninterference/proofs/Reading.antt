@@ -1,14 +1,19 @@
 -- One reading keeps what an observer may not see from it: alike values contract to related terms.
-use Rattle.std.proofs.Common.{rules}
-use Rattle.std.proofs.Common.{arith}
 use Rattle.std.proofs.Common.{◌≡◌, refl, sym, Bool, [], ◌∷◌, ℕ, zero, IsTrue}
 use Rattle.std.proofs.Math.Bool.{false≢true}
-use Rattle.calculus.specs.Prelude.{Property, Reader, Indirect, Security, Laws, number, sum, product, function, Ty, leaf}
-use Rattle.calculus.specs.Prelude.{node, raise_t, secure_t, below, Side, choose, Term, app, proj, case, protect}
-use Rattle.calculus.specs.Prelude.{is_value, substitute, raise_value, Contracts, c_app, c_proj, c_case, Table}
-use Rattle.calculus.proofs.Prelude.{and_left, and_right, choose_both, Directed, d_node, directed_formed}
-use Rattle.calculus.proofs.Prelude.{directed_opposite, directed_refl, directed_subtype, raise_directed, raise_secure}
-use Rattle.calculus.proofs.Prelude.{raise_fits, SecureParts, side_secure, read_secure}
+use Rattle.calculus.specs.Security.{Property, Reader, Indirect, Security, Laws}
+use Rattle.calculus.specs.Types.{number, sum, product, function, Ty, leaf, node, raise_t, secure_t}
+use Rattle.calculus.specs.Subtyping.{below}
+use Rattle.calculus.specs.Terms.{Side, first, second, choose, Term, app, proj, case, protect, is_value, substitute}
+use Rattle.calculus.specs.Terms.{raise_value}
+use Rattle.calculus.specs.Reduction.{Contracts, c_app, c_proj, c_case}
+use Rattle.calculus.specs.Typing.{Table}
+use Rattle.calculus.proofs.Booleans.{and_left, and_right}
+use Rattle.calculus.proofs.Sides.{choose_both}
+use Rattle.calculus.proofs.Directed.{Directed, d_node, directed_formed, directed_opposite, directed_refl}
+use Rattle.calculus.proofs.Directed.{directed_subtype}
+use Rattle.calculus.proofs.Raising.{raise_directed, raise_secure, raise_fits}
+use Rattle.calculus.proofs.SecureTyping.{SecureParts, side_secure, read_secure}
 use Rattle.noninterference.proofs.Related.{Related, q_sub, q_unit, q_lam, q_pair, q_inj, q_protect, q_literal}
 use Rattle.noninterference.proofs.Related.{related_substitution}
 use Rattle.noninterference.proofs.Observing.{Alike, a_unit, a_literal, a_lam, a_pair, a_inj}
@@ -28,7 +33,8 @@ module _ {S : Security} {tab : ℕ → Ty} (L : Laws S) (T : Table S tab) {seen 
 
   chosen_related : (d : Side) {a b a' b' : Term} {s t : Ty} → Related S tab seen [] a a' s → Related S tab seen [] b b' t
       → Related S tab seen [] (choose d a b) (choose d a' b') (choose d s t)
-  chosen_related d p q = grind arith
+  chosen_related first p q = p
+  chosen_related second p q = q
 
   -- what is read of a lesser property, protected, and lifted to what is read of a greater
   read_related : {e e' : Term} {s t : Ty} (k l : Property) (w : Reader) → IsTrue (S.secure k) → IsTrue (S.secure l) → IsTrue (secure_t S t) → IsTrue (S.le k l)
@@ -71,7 +77,8 @@ module _ {S : Security} {tab : ℕ → Ty} (L : Laws S) (T : Table S tab) {seen 
 
   branch_chosen : (d : Side) {v v' a b a' b' : Term} {s t u : Ty} → Related S tab seen [] v v' (choose d s t) → Related S tab seen (s ∷ []) a a' u
       → Related S tab seen (t ∷ []) b b' u → Related S tab seen [] (substitute zero v (choose d a b)) (substitute zero v' (choose d a' b')) u
-  branch_chosen d p q r = search (rules, related_substitution)
+  branch_chosen first p q r = related_substitution p [] q
+  branch_chosen second p q r = related_substitution p [] r
 
   pub branch_related : {v v' a b a' b' : Term} {s t u : Ty} {k : Property} (w : Reader) (i : ℕ) → Alike S tab seen v v' (node sum k s t)
       → SecureParts S k s t → IsTrue (secure_t S u) → IsTrue (S.permits k w) → IsTrue (is_value v) → IsTrue (is_value v') → Related S tab seen (s ∷ []) a a' u

@@ -1,12 +1,16 @@
 -- Terms that differ only in what an observer may not see. `seen` says of which properties it sees the objects.
 use Rattle.std.proofs.Common.{◌≡◌, refl, ap, Bool, not, List, [], ◌∷◌, ◌++◌, ℕ, arith, length, IsTrue}
 use Rattle.std.proofs.Math.Option.{some}
-use Rattle.calculus.specs.Prelude.{Property, Reader, Indirect, Security, one, number, sum, product, function, Ty, leaf}
-use Rattle.calculus.specs.Prelude.{node, top, raise_t, secure_t, fits, Subtype, Side, choose, Operation, Term, var}
-use Rattle.calculus.specs.Prelude.{unit, lam, pair, inj, app, proj, case, protect, mu, literal, reckon, substitute}
-use Rattle.calculus.specs.Prelude.{of_both, Reckons, lookup, TypeOfCase, HasType, t_sub, t_var, t_unit, t_lam, t_pair}
-use Rattle.calculus.specs.Prelude.{t_inj, t_app, t_proj, t_case, t_protect, t_mu, t_literal, t_reckon}
-use Rattle.calculus.proofs.Prelude.{lookup_longer, weakening, outermost_or, subst_nothing}
+use Rattle.calculus.specs.Security.{Property, Reader, Indirect, Security}
+use Rattle.calculus.specs.Types.{one, number, sum, product, function, Ty, leaf, node, top, raise_t, secure_t, fits}
+use Rattle.calculus.specs.Subtyping.{Subtype}
+use Rattle.calculus.specs.Terms.{Side, choose, Operation, Term, var, unit, lam, pair, inj, app, proj, case, protect, mu}
+use Rattle.calculus.specs.Terms.{literal, reckon, substitute}
+use Rattle.calculus.specs.Numbers.{of_both, Reckons}
+use Rattle.calculus.specs.Typing.{lookup, TypeOfCase, HasType, t_sub, t_var, t_unit, t_lam, t_pair, t_inj, t_app}
+use Rattle.calculus.specs.Typing.{t_proj, t_case, t_protect, t_mu, t_literal, t_reckon}
+use Rattle.calculus.proofs.Weakening.{lookup_longer, weakening}
+use Rattle.calculus.proofs.Substitution.{outermost_or, subst_nothing}
 
 -- The typing rules for two terms at once, and one rule more: closed terms of one type that is not seen.
 pub data Related (S : Security) (tab : ℕ → Ty) (seen : Property → Bool) : List Ty → Term → Term → Ty → Type 0 where

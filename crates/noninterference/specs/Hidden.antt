@@ -1,7 +1,10 @@
 -- What an observer can't tell, by labels alone: no term here need have a type.
 use Rattle.std.specs.Prelude.{◌≡◌, Bool, false, ◌||◌, ℕ, IsTrue}
-use Rattle.calculus.specs.Prelude.{Property, Reader, Indirect, Security, Laws, Ty, Side, Operation, Term, var, unit}
-use Rattle.calculus.specs.Prelude.{lam, pair, inj, app, proj, case, protect, mu, literal, reckon, Table}
+use Rattle.calculus.specs.Security.{Property, Reader, Indirect, Security, Laws}
+use Rattle.calculus.specs.Types.{Ty}
+use Rattle.calculus.specs.Terms.{Side, Operation, Term, var, unit, lam, pair, inj, app, proj, case, protect, mu}
+use Rattle.calculus.specs.Terms.{literal, reckon}
+use Rattle.calculus.specs.Typing.{Table}
 use Rattle.noninterference.specs.Places.{Place, put}
 use Rattle.noninterference.specs.Noninterference.{EndsInValue}
 

@@ -1,8 +1,12 @@
 -- What is promised of two scripts that differ only in a part that may not be seen, or that others made.
 use Rattle.std.specs.Prelude.{◌≡◌, false, [], ℕ, IsTrue}
 use Rattle.std.proofs.Math.Option.{some}
-use Rattle.calculus.specs.Prelude.{Security, Groups, Lattice, properties, Ty, top, Term, is_value, Runs, HasType, Table}
-use Rattle.calculus.specs.Prelude.{infer}
+use Rattle.calculus.specs.Security.{Security}
+use Rattle.calculus.specs.Groups.{Groups, Lattice, properties}
+use Rattle.calculus.specs.Types.{Ty, top}
+use Rattle.calculus.specs.Terms.{Term, is_value}
+use Rattle.calculus.specs.Runs.{Runs}
+use Rattle.calculus.specs.Typing.{HasType, Table, infer}
 use Rattle.noninterference.specs.Places.{Place, put, shown_records, type_within, made_within}
 
 -- Two closed scripts, for both of which checking reports the same type, stand at the same place of an otherwise equal

@@ -1,6 +1,8 @@
 -- Who looks, over groups: who reads as a group, and who trusts a group.
 use Rattle.std.specs.Prelude.{◌≡◌, false, not, ℕ, zero}
-use Rattle.calculus.specs.Prelude.{Groups, Lattice, properties, Security, Term}
+use Rattle.calculus.specs.Groups.{Groups, Lattice, properties}
+use Rattle.calculus.specs.Security.{Security}
+use Rattle.calculus.specs.Terms.{Term}
 use Rattle.noninterference.specs.Hidden.{Observer, Alike, Clear, Observes}
 
 -- Secrecy: from who reads as g hidden is what has ir ⋢ g. He doesn't heed creators, the groups that readings are made

@@ -1,8 +1,11 @@
 -- Pairs of terms over two groups 0 ⊑ 1: such as an observer tells apart when they run, so that none of them may count
 -- as alike, and such as are alike.
 use Rattle.std.specs.Prelude.{◌&&◌, ℕ, zero, suc, min, max, nat_le, nat_lt}
-use Rattle.calculus.specs.Prelude.{Property, Groups, properties, one, sum, function, Ty, leaf, node, less, Term, var}
-use Rattle.calculus.specs.Prelude.{unit, lam, pair, app, case, protect, mu, literal, reckon, Table}
+use Rattle.calculus.specs.Security.{Property}
+use Rattle.calculus.specs.Groups.{Groups, properties}
+use Rattle.calculus.specs.Types.{one, sum, function, Ty, leaf, node}
+use Rattle.calculus.specs.Terms.{less, Term, var, unit, lam, pair, app, case, protect, mu, literal, reckon}
+use Rattle.calculus.specs.Typing.{Table}
 use Rattle.noninterference.specs.Noninterference.{EndsInValue}
 use Rattle.noninterference.specs.Hidden.{Observer, Alike}
 use Rattle.noninterference.specs.Observers.{reader_at, who_trusts, exact}

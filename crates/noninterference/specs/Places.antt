@@ -1,8 +1,10 @@
 -- A place in a script and what stands there, what of a value is compared, and the types that an observer reads whole.
 use Rattle.std.specs.Prelude.{Bool, false, ◌&&◌, List, [], ◌∷◌, ◌++◌, ℕ}
-use Rattle.calculus.specs.Prelude.{Property, Reader, Indirect, Groups, function, Ty, leaf, node, Side, first, second}
-use Rattle.calculus.specs.Prelude.{Operation, plus, less, Term, var, unit, lam, pair, inj, app, proj, case, protect, mu}
-use Rattle.calculus.specs.Prelude.{literal, reckon}
+use Rattle.calculus.specs.Security.{Property, Reader, Indirect}
+use Rattle.calculus.specs.Groups.{Groups}
+use Rattle.calculus.specs.Types.{function, Ty, leaf, node}
+use Rattle.calculus.specs.Terms.{Side, first, second, Operation, plus, less, Term, var, unit, lam, pair, inj, app, proj}
+use Rattle.calculus.specs.Terms.{case, protect, mu, literal, reckon}
 
 -- A place: all of a script but what stands there, which may be under binders too.
 pub data Place : Type 0 where

@@ -1,6 +1,9 @@
 -- A typing whose type is set apart.
 use Rattle.std.proofs.Common.{◌≡◌, ap, ◌∙◌, subst, ℕ, ◌*◌, take, drop, length, Result, Ok, Err, IsErrAnd}
-use Rattle.rules.specs.Prelude.{Ty, Bytes, Answer, accepted, type_width, encode_type}
+use Rattle.calculus.specs.Types.{Ty}
+use Rattle.rules.specs.Answer.{Bytes, Answer, accepted}
+use Rattle.rules.specs.Limits.{type_width}
+use Rattle.rules.specs.Types.{encode_type}
 use Rattle.answer.specs.declared.Refusal.{Refusal}
 use Rattle.answer.specs.Said.{answer_of}
 use Rattle.answer.proofs.Passed.{returned}

@@ -1,13 +1,19 @@
 -- The whole call, by what ends it.
 use Rattle.std.proofs.Common.{◌≡◌, refl, sym, ap, ◌∙◌, [], ◌∷◌, ℕ, ◌-◌, ◌*◌, ◌≤◌, ◌<◌, min, nat_le, leb-true, arith}
 use Rattle.std.proofs.Common.{length, take, take_at, length-append, Result, Err}
-use Rattle.rules.specs.Prelude.{Ty, Bytes, Octets, Answer, accepted, refused, ◌>>=◌, ◌>>◌, script_width, work_length}
-use Rattle.rules.specs.Prelude.{properties_of, type_at, records, encode, term, Ran, run, zeros, script_check}
-use Rattle.rules.specs.Prelude.{first_after, scratch_after, application, q1_work, q39_if, before_typing}
-use Rattle.rules.specs.Prelude.{application_check, desk_check, desk_run, packet_of_run, packet_call, packet_report}
-use Rattle.rules.specs.Prelude.{desk_work_after, packet_page_after}
-use Rattle.rules.specs.Packet.{Packet as Paged}
-use Rattle.rules.proofs.Prelude.{ask_true, and_then, regroup}
+use Rattle.calculus.specs.Types.{Ty}
+use Rattle.rules.specs.Answer.{Bytes, Octets, Answer, accepted, refused, ◌>>=◌, ◌>>◌}
+use Rattle.rules.specs.Limits.{script_width, work_length}
+use Rattle.rules.specs.Groups.{rows, properties_of}
+use Rattle.rules.specs.Types.{type_at}
+use Rattle.rules.specs.Script.{records, encode, term, q13}
+use Rattle.rules.specs.Typing.{q21, typing}
+use Rattle.rules.specs.Run.{Ran, run}
+use Rattle.rules.specs.Calls.{zeros, q25, q26, own_check, script_check, first_after, scratch_after}
+use Rattle.rules.specs.Packet.{application, q1_work, q39_if, q37, q38, q18_whole, before_typing, application_check}
+use Rattle.rules.specs.Packet.{desk_check, desk_run, Packet as Paged, packet_of_run, packet_call, packet_report}
+use Rattle.rules.specs.Packet.{desk_work_after, packet_page_after}
+use Rattle.rules.proofs.Asked.{ask_true, and_then, regroup}
 use Rattle.promises.specs.Packet.{PacketByHand}
 use Rattle.promises.proofs.Checked.{script_passed}
 use Rattle.promises.proofs.AcceptedByTheRules.{goes}
@@ -27,19 +33,35 @@ use Rattle.packet.proofs.Sizes.{whole_length}
 
 -- the questions, as the pieces ask them
 bind_same : (m : Answer Ty) (f f' : Ty → Answer (Unit {0})) → ((s : Ty) → f s ≡ f' s) → ◌>>=◌ m f ≡ ◌>>=◌ m f'
-bind_same m f f' h = grind arith
+bind_same (accepted s) f f' h = h s
+bind_same (refused q p) f f' h = refl
 
 then_same : (m : Answer (Unit {0})) {a b : Answer (Unit {0})} → a ≡ b → ◌>>◌ m a ≡ ◌>>◌ m b
 then_same m h = ap (λ (x : Answer (Unit {0})). ◌>>◌ m x) h
 
 last_pieces : (g script entry : Bytes) (group first scratch : ℕ) (s u : Ty) → application_check g script entry group first scratch s u ≡ from_26 g script entry group first scratch s u
 unfolding application_check from_26 call_check size_check
-last_pieces g script entry group first scratch s u = grind (arith, then_same, regroup)
+last_pieces g script entry group first scratch s u =
+    let whole = application group script entry in
+    let size = ◌>>◌ (q13 (first ∷ scratch ∷ []) whole) (q18_whole whole) in
+    let reads = q21 (properties_of g) 0 s group in
+    let side = q38 (properties_of g) u s in
+    then_same (q26 (term entry))
+    (then_same (q25 0 group (rows g))
+    (sym (regroup (q37 s) (◌>>◌ reads side) size ∙ then_same (q37 s) (regroup reads side size))))
 
 pub pieces : (g t script entry : Bytes) (group profile work first scratch : ℕ)
     → desk_check g t script entry group profile work first scratch ≡ ◌>>◌ (before_typing g t script profile work) (from_typing g t script entry group profile first scratch)
 unfolding desk_check from_typing entry_asked
-pieces g t script entry group profile work first scratch = grind (arith, then_same, bind_same, last_pieces, regroup)
+pieces g t script entry group profile work first scratch =
+    let typed = typing (properties_of g) (type_at t) [] 0 (term entry) in
+    then_same (before_typing g t script profile work)
+    (bind_same (typing (properties_of g) (type_at t) [] 0 (term script)) _ _
+    (λ s.
+    then_same (own_check [] g t entry)
+    (then_same (q39_if profile entry)
+    (bind_same typed _ _ (λ u. last_pieces g script entry group first scratch s u)))
+    ∙ sym (regroup (own_check [] g t entry) (q39_if profile entry) (◌>>=◌ typed (λ u. from_26 g script entry group first scratch s u)))))
 
 module _ (g t script entry : Bytes) (G : Octets g) (O : Octets script) (E : Octets entry) (group budget profile : ℕ) (work first scratch sheet : Bytes) where
   abbrev begun : Answer (Unit {0})
@@ -141,4 +163,12 @@ module _ (g t script entry : Bytes) (G : Octets g) (O : Octets script) (E : Octe
       pub says : (r : Result Packet Refusal) {work' sheet' : Bytes} → work' ≡ zeros (length work)
           → (said_packet r ≡ packet_report (packet_of_run g group (length sheet) started)) × (sheet' ≡ packet_page_after (packet_of_run g group (length sheet) started) sheet)
           → Says r work' first' scratch' sheet'
-      says r k p = grind (arith, issuing_is, goes, asked, whole_ready, by_hand)
+      says r k p =
+          let i = issuing_is g t script entry group budget profile (length work) (length first) (length scratch) (length sheet) ∙ goes (desk_check g t script entry group profile (length work) (length first) (length scratch)) _ asked in (
+            p.0 ∙ sym (ap packet_report i),
+            k ∙ ap (λ (m : Answer (Unit {0})). desk_work_after m work) b,
+            q.first_is ∙ sym (ap (λ (m : Answer Ran). first_after m first) whole_ready.runs),
+            q.scratch_is ∙ sym (ap (λ (m : Answer Ran). scratch_after m scratch) whole_ready.runs),
+            p.1 ∙ sym (ap (λ (m : Answer Paged). packet_page_after m sheet) i),
+            by_hand,
+          )

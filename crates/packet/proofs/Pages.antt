@@ -1,9 +1,11 @@
 -- The packet of a run: with a sheet where it ended with a value.
-use Rattle.std.proofs.Common.{arith}
-use Rattle.std.proofs.Common.{◌≡◌, sym, ap, ap₂, ◌∙◌, Bool, true, false, ℕ, nat_eq, nat_le, length, Result, Ok}
+use Rattle.std.proofs.Common.{◌≡◌, refl, sym, ap, ap₂, ◌∙◌, Bool, true, false, ℕ, nat_eq, nat_le, length, Result, Ok}
 use Rattle.std.proofs.Common.{Err}
-use Rattle.rules.specs.Prelude.{Bytes, Answer, accepted, refused, ◌>>◌, ask, Ran, sheet, q27, sheet_records}
-use Rattle.rules.specs.Prelude.{sheet_after, Report, Packet, packet_of_run, packet_report, packet_page_after}
+use Rattle.rules.specs.Answer.{Bytes, Answer, accepted, refused, ◌>>◌, ask}
+use Rattle.rules.specs.Run.{Ran}
+use Rattle.rules.specs.Sheet.{sheet}
+use Rattle.rules.specs.Calls.{q27, sheet_records, sheet_after, Report}
+use Rattle.rules.specs.Packet.{Packet, packet_of_run, packet_report, packet_page_after}
 use Rattle.promises.proofs.Answers.{accepted≢refused, accepted_inj}
 use Rattle.answer.specs.Numbers.{question_number}
 use Rattle.answer.specs.Said.{answer_of}
@@ -37,7 +39,9 @@ module _ (g : Bytes) (group : ℕ) (x : Ran) (a : Halt) (told : Told x a) (old :
 
   pub otherwise : nat_eq (reported_end a.stop) 0 ≡ false → (counting a.records ≡ packet_report whole) × (old ≡ packet_page_after whole old)
   unfolding packet_report
-  otherwise h = grind (arith, end_is, counted)
+  otherwise h =
+      let z = end_is false h in
+      rw z (counted a.records ∙ rw z (ap (report x.end x.steps) told.records), refl)
 
   -- what the sheet's call answers, as a report
   abbrev pub reporting : Result ℕ Refusal → Answer Report
@@ -50,7 +54,10 @@ module _ (g : Bytes) (group : ℕ) (x : Ran) (a : Halt) (told : Told x a) (old :
   told_so : nat_eq x.end 0 ≡ true → (b : Bool) (r : Result ℕ Refusal) {new : Bytes} → answer_of r ≡ sheet_records (asked b page) → new ≡ sheet_after (asked b page) old
       → (reporting r ≡ packet_report (asked b (packet page))) × (new ≡ packet_page_after (asked b (packet page)) old)
   unfolding packet_report sheet_records
-  told_so z b r h k = grind (arith, counted, accepted_inj, accepted≢refused)
+  told_so z true (Ok n) h k = (counted n ∙ rw z (ap (report x.end x.steps) (accepted_inj h)), k)
+  told_so z true (Err e) h k = accepted≢refused (sym h)
+  told_so z false (Ok n) h k = accepted≢refused h
+  told_so z false (Err e) h k = (cc, k)
 
   pub at_value : nat_eq (reported_end a.stop) 0 ≡ true → (r : Result ℕ Refusal) (s : Answer Bytes) {new : Bytes} → s ≡ ◌>>◌ (q27 page (length old)) (accepted page)
       → answer_of r ≡ sheet_records s → new ≡ sheet_after s old → (reporting r ≡ packet_report whole) × (new ≡ packet_page_after whole old)

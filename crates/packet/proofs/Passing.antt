@@ -1,8 +1,9 @@
 -- Questions one after another, by what each call has answered.
-use Rattle.std.proofs.Common.{arith}
-use Rattle.std.proofs.Common.{◌≡◌, sym, ap, ◌∙◌, [], ℕ, ◌<◌, ltb-true, Result, Ok, Err}
-use Rattle.rules.specs.Prelude.{Bytes, Answer, accepted, ◌>>◌, q25, types_check, rows}
-use Rattle.rules.proofs.Prelude.{ask_true, and_then}
+use Rattle.std.proofs.Common.{◌≡◌, sym, ap, ◌∙◌, [], ℕ, ◌<◌, nat_lt, ltb-true, Result, Ok, Err}
+use Rattle.rules.specs.Answer.{Bytes, Answer, accepted, ◌>>◌}
+use Rattle.rules.specs.Calls.{q25, groups_check, types_check}
+use Rattle.rules.specs.Groups.{rows}
+use Rattle.rules.proofs.Asked.{ask_true, and_then}
 use Rattle.promises.proofs.Checked.{script_passed}
 use Rattle.promises.proofs.Packet.{byte_group}
 use Rattle.answer.specs.declared.Refusal.{Refusal}
@@ -28,4 +29,6 @@ whole_of g t s A =
 -- a group of the table is a byte
 pub narrow : (g t s : Bytes) (group : ℕ) → Accepted19 g t s → q25 0 group (rows g) ≡ accepted tt → group < 256
 unfolding types_check
-narrow g t s group A h = grind (arith, script_passed, byte_group, and_then, ltb-true, ask_true)
+narrow g t s group A h =
+    let P = script_passed [] g t s A.script A.passed in
+    byte_group g group (and_then (groups_check g) _ P.types).0 (ltb-true group (rows g) (ask_true 25 0 (nat_lt group (rows g)) h))

@@ -1,8 +1,14 @@
 -- The application's run, where it was built.
 use Rattle.std.proofs.Common.{◌≡◌, sym, ap, ◌∙◌, ◌++◌, ℕ, ◌+◌, ◌-◌, ◌≤◌, min, arith, length, length-append}
 use Rattle.std.proofs.Common.{subst as transport}
-use Rattle.rules.specs.Prelude.{Term, Bytes, accepted, properties_of, type_at, records, encode, term, Ran, run, zeros}
-use Rattle.rules.specs.Prelude.{first_after, application}
+use Rattle.calculus.specs.Terms.{Term}
+use Rattle.rules.specs.Answer.{Bytes, accepted}
+use Rattle.rules.specs.Groups.{properties_of}
+use Rattle.rules.specs.Types.{type_at}
+use Rattle.rules.specs.Script.{records, encode, term}
+use Rattle.rules.specs.Run.{Ran, run}
+use Rattle.rules.specs.Calls.{zeros, first_after}
+use Rattle.rules.specs.Packet.{application}
 use Rattle.memory.specs.Splice.{splice}
 use Rattle.reduction.specs.Steps.{Startable}
 use Rattle.evaluation.specs.Runs.{front_term, Loaded, Told, ReportsRun}

@@ -1,9 +1,16 @@
 -- The desk's questions, piece by piece, and what each piece is given.
 use Rattle.std.specs.Prelude.{◌≡◌, Bool, true, false, [], ◌∷◌, ℕ, ◌≤◌}
-use Rattle.rules.specs.Prelude.{Ty, subtype, is_value, Bytes, Octets, Answer, accepted, refused, ◌>>=◌, ◌>>◌}
-use Rattle.rules.specs.Prelude.{last_below, script_limit, depth_limit, rows, join, meet, properties_of, type_at, encode}
-use Rattle.rules.specs.Prelude.{term, size, depth, q13, q21, typing, q25, q26, own_check, script_check, application}
-use Rattle.rules.specs.Prelude.{q39_if, q37, q38, q18_whole}
+use Rattle.calculus.specs.Types.{Ty}
+use Rattle.calculus.specs.Subtyping.{subtype}
+use Rattle.calculus.specs.Terms.{is_value}
+use Rattle.rules.specs.Answer.{Bytes, Octets, Answer, accepted, refused, ◌>>=◌, ◌>>◌, last_below}
+use Rattle.rules.specs.Limits.{script_limit, depth_limit}
+use Rattle.rules.specs.Groups.{rows, join, meet, properties_of}
+use Rattle.rules.specs.Types.{type_at}
+use Rattle.rules.specs.Script.{encode, term, size, depth, q13}
+use Rattle.rules.specs.Typing.{q21, typing}
+use Rattle.rules.specs.Calls.{q25, q26, own_check, script_check}
+use Rattle.rules.specs.Packet.{application, q39_if, q37, q38, q18_whole}
 use Rattle.redex.specs.declared.Found.{Found}
 use Rattle.redex.specs.declared.Found.TheVariants.{Value}
 use Rattle.types.specs.Held.{Held}

@@ -1,7 +1,8 @@
 -- What a packet reports, and what its call leaves in the buffers that it is lent.
 use Rattle.std.specs.Prelude.{◌≡◌, ℕ, length, Result, Ok, Err}
-use Rattle.rules.specs.Prelude.{Bytes, Answer, accepted, refused, Report, first_after, scratch_after, before_typing}
-use Rattle.rules.specs.Prelude.{desk_run, packet_call, desk_work_after, packet_page_after}
+use Rattle.rules.specs.Answer.{Bytes, Answer, accepted, refused}
+use Rattle.rules.specs.Calls.{Report, first_after, scratch_after}
+use Rattle.rules.specs.Packet.{before_typing, desk_run, packet_call, desk_work_after, packet_page_after}
 use Rattle.answer.specs.Numbers.{question_number}
 use Rattle.answer.specs.declared.Refusal.{Refusal}
 use Rattle.reduction.specs.Steps.{reported_end}

@@ -1,7 +1,12 @@
 -- The run of an application, and its packet.
 use Rattle.std.specs.Prelude.{◌≡◌, [], ℕ, ◌*◌, ◌≤◌, length, take}
-use Rattle.rules.specs.Prelude.{Bytes, Octets, accepted, ◌>>◌, script_width, encode, records, q27, script_check}
-use Rattle.rules.specs.Prelude.{sheet_call, Ran, sheet, application}
+use Rattle.rules.specs.Answer.{Bytes, Octets, accepted, ◌>>◌}
+use Rattle.rules.specs.Limits.{script_width}
+use Rattle.rules.specs.Script.{encode, records}
+use Rattle.rules.specs.Calls.{q27, script_check, sheet_call}
+use Rattle.rules.specs.Run.{Ran}
+use Rattle.rules.specs.Sheet.{sheet}
+use Rattle.rules.specs.Packet.{application}
 use Rattle.evaluation.specs.Runs.{Told}
 use Rattle.evaluation.specs.declared.Halt.{Halt}
 

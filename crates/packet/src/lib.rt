@@ -175,7 +175,6 @@ fn ask_entry(groups: &[u8], entry_type: &[u8], script_type: &[u8]) -> Checked
 }
 
 // 37, 21 and 38, in this order.
-#[tactic(auto, using(answer::proofs::Passed::then_asked, answer::proofs::Passed::stopped), unfolding(crate::specs::Checks::call_check))]
 fn call_check(groups: &[u8], script_type: &[u8], entry_type: &[u8], group: Reader) -> Checked
     requires script_type { Starts script_type.now }
     requires entry_type { Starts entry_type.now }
@@ -245,7 +244,6 @@ fn size_check(script: &[u8], entry: &[u8], first: usize, scratch: usize) -> Chec
 }
 
 // What is asked once script and entry have their types.
-#[tactic(auto, using(answer::proofs::Passed::then_asked, answer::proofs::Passed::stopped), unfolding(crate::specs::Checks::from_26))]
 fn from_26(
     groups: &[u8],
     types: &[u8],
@@ -294,14 +292,8 @@ fn from_typing(
     ensures { answer_of result ≡ from_typing groups.now types.now script.now entry.now group profile first scratch }
 {
     let mut script_type = [0; SLOT];
-    let apart = type_apart(groups, types, script, work, &mut script_type);
-    let Ok(()) = apart else {
-        return apart;
-    };
-    let asked = entry_check(groups, types, entry, profile);
-    let Ok(()) = asked else {
-        return asked;
-    };
+    type_apart(groups, types, script, work, &mut script_type)?;
+    entry_check(groups, types, entry, profile)?;
     typing::type_script(groups, types, entry, work)?;
     from_26(
         groups,

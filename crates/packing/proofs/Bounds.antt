@@ -4,27 +4,40 @@ use Rattle.std.proofs.Common.{Result, Ok, Err, IfErr, ◌<◌, sym, subst, ◌�
 use Rattle.std.proofs.Common.{List, [], ◌∷◌, ℕ, zero, suc, ◌+◌, ◌-◌, ◌/◌, ◌%◌, ◌≤◌, arith, eqb-true, leb-true, nat_eq}
 use Rattle.std.proofs.Common.{nat_le, nat_lt, length, get_or}
 use Rattle.std.proofs.Math.Option.{Option, none, some}
-use Rattle.rules.specs.Prelude.{is_value, Bytes, Octets, Answer, accepted, refused, ◌>>=◌, ◌>>◌, ask, first_from}
-use Rattle.rules.specs.Prelude.{refused_at, each, all_below, row_width, type_width, script_width, old_type_width}
-use Rattle.rules.specs.Prelude.{old_script_width, group_limit, table_limit, script_limit, word_limit, words_length}
-use Rattle.rules.specs.Prelude.{last_question, work_length, answer_length, office_width, office_limit, rows}
-use Rattle.rules.specs.Prelude.{properties_of, ok3, ok4, ok5, ok6, ok7, q2, q3, q4, q5, q6, type_count, type_at, ok9}
-use Rattle.rules.specs.Prelude.{ok10, ok36_type, ok11, ok12, q8_of, q8, q9, q10, q36_types, q11, records, arity, kind}
-use Rattle.rules.specs.Prelude.{term, size, depths, binders, term_end, exactly, ok14, ok15, ok36_object, ok16, ok18}
-use Rattle.rules.specs.Prelude.{ok19, q13_of, q13, q14, q15, q36_objects, q16, q17, q19, of_typing, typing, sheet, End}
-use Rattle.rules.specs.Prelude.{end_number, end_count, Preview, q35, preview_call, move_call, q32, q33, ok33, ok34}
-use Rattle.rules.specs.Prelude.{words_check, q1, q25, q26, q27, groups_check, types_check, compare_call, form_check}
-use Rattle.rules.specs.Prelude.{own_check, script_check, check_call, step_call, run_call, sheet_call, ok39, q39}
-use Rattle.rules.specs.Prelude.{profile_checking, widen_types, widen_script, old_types_check, old_script_check}
-use Rattle.rules.specs.Prelude.{rewriting_types, rewriting_script, scopes, office_records, nameless, named_term, ok29}
-use Rattle.rules.specs.Prelude.{ok30, q28, q29, q30, import_of, import_call, export_of, q28_of_export, export_call}
-use Rattle.rules.proofs.Prelude.{form_yes, q28_measured, nameless_records, q13_fitting, whole, end_bound, and_then}
-use Rattle.rules.proofs.Prelude.{few_rows, few_types}
+use Rattle.calculus.specs.Terms.{is_value}
+use Rattle.rules.specs.Answer.{Bytes, Octets, Answer, accepted, refused, ◌>>=◌, ◌>>◌, ask, first_from, refused_at, each}
+use Rattle.rules.specs.Answer.{all_below}
+use Rattle.rules.specs.Limits.{row_width, type_width, script_width, old_type_width, old_script_width, group_limit}
+use Rattle.rules.specs.Limits.{table_limit, script_limit, word_limit, words_length, last_question, work_length}
+use Rattle.rules.specs.Limits.{answer_length, office_width, office_limit}
+use Rattle.rules.specs.Groups.{rows, properties_of, ok3, ok4, ok5, ok6, ok7, q2, q3, q4, q5, q6}
+use Rattle.rules.specs.Types.{type_count, type_at, ok9, ok10, ok36_type, ok11, ok12, q8_of, q8, q9, q10, q36_types, q11}
+use Rattle.rules.specs.Script.{records, arity, kind, term, size, depths, binders, term_end, exactly, ok14, ok15}
+use Rattle.rules.specs.Script.{ok36_object, ok16, ok18, ok19, q13_of, q13, q14, q15, q36_objects, q16, q17, q19}
+use Rattle.rules.specs.Typing.{of_typing, typing}
+use Rattle.rules.specs.Sheet.{sheet}
+use Rattle.rules.specs.Step.{End, end_number, end_count}
+use Rattle.rules.specs.Preview.{Preview, q35, preview_call, move_call}
+use Rattle.rules.specs.Words.{q32, q33, ok33, ok34, words_check}
+use Rattle.rules.specs.Calls.{q1, q25, q26, q27, groups_check, types_check, compare_call, form_check, own_check}
+use Rattle.rules.specs.Calls.{script_check, check_call, step_call, run_call, sheet_call}
+use Rattle.rules.specs.Profile.{ok39, q39, profile_checking}
+use Rattle.rules.specs.Rewriting.{widen_types, widen_script, old_types_check, old_script_check, rewriting_types}
+use Rattle.rules.specs.Rewriting.{rewriting_script}
+use Rattle.rules.specs.Names.{scopes}
+use Rattle.rules.specs.Office.{office_records, nameless, named_term, ok29, ok30, q28, q29, q30, import_of, import_call}
+use Rattle.rules.specs.Office.{export_of, q28_of_export, export_call}
+use Rattle.rules.proofs.Form.{form_yes}
+use Rattle.rules.proofs.Office.{q28_measured, nameless_records}
+use Rattle.rules.proofs.ScriptLength.{q13_fitting}
+use Rattle.rules.proofs.Scripts.{whole}
+use Rattle.rules.proofs.WayBack.{end_bound}
 use Rattle.packing.specs.Packed.{half, Bounded, bounded_yes, bounded_no}
 use Rattle.answer.specs.declared.Refusal.{Refusal}
 use Rattle.answer.specs.Numbers.{question_number}
 use Rattle.answer.specs.Said.{answer_of}
 use Rattle.promises.proofs.Places.{Placed, placed_yes, placed_no, typing_placed}
+use Rattle.rules.proofs.Asked.{and_then, few_rows, few_types}
 
 -- no place is too large to be packed
 pub place_small : {A : Type 0} (r : Result A Refusal) {a : Answer A} → answer_of r ≡ a → Bounded a → IfErr r (λ e. e.place < half)
@@ -62,7 +75,7 @@ exactly_bounded n (some e) b f = ask_bounded 17 e (nat_eq e n) (omega arith) (om
 pub front : (q : ℕ) (b : Bool) → 1 ≤ q → q ≤ last_question → Bounded (ask q 0 b)
 front q b l m = ask_bounded q 0 b l m (omega arith)
 
-pub at_8 : (width : ℕ) (t : Bytes) → Bounded (q8_of width t)
+at_8 : (width : ℕ) (t : Bytes) → Bounded (q8_of width t)
 at_8 width t =
     front 8 (nat_eq (length t % width) 0 && (nat_le 1 (length t / width) && nat_le (length t / width) table_limit)) (omega arith) (omega arith)
 

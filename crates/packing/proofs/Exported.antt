@@ -1,29 +1,36 @@
 -- Every exported answer is bounded, and one number holds it: `unpack` gives it back.
 use Rattle.std.proofs.Common.{◌≡◌, refl, sym, ap, ap₂, ◌∙◌, subst, [], ◌∷◌, ℕ, ◌/◌, ◌≤◌, ◌<◌, min, arith, leb-true}
 use Rattle.std.proofs.Common.{length}
-use Rattle.rules.specs.Prelude.{Ty, size_t, type_limit, Bytes, Octets, Answer, accepted, refused, ◌>>=◌, ◌>>◌}
-use Rattle.rules.specs.Prelude.{type_width, script_width, old_type_width, old_script_width, script_limit, office_width}
-use Rattle.rules.specs.Prelude.{properties_of, type_at, q8, q8_of, records, term, q13_of, End, at_value, moves, may_not}
-use Rattle.rules.specs.Prelude.{wrong_kind, too_big, end_number, end_count, step_in, typing, Ran, q1, q27, groups_check}
-use Rattle.rules.specs.Prelude.{types_check, script_check, check_call, type_records, step_call, step_report, run_call}
-use Rattle.rules.specs.Prelude.{sheet_records, q39, profile_checking, import_call, export_call, widen_types}
-use Rattle.rules.specs.Prelude.{widen_script, old_types_check, old_script_check, rewriting_types, rewriting_script}
-use Rattle.rules.specs.Prelude.{rewritten_records, Preview, q35, preview_call, move_call}
-use Rattle.std.proofs.Common.{Result, Ok, Err, IfOk, IfErr, true}
-use Rattle.std.proofs.Math.Bool.{false≢true}
-use Rattle.answer.specs.declared.Refusal.{Refusal}
-use Rattle.answer.specs.Numbers.{question_number}
-use Rattle.answer.specs.Said.{answer_of}
-use Rattle.promises.proofs.Imports.{imports}
+use Rattle.calculus.specs.Types.{Ty, size_t, type_limit}
+use Rattle.rules.specs.Answer.{Bytes, Octets, Answer, accepted, refused, ◌>>=◌, ◌>>◌}
+use Rattle.rules.specs.Limits.{type_width, script_width, old_type_width, old_script_width, sheet_width, table_limit}
+use Rattle.rules.specs.Limits.{script_limit, office_width}
+use Rattle.rules.specs.Groups.{rows, properties_of}
+use Rattle.rules.specs.Types.{type_at, q8, q8_of}
+use Rattle.rules.specs.Comparison.{Comparison, same, strictly_below, neither}
+use Rattle.rules.specs.Script.{records, term, size, q13_of}
+use Rattle.rules.specs.Step.{End, at_value, moves, may_not, wrong_kind, too_big, end_number, end_count, step_in}
+use Rattle.rules.specs.Typing.{typing}
+use Rattle.rules.specs.Sheet.{sheet}
+use Rattle.rules.specs.Run.{Ran}
+use Rattle.rules.specs.Calls.{q1, q25, q26, q27, groups_check, types_check, script_check, check_call, type_records}
+use Rattle.rules.specs.Calls.{step_call, step_report, run_call, run_report, sheet_call, sheet_records}
+use Rattle.rules.specs.Profile.{q39, profile_checking}
+use Rattle.rules.specs.Office.{import_call, export_call}
+use Rattle.rules.proofs.Office.{q28_measured}
+use Rattle.promises.proofs.Imports.{import_yes, imports}
 use Rattle.promises.proofs.Exports.{exports}
+use Rattle.rules.specs.Rewriting.{widen_types, widen_script, old_types_check, old_script_check, rewriting_types}
+use Rattle.rules.specs.Rewriting.{rewriting_script, rewritten_records}
+use Rattle.rules.specs.Preview.{Preview, q35, preview_call, move_call}
 use Rattle.promises.proofs.Answers.{accepted≢refused, accepted_inj}
-use Rattle.rules.proofs.Prelude.{and_then, few_types}
+use Rattle.rules.proofs.Asked.{and_then, few_types}
 use Rattle.promises.proofs.TypesTable.{tables}
-use Rattle.packing.specs.Packed.{packed_number, unpacked_answer, is_accepted, end_and_count, preview_lower, half}
-use Rattle.packing.specs.Packed.{end_read, count_read, StepCounted, PreviewCounted, preview_yes, preview_no}
+use Rattle.packing.specs.Packed.{packed_number, comparison_lower, end_and_count, step_lower, run_lower, preview_lower}
+use Rattle.packing.specs.Packed.{half, end_of, count_of, StepCounted, PreviewCounted, preview_yes, preview_no}
 use Rattle.packing.specs.Packed.{counted_yes, counted_no, Bounded, bounded_yes, bounded_no}
-use Rattle.packing.proofs.Unpacked.{unpack, unended}
-use Rattle.packing.proofs.Bounds.{check_bounded, profile_bounded, preview_bounded}
+use Rattle.packing.proofs.Unpacked.{Reads, unended}
+use Rattle.packing.proofs.Bounds.{check_bounded, profile_bounded, run_bounded, page_bounded, preview_bounded}
 use Rattle.packing.proofs.Bounds.{move_bounded, rewriting_types_bounded, rewriting_script_bounded, script_small}
 use Rattle.packing.proofs.Bounds.{importing_bounded, exporting_bounded, script_records}
 use Rattle.packing.proofs.Sizes.{Small, small_yes, small_no, no_binders, typing_small, EndBounded, within_move}
@@ -145,81 +152,32 @@ move_counted g t s room v = go (move_call g t s room v) refl (move_bounded g t s
     go (accepted x) e b = counted_yes (step_count g t s room x (moving_step g t s room v x e))
     go (refused q p) e (bounded_no l m n) = counted_no n
 
--- What is told of an answer, and that one number holds it: so its number and its place can be packed.
-pub number_small : (r : Result ℕ Refusal) {a : Answer ℕ} → answer_of r ≡ a → Holds a → IfOk r (λ n. n < half)
-number_small (Ok n) e h = go (subst Holds (sym e) h)
-  where
-    go : Holds (accepted n) → n < half
-    go (holds_yes l) = l
-number_small (Err y) e h = tt
+-- What a caller reads off an accepted run's and an accepted step's number is its end and its record count.
+pub run_read : (g t s : Bytes) (budget first scratch : ℕ) (x : Ran) → Octets s → run_call g t s budget first scratch ≡ accepted x
+    → Reads (packed_number (run_lower (run_report (accepted x)))) x.end (size x.last)
+unfolding run_report
+run_read g t s budget first scratch x o e = unended x.end (size x.last) (run_ends g t s budget first scratch x o e).last
 
-pub place_held : (r : Result ℕ Refusal) {a : Answer ℕ} → answer_of r ≡ a → Holds a → IfErr r (λ y. y.place < half)
-place_held (Ok n) e h = tt
-place_held (Err y) e h = go (subst Holds (sym e) h)
-  where
-    go : Holds (refused (question_number y.question) y.place) → y.place < half
-    go (holds_no l m n) = n
-
--- What is rewritten has no more records than a table or a script may have.
-rewritten_holds : (width : ℕ) (a : Answer Bytes) → Bounded a → ((b : Bytes) → a ≡ accepted b → length b / width ≤ script_limit) → Holds (rewritten_records width a)
-unfolding rewritten_records
-rewritten_holds width (accepted b) x small = holds_yes (omega (arith, small b refl))
-rewritten_holds width (refused q p) (bounded_no l m n) small = holds_no l m (omega arith)
-
-pub types_holds : (g t : Bytes) (room : ℕ) → Holds (rewritten_records type_width (rewriting_types g t room))
-unfolding rewriting_types old_types_check types_check
-types_holds g t room =
-    rewritten_holds type_width (rewriting_types g t room) (rewriting_types_bounded g t room) λ b e.
-    let x = and_then (old_types_check g t) _ e in
-    let y = and_then (q8_of old_type_width t) _ (and_then (groups_check g) _ x.0).1 in
-    let n = few_types (widen_types t) (and_then (q8 (widen_types t)) _ (and_then (groups_check g) _ y.1).1).0 in
-    let same = ap (λ (c : Bytes). length c / type_width) (accepted_inj (and_then (q27 (widen_types t) room) _ x.1).1) in
-    omega (arith, n, same)
-
-pub script_holds : (g t s : Bytes) (room : ℕ) → Holds (rewritten_records script_width (rewriting_script g t s room))
-unfolding rewriting_script old_script_check
-script_holds g t s room =
-    rewritten_holds script_width (rewriting_script g t s room) (rewriting_script_bounded g t s room) λ b e.
-    let x = and_then (old_script_check g t s) _ e in
-    let y = and_then (q13_of old_script_width [] s) _ (and_then (old_types_check g t) _ x.0).1 in
-    let n = script_records [] g (widen_types t) (widen_script s) y.1 in
-    let same = ap (λ (c : Bytes). length c / script_width) (accepted_inj (and_then (q27 (widen_script s) room) _ x.1).1) in
-    omega (arith, n, same)
-
-pub import_holds : (g t s : Bytes) (room : ℕ) → Octets s → Holds (rewritten_records script_width (import_call g t s room))
-import_holds g t s room o =
-    rewritten_holds script_width (import_call g t s room) (importing_bounded g t s room) λ b e.
-    script_records [] g t b ((imports g t s o).checked room b e)
-
-pub export_holds : (g t s : Bytes) (room : ℕ) → Octets s → Holds (rewritten_records office_width (export_call g t s room))
-unfolding export_call
-export_holds g t s room o =
-    rewritten_holds office_width (export_call g t s room) (exporting_bounded g t s room) λ b e.
-    let n = script_records [] g t s (and_then (script_check [] g t s) _ e).0 in
-    omega (arith, n, (exports g t s o).counted room b e)
+pub step_read : (g t s : Bytes) (room : ℕ) (x : End) → step_call g t s room ≡ accepted x
+    → Reads (packed_number (step_lower (step_report s (accepted x)))) (end_number x) (end_count (records s) x)
+step_read g t s room x e = unended (end_number x) (end_count (records s) x) (step_count g t s room x e)
 
 -- What a caller reads off a preview's number that is no refusal is the preview, with the number of steps that is the
 -- caller's.
-pub preview_read : (g t s : Bytes) (room steps n : ℕ) → n ≡ packed_number (preview_lower (preview_call g t s room steps))
-    → is_accepted (unpacked_answer n) ≡ true
-    → preview_call g t s room steps ≡ accepted (record { end = end_read (unpacked_answer n); count = count_read (unpacked_answer n); steps = steps })
+pub preview_read : (g t s : Bytes) (room steps n : ℕ) → n ≡ packed_number (preview_lower (preview_call g t s room steps)) → n < half
+    → preview_call g t s room steps ≡ accepted (record { end = end_of n; count = count_of n; steps = steps })
 preview_read g t s room steps n h l = go (preview_call g t s room steps) refl (preview_bounded g t s room steps) h
   where
     Wanted : Answer Preview → Type 0
-    Wanted a = a ≡ accepted (record { end = end_read (unpacked_answer n); count = count_read (unpacked_answer n); steps = steps })
+    Wanted a = a ≡ accepted (record { end = end_of n; count = count_of n; steps = steps })
 
     go : (a : Answer Preview) → preview_call g t s room steps ≡ a → Bounded a → n ≡ packed_number (preview_lower a) → Wanted a
     go (accepted v) e b k =
-        let few = preview_count g t s room steps v e in
-        let r = unended v.end v.count few in
+        let r = unended v.end v.count (preview_count g t s room steps v e) in
         let q = previewed g t s room steps v e in
-        let u : unpacked_answer n ≡ accepted (end_and_count v.end v.count) =
-        ap unpacked_answer k ∙ unpack (accepted (end_and_count v.end v.count)) (holds_yes (omega (arith, few, preview_end g t s room steps v e))) in
         let own : v.steps ≡ steps = ap (λ (w : Preview). w.steps) q.2 in
-        let end : v.end ≡ end_read (unpacked_answer n) = sym (ap end_read u ∙ r.end_is) in
-        let count : v.count ≡ count_read (unpacked_answer n) = sym (ap count_read u ∙ r.count_is) in
+        let end : v.end ≡ end_of n = sym (ap end_of k ∙ r.end_is) in
+        let count : v.count ≡ count_of n = sym (ap count_of k ∙ r.count_is) in
         ap₂ (λ (x y : ℕ). accepted (record { end = x; count = y; steps = v.steps })) end count
-        ∙ ap (λ (x : ℕ). accepted (record { end = end_read (unpacked_answer n); count = count_read (unpacked_answer n); steps = x })) own
-    go (refused q p) e (bounded_no l' m o) k =
-        let u : unpacked_answer n ≡ refused q p = ap unpacked_answer k ∙ unpack (refused q p) (holds_no l' m (omega arith)) in
-        absurd (false≢true (sym (ap is_accepted u) ∙ l))
+        ∙ ap (λ (x : ℕ). accepted (record { end = end_of n; count = count_of n; steps = x })) own
+    go (refused q p) e (bounded_no l' m o) k = let z : ◌≡◌ {A = ℕ} 0 1 = omega (arith, k) in absurd (omega (arith, z))

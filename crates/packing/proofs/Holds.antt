@@ -1,7 +1,8 @@
 -- Answers that one number holds.
 use Rattle.std.proofs.Common.{ℕ, ◌<◌, ◌≤◌}
-use Rattle.rules.specs.Prelude.{Answer, accepted, refused, last_question}
+use Rattle.rules.specs.Answer.{Answer, accepted, refused}
 use Rattle.packing.specs.Packed.{half}
+use Rattle.rules.specs.Limits.{last_question}
 
 -- an answer that one number holds
 pub data Holds : Answer ℕ → Type 0 where

@@ -1,15 +1,23 @@
 -- Lists of scripts and of amendments: a refusal's place and the answer fit the exported number. An entry that is looked
 -- at comes after entries with different scripts, so its index is at most their number.
-use Rattle.std.proofs.Common.{◌≡◌, refl, ap, Bool, true, false, cond, not}
+use Rattle.std.proofs.Common.{Result, Ok, Err, IfErr, ◌<◌, sym, subst, ◌≡◌, refl, ap, Bool, true, false, cond, not}
 use Rattle.std.proofs.Common.{◌&&◌, ℕ, zero, suc, ◌%◌, ◌≤◌, arith, nat_eq, nat_le, leb-true, length}
 use Rattle.std.proofs.Math.Option.{Option, none, some}
-use Rattle.rules.specs.Prelude.{Bytes, Answer, accepted, refused, ◌>>◌, ask, each, first_from, listed_width}
-use Rattle.rules.specs.Prelude.{entry_width, listed_limit, last_question, types_check, script_count, entry_count, ok25}
-use Rattle.rules.specs.Prelude.{ok40, ok41, ok42, q40_lengths, q25_scripts, entry_check, entries_check, lists_check}
-use Rattle.rules.specs.Prelude.{in_force}
-use Rattle.rules.proofs.Prelude.{ask_true, found, few_entries}
-use Rattle.packing.specs.Packed.{Bounded, bounded_no, BoundedByLists, lists_yes, lists_no}
+use Rattle.rules.specs.Answer.{Bytes, Answer, accepted, refused, ◌>>◌, ask, each, first_from}
+use Rattle.rules.specs.Limits.{listed_width, entry_width, listed_limit, last_question}
+use Rattle.rules.specs.Calls.{types_check}
+use Rattle.rules.specs.InForce.{script_count, entry_count, ok25, ok40, ok41, ok42, q40_lengths, q25_scripts}
+use Rattle.rules.specs.InForce.{entry_check, entries_check, lists_check, script_in_force, in_force}
+use Rattle.rules.proofs.Asked.{ask_true}
+use Rattle.rules.proofs.Search.{found}
+use Rattle.rules.proofs.InForce.{few_entries}
+use Rattle.promises.proofs.InForce.{lists_pass}
+use Rattle.packing.specs.Packed.{half, Bounded, bounded_no, BoundedByLists, lists_yes, lists_no}
 use Rattle.packing.proofs.Bounds.{types_bounded}
+use Rattle.packing.proofs.Holds.{holds_no, Holds, holds_yes}
+use Rattle.answer.specs.declared.Refusal.{Refusal}
+use Rattle.answer.specs.Numbers.{question_number}
+use Rattle.answer.specs.Said.{answer_of}
 
 then : {B : Type 0} (a : Answer (Unit {0})) (b : Answer B) → BoundedByLists a → (a ≡ accepted tt → BoundedByLists b) → BoundedByLists (◌>>◌ a b)
 then (accepted tt) b x f = f refl

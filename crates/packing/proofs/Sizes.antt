@@ -1,18 +1,29 @@
 -- What a call gives is small: a found type has at most 63 records, a term that a step or a run comes to at most 8,192,
 -- and so has a sheet. Assumes nothing.
-use Rattle.std.proofs.Common.{◌≡◌, refl, Bool, true, false, cond, ◌||◌, List, [], ◌∷◌, ℕ, zero, suc, ◌+◌}
-use Rattle.std.proofs.Common.{◌≤◌, arith, leb-true, ltb-false, get_or}
+use Rattle.std.proofs.Common.{◌≡◌, refl, Bool, true, false, cond, ◌||◌, List, [], ◌∷◌, ◌++◌, ℕ, zero, suc, ◌+◌, ◌*◌}
+use Rattle.std.proofs.Common.{◌≤◌, arith, leb-true, ltb-false, length, get_or, length-append}
 use Rattle.std.proofs.Math.Option.{Option, none, some}
-use Rattle.rules.specs.Prelude.{Property, Reader, Indirect, Security, one, Former, sum, product, function, Ty, leaf}
-use Rattle.rules.specs.Prelude.{node, top, raise_t, size_t, fits, type_limit, Side, first, second, choose, Operation}
-use Rattle.rules.specs.Prelude.{plus, less, Term, var, unit, lam, pair, inj, app, proj, case, protect, mu, literal}
-use Rattle.rules.specs.Prelude.{reckon, is_value, Outcome, value, moved, denied, stuck, step, below, nearest_type}
-use Rattle.rules.specs.Prelude.{finds_own, of_both, Answer, accepted, refused, ◌>>=◌, ◌>>◌, ask, script_limit, no_type}
-use Rattle.rules.specs.Prelude.{size, left, right, q20, q20_number, q21, q22, q23, q24, found_or, number_result, typing}
-use Rattle.rules.specs.Prelude.{End, at_value, moves, may_not, wrong_kind, too_big, exceeds, end_of_outcome, step_in}
-use Rattle.rules.specs.Prelude.{Ran, run}
-use Rattle.calculus.specs.Prelude.{number}
-use Rattle.rules.proofs.Prelude.{raise_size, common_size}
+use Rattle.calculus.specs.Security.{Property, Reader, Indirect, Security}
+use Rattle.calculus.specs.Types.{one, number, Former, sum, product, function, Ty, leaf, node, top, raise_t, size_t}
+use Rattle.calculus.specs.Types.{fits, type_limit}
+use Rattle.calculus.specs.Terms.{Side, first, second, choose, Operation, plus, less, Term, var, unit, lam, pair, inj}
+use Rattle.calculus.specs.Terms.{app, proj, case, protect, mu, literal, reckon, is_value}
+use Rattle.calculus.specs.Reduction.{Outcome, value, moved, denied, stuck, step}
+use Rattle.calculus.specs.Subtyping.{below}
+use Rattle.calculus.specs.Common.{nearest_type}
+use Rattle.calculus.specs.Typing.{finds_own}
+use Rattle.calculus.specs.Numbers.{of_both}
+use Rattle.calculus.proofs.Raising.{raise_size}
+use Rattle.calculus.proofs.Common.{common_size}
+use Rattle.rules.specs.Answer.{Bytes, Answer, accepted, refused, ◌>>=◌, ◌>>◌, ask}
+use Rattle.rules.specs.Limits.{sheet_width, script_limit}
+use Rattle.rules.specs.Groups.{leq}
+use Rattle.rules.specs.Types.{no_type}
+use Rattle.rules.specs.Script.{size}
+use Rattle.rules.specs.Typing.{left, right, q20, q20_number, q21, q22, q23, q24, found_or, number_result, typing}
+use Rattle.rules.specs.Step.{End, at_value, moves, may_not, wrong_kind, too_big, exceeds, end_of_outcome, step_in}
+use Rattle.rules.specs.Run.{Ran, run}
+use Rattle.rules.specs.Sheet.{shown_record, sheet}
 
 -- ---- found types
 

@@ -3,7 +3,7 @@ use Rattle.std.proofs.Common.{◌≡◌, ℕ, zero, suc, ◌/◌, ◌%◌, ◌^�
 use Rattle.std.proofs.Common.{div-one, pow-suc, w64, length, take, drop, take_all}
 use Rattle.std.proofs.Math.Nat.{div-div-eq-div-mul}
 use Rattle.std.specs.Int.{to_le_bytes, from_le_bytes, bytes_low_first, byte_at}
-use Rattle.rules.specs.Prelude.{Bytes, Octets}
+use Rattle.rules.specs.Answer.{Bytes, Octets}
 use Rattle.memory.specs.Splice.{splice}
 use Rattle.packing.specs.Packed.{low_bytes, low_number, steps_width, steps_in, steps_of}
 

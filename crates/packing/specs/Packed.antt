@@ -1,63 +1,26 @@
 -- An exported answer: one number of 64 bits, and a run's steps as bytes.
-use Rattle.std.specs.Prelude.{Bool, true, false, if◌then◌else◌, [], ◌∷◌, ℕ, zero, suc, ◌+◌, ◌*◌, ◌/◌, ◌%◌, ◌≤◌, nat_eq}
-use Rattle.std.specs.Prelude.{min, length, take}
-use Rattle.rules.specs.Prelude.{Bytes, Answer, accepted, refused, script_limit, listed_limit, last_question, Ran}
-use Rattle.rules.specs.Prelude.{Comparison, comparison_number, StepReport, Report, fill_front, Preview}
-
--- the version of the surface for C: raised with every change of a constant, a prototype or an answer
-abbrev pub version : ℕ
-version = 15
+use Rattle.std.specs.Prelude.{if◌then◌else◌, [], ◌∷◌, ℕ, zero, suc, ◌+◌, ◌*◌, ◌/◌, ◌%◌, ◌≤◌, ◌<◌, nat_eq, length, take}
+use Rattle.rules.specs.Answer.{Bytes, Answer, accepted, refused}
+use Rattle.rules.specs.Limits.{script_limit, listed_limit, last_question}
+use Rattle.rules.specs.Run.{Ran}
+use Rattle.rules.specs.Comparison.{Comparison, comparison_number}
+use Rattle.rules.specs.Calls.{StepReport, Report, fill_front}
+use Rattle.rules.specs.Preview.{Preview}
 
 -- 2^32
 abbrev pub half : ℕ
 half = 4294967296
 
--- The low half is the number of the question that refuses, and 0 where the call is accepted: cut to 32 bits, an answer
--- is 0 just there. The upper half is the call's number, or the place of a refusal.
+-- Refused is question * 2^32 + place; otherwise the upper half is 0 and the lower half is the call's number.
 abbrev pub packed_number : Answer ℕ → ℕ
-packed_number (accepted n) = n * half
-packed_number (refused q p) = p * half + q
+packed_number (accepted n) = n
+packed_number (refused q p) = q * half + p
 
 -- the answer that a caller reads off a packed number
 abbrev pub unpacked_answer : ℕ → Answer ℕ
-unpacked_answer n = if nat_eq (n % half) 0 then accepted (n / half) else refused (n % half) (n / half)
+unpacked_answer n = if nat_eq (n / half) 0 then accepted (n % half) else refused (n / half) (n % half)
 
--- the largest number that a half holds
-abbrev pub most_counted : ℕ
-most_counted = 4294967295
-
--- what a call counts that asks no question: more than a half holds is told as the largest
-abbrev pub counted_at_most : ℕ → Answer ℕ
-counted_at_most n = accepted (min n most_counted)
-
--- stands for the comparison of a refused call
-abbrev pub comparison_refused : ℕ
-comparison_refused = 255
-
--- stands for the script in force of a refused call
-abbrev pub in_force_refused : ℕ
-in_force_refused = 65536
-
--- was the call accepted?
-abbrev pub is_accepted : {A : Type 0} → Answer A → Bool
-is_accepted (accepted a) = true
-is_accepted (refused q p) = false
-
--- the question that refuses, and 0 of an accepted call
-abbrev pub question_of : {A : Type 0} → Answer A → ℕ
-question_of (accepted a) = 0
-question_of (refused q p) = q
-
--- the place of a refusal, and 0 of an accepted call
-abbrev pub place_of : Answer ℕ → ℕ
-place_of (accepted n) = 0
-place_of (refused q p) = p
-
--- the number of an accepted call, and this one of a refusal
-abbrev pub number_or : ℕ → Answer ℕ → ℕ
-number_or other (accepted n) = n
-number_or other (refused q p) = other
-
+-- an answer that one number holds
 -- an answer whose refusal, if it is one, has a question's number, and a place that isn't past 8,192
 pub data Bounded {A : Type 0} : Answer A → Type 0 where
   bounded_yes : {a : A} → Bounded (accepted a)
@@ -91,11 +54,11 @@ abbrev pub lower_half : {A : Type 0} → (A → ℕ) → Answer A → Answer ℕ
 lower_half count (accepted x) = accepted (count x)
 lower_half count (refused q p) = refused q p
 
--- the number of a check that finds nothing: 0
+-- the lower half of a check that finds nothing: 0
 abbrev pub check_lower : Answer (Unit {0}) → Answer ℕ
 check_lower = lower_half (λ x. 0)
 
--- a comparison's: its own number
+-- the lower half of a comparison: its number
 abbrev pub comparison_lower : Answer Comparison → Answer ℕ
 comparison_lower = lower_half comparison_number
 
@@ -103,41 +66,27 @@ comparison_lower = lower_half comparison_number
 abbrev pub quarter : ℕ
 quarter = 65536
 
--- the number of a step, a run or a preview: end * 2^16 + records
+-- the lower half of a step, a run or a preview: end * 2^16 + records
 abbrev pub end_and_count : ℕ → ℕ → ℕ
 end_and_count end count = end * quarter + count
 
--- the end in that
-abbrev pub end_in : ℕ → ℕ
-end_in n = n / quarter
+-- the end that a caller reads off that
+abbrev pub end_of : ℕ → ℕ
+end_of n = n / quarter
 
--- the count in that
-abbrev pub count_in : ℕ → ℕ
-count_in n = n % quarter
+-- the count that a caller reads off that
+abbrev pub count_of : ℕ → ℕ
+count_of n = n % quarter
 
--- stands for the end of a refused run or step: none ends so
-abbrev pub refused_end : ℕ
-refused_end = 255
-
--- the end that is read off the answer of a run, a step or a preview
-abbrev pub end_read : Answer ℕ → ℕ
-end_read (accepted n) = end_in n
-end_read (refused q p) = refused_end
-
--- the count that is read off it, 0 of a refusal
-abbrev pub count_read : Answer ℕ → ℕ
-count_read (accepted n) = count_in n
-count_read (refused q p) = 0
-
--- a step's answer as a number
+-- the lower half of a step's answer
 abbrev pub step_lower : Answer StepReport → Answer ℕ
 step_lower = lower_half (λ x. end_and_count x.end x.count)
 
--- a run's answer as a number
+-- the lower half of a run's answer
 abbrev pub run_lower : Answer Report → Answer ℕ
 run_lower = lower_half (λ x. end_and_count x.end x.count)
 
--- a preview's answer as a number
+-- the lower half of a preview's answer
 abbrev pub preview_lower : Answer Preview → Answer ℕ
 preview_lower = lower_half (λ x. end_and_count x.end x.count)
 

@@ -1,6 +1,8 @@
 -- What an exported check leaves: its number, and what each buffer that it is lent holds.
 use Rattle.std.specs.Prelude.{◌≡◌, ℕ}
-use Rattle.rules.specs.Prelude.{Ty, Bytes, Answer, type_records, work_after, answer_after}
+use Rattle.calculus.specs.Types.{Ty}
+use Rattle.rules.specs.Answer.{Bytes, Answer}
+use Rattle.rules.specs.Calls.{type_records, work_after, answer_after}
 use Rattle.packing.specs.Packed.{packed_number}
 
 -- The check that finds this: `work` and `answer` as they are lent, the number and the buffers as it leaves them.

@@ -1,6 +1,8 @@
 -- What the exports pass on.
 use Rattle.std.proofs.Common.{◌≡◌, refl, ℕ}
-use Rattle.rules.specs.Prelude.{Bytes, Answer, accepted, refused, End, step_call, step_report}
+use Rattle.rules.specs.Answer.{Bytes, Answer, accepted, refused}
+use Rattle.rules.specs.Step.{End}
+use Rattle.rules.specs.Calls.{step_call, step_report}
 use Rattle.packing.specs.Packed.{Bounded, bounded_no, counted_yes, counted_no, StepCounted}
 use Rattle.packing.proofs.Bounds.{step_bounded}
 use Rattle.packing.proofs.Exported.{step_count}

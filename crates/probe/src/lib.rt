@@ -1,5 +1,4 @@
-// The inner calls, exported for the tests only. What a check or a step answers is packed as the library's own answers
-// are.
+// The inner calls, exported for the tests only. Answers are packed as the library's own are.
 
 #![tactic(auto)]
 

@@ -1,22 +1,38 @@
 -- Accepted by the rules, and least.
-use Rattle.std.proofs.Common.{rules}
-use Rattle.std.proofs.Common.{◌≡◌, refl, sym, subst, ap, ◌∙◌, Bool, true, false, cond, ◌↔◌, [], ◌∷◌, ℕ, suc, ◌≤◌}
+use Rattle.std.proofs.Common.{◌≡◌, refl, sym, subst, ap, ◌∙◌, Bool, true, false, cond, ◌↔◌, [], ◌∷◌, ℕ, suc, zero, ◌≤◌}
 use Rattle.std.proofs.Common.{min, arith}
 use Rattle.std.proofs.Math.Option.{some}
-use Rattle.rules.specs.Prelude.{Security, Ty, Subtype, Term, is_value, Outcome, value, moved, denied, stuck, step}
-use Rattle.rules.specs.Prelude.{infer, Bytes, Octets, Answer, accepted, ◌>>◌, work_length, answer_length, properties_of}
-use Rattle.rules.specs.Prelude.{type_at, encode_type, encode, term, typing, End, at_value, moves, may_not, wrong_kind}
-use Rattle.rules.specs.Prelude.{too_big, exceeds, end_of_outcome, step_in, Ran, run, types_check, script_check}
-use Rattle.rules.specs.Prelude.{check_call, type_bytes, step_call, run_call, verdict, Accepted}
-use Rattle.rules.proofs.Prelude.{properties_laws, value_step, step_value, step_reduces, reduces_step, step_denied}
-use Rattle.rules.proofs.Prelude.{denied_step, step_stuck, stuck_step, sc_empty, infer_sound, infer_complete}
-use Rattle.rules.proofs.Prelude.{term_encode, and_then}
+use Rattle.calculus.specs.Security.{Security}
+use Rattle.calculus.specs.Types.{Ty}
+use Rattle.calculus.specs.Subtyping.{Subtype}
+use Rattle.calculus.specs.Terms.{Term, is_value}
+use Rattle.calculus.specs.Reduction.{Outcome, value, moved, denied, stuck, step}
+use Rattle.calculus.specs.Typing.{infer}
+use Rattle.calculus.proofs.Properties.{properties_laws}
+use Rattle.calculus.proofs.Values.{value_step}
+use Rattle.calculus.proofs.Reduction.{step_value, step_reduces, reduces_step, step_denied, denied_step, step_stuck}
+use Rattle.calculus.proofs.Reduction.{stuck_step}
+use Rattle.calculus.proofs.SecureTyping.{sc_empty}
+use Rattle.calculus.proofs.Soundness.{infer_sound}
+use Rattle.calculus.proofs.Completeness.{infer_complete}
+use Rattle.rules.specs.Answer.{Bytes, Octets, Answer, accepted, ◌>>◌}
+use Rattle.rules.specs.Limits.{work_length, answer_length}
+use Rattle.rules.specs.Groups.{properties_of}
+use Rattle.rules.specs.Types.{type_at, encode_type}
+use Rattle.rules.specs.Script.{encode, term}
+use Rattle.rules.specs.Typing.{typing}
+use Rattle.rules.specs.Step.{End, at_value, moves, may_not, wrong_kind, too_big, exceeds, end_of_outcome, step_in}
+use Rattle.rules.specs.Step.{end_number}
+use Rattle.rules.specs.Run.{Ran, run, ends}
+use Rattle.rules.specs.Calls.{types_check, script_check, check_call, type_bytes, step_call, run_call}
+use Rattle.rules.specs.Reach.{verdict, Accepted}
+use Rattle.rules.proofs.Scripts.{term_encode}
 use Rattle.promises.specs.Runs.{moved_to, Repeats, spent_on_value, spent, stops, goes_on}
 use Rattle.promises.specs.Promises.{AcceptedByTheRules, Typed}
 use Rattle.promises.proofs.Answers.{accepted_inj}
+use Rattle.rules.proofs.Asked.{and_then}
 use Rattle.promises.proofs.Tables.{Tables}
 use Rattle.promises.proofs.TypesTable.{tables}
-use Rattle.promises.proofs.Courses.{Course, budget_spent, step_ended, step_moved, course, run_is}
 use Rattle.promises.proofs.Inference.{forget, agree}
 use Rattle.promises.proofs.Steps.{limited_moves, limited_too_big, limited_value, limited_may_not, limited_wrong_kind}
 use Rattle.promises.proofs.Steps.{fit_steps, fit_step_is, fit_moves}
@@ -60,14 +76,20 @@ module _ (g t s : Bytes) (octets_g : Octets g) (octets_s : Octets s) where
   verdict_parts type a = and_then (script_check [] g t s) (typing S tab [] 0 (term s)) a
 
   accepts : script_check [] g t s ≡ accepted tt → (type : Ty) → Typed g t s type → (least : Ty) × Accepted g t s least × Subtype S least type
-  accepts q type h = search (rules, known, infer_complete, properties_laws, sc_empty, goes_typing, found_accepted, same_type)
+  accepts q type h =
+      let X = known q in
+      let c = infer_complete (properties_laws X.lattice) X.table (term s) type sc_empty h in
+      (c.0, goes_typing q ∙ found_accepted (typing S tab [] 0 (term s)) (same_type q ∙ c.1), c.2)
 
   -- the reported type is the one that is inferred
   pub reported : (type : Ty) → Accepted g t s type → (script_check [] g t s ≡ accepted tt) × (infer S tab [] (term s) ≡ some type)
   reported type a = let p = verdict_parts type a in (p.0, sym (same_type p.0) ∙ ap forget p.1)
 
   pub only : (type : Ty) → Accepted g t s type → (script_check [] g t s ≡ accepted tt) × Typed g t s type
-  only type a = search (rules, reported, known, infer_sound, properties_laws, sc_empty)
+  only type a =
+      let p = reported type a in
+      let X = known p.0 in
+      (p.0, infer_sound (properties_laws X.lattice) X.table (term s) type sc_empty p.1)
 
   reports : (type : Ty) → Accepted g t s type → type_bytes (verdict g t s) ≡ accepted (encode_type type)
   unfolding type_bytes
@@ -95,35 +117,53 @@ module _ (g t : Bytes) (types : types_check g t ≡ accepted tt) (X : Tables g t
   abbrev Repeated : ℕ → Term → Ran → Type 0
   Repeated budget e x = Repeats g t room budget (encode e) x.end x.steps (encode x.last)
 
-  repeats_course : {budget : ℕ} {e : Term} {x : Ran} → Fit g t e → Course (properties_of g) (type_at t) room budget e x → Repeated budget e x
-  repeats_course {e = e} F (budget_spent {b = true} v) = spent_on_value (ap is_value (term_encode e) ∙ v)
-  repeats_course {e = e} F (budget_spent {b = false} v) = spent (ap is_value (term_encode e) ∙ v)
-  repeats_course {budget = suc budget} {e = e} F (step_ended h k n) =
-      subst (λ (end : ℕ). Repeats g t room (suc budget) (encode e) end 0 (encode e)) k
-      (stops (fit_steps g t types X room e F ∙ ap accepted h) (λ q. n (sym k ∙ q)))
-  repeats_course {e = e} F (step_moved h r) =
-      goes_on (moved_to (fit_steps g t types X room e F ∙ ap accepted h)) (repeats_course (fit_moves g t types X room _ _ F h) r)
-
   pub repeated : (budget : ℕ) (e : Term) → Fit g t e → Repeated budget e (after budget e)
-  repeated budget e F = repeats_course F (course (properties_of g) (type_at t) room budget e)
+  unfolding run
+  repeated zero e F = go (is_value e) refl
+    where
+      go : (b : Bool) → is_value e ≡ b → Repeated 0 e (ends (cond b 0 1) e)
+      go true v = spent_on_value (ap is_value (term_encode e) ∙ v)
+      go false v = spent (ap is_value (term_encode e) ∙ v)
+  repeated (suc budget) e F = go (step_in (properties_of g) (type_at t) room e) refl (λ e' h. repeated budget e' (fit_moves g t types X room e e' F h))
+    where
+      stopped : (x : End) → step_in (properties_of g) (type_at t) room e ≡ x → (end_number x ≡ 1 → ⊥) → Repeated (suc budget) e (ends (end_number x) e)
+      stopped x h n = stops (fit_steps g t types X room e F ∙ ap accepted h) n
+
+      go : (x : End) → step_in (properties_of g) (type_at t) room e ≡ x → ((e' : Term) → step_in (properties_of g) (type_at t) room e ≡ moves e' → Repeated budget e' (after budget e'))
+          → Repeated (suc budget) e (after (suc budget) e)
+      go at_value h ih = rw (h, run) (stopped at_value h (λ x. omega arith))
+      go (moves e') h ih = rw (h, run) (goes_on (moved_to (fit_steps g t types X room e F ∙ ap accepted h)) (ih e' h))
+      go may_not h ih = rw (h, run) (stopped may_not h (λ x. omega arith))
+      go wrong_kind h ih = rw (h, run) (stopped wrong_kind h (λ x. omega arith))
+      go too_big h ih = rw (h, run) (stopped too_big h (λ x. omega arith))
 
   -- and nothing else repeats it
   abbrev Same : ℕ → ℕ → Bytes → Ran → Type 0
   Same end steps last x = (end ≡ x.end) × (steps ≡ x.steps) × (last ≡ encode x.last)
 
-  course_of : {budget end steps : ℕ} {s last : Bytes} → Repeats g t room budget s end steps last → (e : Term) → encode e ≡ s → Fit g t e
-      → (x : Term) × Course (properties_of g) (type_at t) room budget e (record { end = end; steps = steps; last = x }) × (last ≡ encode x)
-  course_of (spent_on_value v) e p F = (e, budget_spent {b = true} (ap is_value (sym (term_encode e) ∙ ap term p) ∙ v), sym p)
-  course_of (spent v) e p F = (e, budget_spent {b = false} (ap is_value (sym (term_encode e) ∙ ap term p) ∙ v), sym p)
-  course_of (stops h n) e p F = (e, step_ended (fit_step_is g t types X room e p F h) refl n, sym p)
-  course_of (goes_on (moved_to {e = e'} h) r) e p F =
-      let m = fit_step_is g t types X room e p F h in
-      let c = course_of r e' refl (fit_moves g t types X room e e' F m) in
-      (c.0, step_moved m c.1, c.2)
+  spent_is : (e : Term) (b : Bool) {s : Bytes} → encode e ≡ s → is_value (term s) ≡ b → Same (cond b 0 1) 0 s (after 0 e)
+  unfolding run
+  spent_is e b p v = (ap (λ (x : Bool). cond x 0 1) (sym v ∙ ap (λ (y : Bytes). is_value (term y)) (sym p) ∙ ap is_value (term_encode e)), refl, sym p)
+
+  stop_is : (budget : ℕ) (e : Term) (x : End) {s : Bytes} → encode e ≡ s → step_in (properties_of g) (type_at t) room e ≡ x → (end_number x ≡ 1 → ⊥)
+      → Same (end_number x) 0 s (after (suc budget) e)
+  unfolding run
+  stop_is budget e (moves e') p h n = absurd (n refl)
+  stop_is budget e _ p h n = rw (h, run) (refl, refl, sym p)
+
+  move_is : (budget : ℕ) (e e' : Term) {end steps : ℕ} {last : Bytes} → step_in (properties_of g) (type_at t) room e ≡ moves e'
+      → Same end steps last (after budget e') → Same end (suc steps) last (after (suc budget) e)
+  unfolding run
+  move_is budget e e' h d = rw (h, run) (d.0, ap suc d.1, d.2)
 
   pub repeats_once : {budget end steps : ℕ} {s last : Bytes} → Repeats g t room budget s end steps last → (e : Term) → encode e ≡ s → Fit g t e
       → Same end steps last (after budget e)
-  repeats_once r e p F = let c = course_of r e p F in rw (run_is c.1) (refl, refl, c.2)
+  repeats_once (spent_on_value v) e p F = spent_is e true p v
+  repeats_once (spent v) e p F = spent_is e false p v
+  repeats_once (stops {budget} {s} {x} h n) e p F = stop_is budget e x p (fit_step_is g t types X room e p F h) n
+  repeats_once (goes_on {budget} (moved_to {e = e'} h) r) e p F =
+      let m = fit_step_is g t types X room e p F h in
+      move_is budget e e' m (repeats_once r e' refl (fit_moves g t types X room e e' F m))
 
 runs_so : (g t s : Bytes) → Octets g → Octets s → (budget first scratch : ℕ) (ran : Ran) → run_call g t s budget first scratch ≡ accepted ran
     → (end steps : ℕ) (last : Bytes)

@@ -1,13 +1,31 @@
 -- A run of an accepted script.
-use Rattle.std.proofs.Common.{rules}
-use Rattle.std.proofs.Common.{◌≡◌, refl, sym, subst, ap, ◌∙◌, [], ◌∷◌, ◌++◌, ℕ, ◌-◌, ◌*◌, ◌≤◌, min, arith}
+use Rattle.std.proofs.Common.{◌≡◌, refl, sym, subst, ap, ◌∙◌, [], ◌∷◌, ◌++◌, ℕ, suc, zero, ◌-◌, ◌*◌, ◌≤◌, min, arith}
 use Rattle.std.proofs.Common.{length}
-use Rattle.rules.specs.Prelude.{Security, Ty, Subtype, Term, step, HasType, Bytes, Octets, accepted, script_width}
-use Rattle.rules.specs.Prelude.{properties_of, type_at, encode, term, typing, step_in, Ran, run, strip_script}
-use Rattle.rules.specs.Prelude.{strip_types, one_group, zeros, types_check, script_check, check_call, run_call}
-use Rattle.rules.specs.Prelude.{run_report, first_after, verdict, Accepted}
-use Rattle.rules.proofs.Prelude.{properties_laws, sc_empty, infer_sound, infer_complete, erase, encode_length}
-use Rattle.rules.proofs.Prelude.{term_code, term_encode}
+use Rattle.calculus.specs.Security.{Security}
+use Rattle.calculus.specs.Types.{Ty}
+use Rattle.calculus.specs.Subtyping.{Subtype}
+use Rattle.calculus.specs.Terms.{Term}
+use Rattle.calculus.specs.Reduction.{step}
+use Rattle.calculus.specs.Typing.{HasType}
+use Rattle.calculus.proofs.Properties.{properties_laws}
+use Rattle.calculus.proofs.SecureTyping.{sc_empty}
+use Rattle.calculus.proofs.Soundness.{infer_sound}
+use Rattle.calculus.proofs.Completeness.{infer_complete}
+use Rattle.calculus.proofs.Erased.{erase}
+use Rattle.rules.specs.Answer.{Bytes, Octets, accepted}
+use Rattle.rules.specs.Limits.{script_width}
+use Rattle.rules.specs.Groups.{properties_of}
+use Rattle.rules.specs.Types.{type_at}
+use Rattle.rules.specs.Script.{encode, term}
+use Rattle.rules.specs.Typing.{typing}
+use Rattle.rules.specs.Step.{step_in}
+use Rattle.rules.specs.Run.{Ran, run}
+use Rattle.rules.specs.Strip.{strip_script, strip_types, one_group}
+use Rattle.rules.specs.Calls.{zeros, types_check, script_check, check_call, run_call, run_report, first_after}
+use Rattle.rules.specs.Reach.{verdict, Accepted}
+use Rattle.rules.proofs.PrefixLaws.{encode_length}
+use Rattle.rules.proofs.TermCode.{term_code}
+use Rattle.rules.proofs.Scripts.{term_encode}
 use Rattle.promises.specs.Runs.{moved_to, Reaches, the_script, after_step}
 use Rattle.promises.specs.Promises.{Typed, AcceptedRun}
 use Rattle.promises.proofs.Tables.{Tables}
@@ -59,11 +77,17 @@ module _ (g t : Bytes) (types : types_check g t ≡ accepted tt) (X : Tables g t
       reached room type r e' refl (fit_moves g t types X room e e' F x) (moved_typed (properties_laws X.lattice) X.table e e' type h y.0)
 
 one_group_octets : Octets one_group
-one_group_octets i = grind arith
+one_group_octets zero = omega arith
+one_group_octets (suc zero) = omega arith
+one_group_octets (suc (suc zero)) = omega arith
+one_group_octets (suc (suc (suc zero))) = omega arith
+one_group_octets (suc (suc (suc (suc i)))) = omega arith
 
 -- two buffers with room
 pub two_rooms : (a b : ℕ) (s : Bytes) → length s ≤ a → length s ≤ b → Roomy (a ∷ b ∷ []) s
-two_rooms a b s l m i h = grind arith
+two_rooms a b s l m zero h = l
+two_rooms a b s l m (suc zero) h = m
+two_rooms a b s l m (suc (suc i)) h = absurd (omega arith)
 
 -- a run of a term that fits
 pub fit_runs : (g t : Bytes) → types_check g t ≡ accepted tt → Tables g t → (e : Term) (budget first scratch : ℕ) → Fit g t e → length (encode e) ≤ first → length (encode e) ≤ scratch
@@ -78,7 +102,11 @@ erase_length : (e : Term) → length (encode (erase e)) ≡ length (encode e)
 erase_length e = encode_length term_code (erase e) ∙ ap (λ (n : ℕ). script_width * n) (erase_size e) ∙ sym (encode_length term_code e)
 
 erase_fit : (g t : Bytes) (e : Term) → Fit g t e → Fit one_group (strip_types t) (erase e)
-erase_fit g t e F = search (rules, erase_formed, erase_size, erase_depth)
+erase_fit g t e F = record {
+  formed = erase_formed g t 0 e F.formed;
+  small = omega (arith, F.small, erase_size e);
+  shallow = omega (arith, F.shallow, erase_depth e);
+}
 
 same_reports : (x : Ran) → run_report (accepted (erase_ran x)) ≡ run_report (accepted x)
 unfolding run_report

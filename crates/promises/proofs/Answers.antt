@@ -1,7 +1,7 @@
 -- What an accepted call says of its questions, one after another.
-use Rattle.std.proofs.Common.{◌≡◌, sym, ap, Bool, true, false, ◌&&◌, ℕ, arith}
+use Rattle.std.proofs.Common.{◌≡◌, refl, sym, ap, Bool, true, false, ◌&&◌, ℕ, arith}
 use Rattle.std.proofs.Math.Bool.{false≢true}
-use Rattle.rules.specs.Prelude.{Answer, accepted, refused, ◌>>◌, ask}
+use Rattle.rules.specs.Answer.{Answer, accepted, refused, ◌>>◌, ask}
 
 abbrev is_accepted : {A : Type 0} → Answer A → Bool
 is_accepted (accepted a) = true

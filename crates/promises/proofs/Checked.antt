@@ -1,11 +1,20 @@
 -- Questions 2 to 19 and 36, all answered yes, say that a script is the encoding of a formed term within the limits, and
 -- back.
 use Rattle.std.proofs.Common.{◌≡◌, List, ℕ, ◌≤◌, ◌<◌, arith, length, get_or}
-use Rattle.rules.specs.Prelude.{Lattice, Term, Bytes, Octets, accepted, script_limit, depth_limit, groups_of, encode}
-use Rattle.rules.specs.Prelude.{term, size, depth, q13, q19, types_check, form_check, own_check, script_check}
-use Rattle.rules.proofs.Prelude.{q13_fitting, q13_encode, whole, q17_encode, q14_encode, q18_depth, q18_encode}
-use Rattle.rules.proofs.Prelude.{and_then, form_yes, yes_form}
+use Rattle.calculus.specs.Groups.{Lattice}
+use Rattle.calculus.specs.Terms.{Term}
+use Rattle.rules.specs.Answer.{Bytes, Octets, accepted}
+use Rattle.rules.specs.Limits.{script_limit, depth_limit}
+use Rattle.rules.specs.Groups.{groups_of}
+use Rattle.rules.specs.Script.{encode, term, size, depth, q13, q19}
+use Rattle.rules.specs.Calls.{types_check, form_check, own_check, script_check}
+use Rattle.rules.proofs.ScriptLength.{q13_fitting, q13_encode}
+use Rattle.rules.proofs.Scripts.{whole, q17_encode}
+use Rattle.rules.proofs.NodeQuestions.{q14_encode}
+use Rattle.rules.proofs.Depth.{q18_depth, q18_encode}
 use Rattle.promises.proofs.Answers.{go_on}
+use Rattle.rules.proofs.Asked.{and_then}
+use Rattle.rules.proofs.Form.{form_yes, yes_form}
 use Rattle.promises.proofs.Formed.{Formed}
 use Rattle.promises.proofs.Questions.{questions_formed, formed_questions}
 

@@ -1,20 +1,26 @@
 -- The common type is the nearest among all types in the subtyping order.
-use Rattle.std.proofs.Common.{rules}
-use Rattle.std.proofs.Common.{◌≡◌, sym, ap, subst, ◌∙◌, true, IsTrue}
-use Rattle.std.proofs.Math.Option.{some, Option}
+use Rattle.std.proofs.Common.{◌≡◌, refl, sym, ap, subst, ◌∙◌, true, IsTrue}
+use Rattle.std.proofs.Math.Option.{none, some, Option}
 use Rattle.std.proofs.Math.Bool.{false≢true}
-use Rattle.rules.specs.Prelude.{Security, Laws, Ty, secure_t, exists, Direction, below, above, nearest_type}
-use Rattle.rules.proofs.Prelude.{properties_laws, Directed, directed_opposite, directed_antisym, directed_subtype}
-use Rattle.rules.proofs.Prelude.{subtype_directed, common_bound, common_nearest, common_exists, common_size, some_inj}
+use Rattle.calculus.specs.Security.{Security, Laws}
+use Rattle.calculus.specs.Types.{Ty, secure_t, exists}
+use Rattle.calculus.specs.Subtyping.{Direction, below, above}
+use Rattle.calculus.specs.Common.{nearest_type}
+use Rattle.calculus.proofs.Properties.{properties_laws}
+use Rattle.calculus.proofs.Directed.{Directed, directed_opposite, directed_antisym, directed_subtype, subtype_directed}
+use Rattle.calculus.proofs.Common.{common_bound, common_nearest, common_exists, common_size}
+use Rattle.rules.proofs.Search.{some_inj}
 use Rattle.promises.specs.CommonTypes.{Toward, NearestType, CommonType, CommonTypes}
 use Rattle.promises.proofs.Groups.{lattice}
 
 toward : {S : Security} (d : Direction) {s t : Ty} → Directed S d s t → Toward S d s t
-toward d p = search (rules, directed_subtype, directed_opposite)
+toward below p = directed_subtype p
+toward above p = directed_subtype (directed_opposite p)
 
 -- an answer that is there
 there : (o : Option Ty) → exists o ≡ true → (u : Ty) × (o ≡ some u)
-there o h = search (rules, false≢true)
+there none h = absurd (false≢true h)
+there (some u) h = (u, refl)
 
 module _ {S : Security} (L : Laws S) where
   directed : (d : Direction) {s t : Ty} → Toward S d s t → Directed S d s t

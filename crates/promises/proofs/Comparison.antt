@@ -1,17 +1,25 @@
 -- The laws of the comparison.
-use Rattle.std.proofs.Common.{rules}
-use Rattle.std.proofs.Common.{◌≡◌, ap, sym, subst, ◌∙◌, Bool, true, cond, ◌&&◌, [], append-nil, ℕ, ◌<◌}
-use Rattle.std.proofs.Common.{min, arith, IsTrue}
+use Rattle.std.proofs.Common.{◌≡◌, refl, ap, sym, subst, ◌∙◌, Bool, true, false, cond, ◌&&◌, [], append-nil, ℕ, ◌<◌}
+use Rattle.std.proofs.Common.{min, arith, eqb-true, eq-eqb, lt-ltb, nat_eq, IsTrue}
 use Rattle.std.proofs.Math.Bool.{false≢true}
-use Rattle.rules.specs.Prelude.{Property, Security, Leaf, one, Former, sum, product, function, Ty, leaf, node, Subtype}
-use Rattle.rules.specs.Prelude.{Direction, subtype, Bytes, Octets, accepted, properties_of, type_count, type_at}
-use Rattle.rules.specs.Prelude.{encode_type, Comparison, same, strictly_below, neither, equal_properties, equal_types}
-use Rattle.rules.specs.Prelude.{comparison, comparison_number, types_check, compare_call}
-use Rattle.calculus.specs.Prelude.{number}
+use Rattle.calculus.specs.Security.{Property, Security}
+use Rattle.calculus.specs.Types.{Leaf, one, number, Former, sum, product, function, Ty, leaf, node}
 use Rattle.calculus.specs.Types as formers
+use Rattle.calculus.specs.Subtyping.{Subtype, Direction, subtype}
 use Rattle.calculus.specs.Subtyping as directions
-use Rattle.rules.proofs.Prelude.{properties_laws, same_refl, same_eq, subtype_sound, subtype_complete, subtype_opposite}
-use Rattle.rules.proofs.Prelude.{subtype_reflexive, subtype_antisymmetric, ask_true, unique, type_prefix}
+use Rattle.calculus.proofs.Properties.{properties_laws}
+use Rattle.calculus.proofs.Directed.{same_refl, same_eq}
+use Rattle.calculus.proofs.Subtyping.{subtype_sound, subtype_complete, subtype_opposite, subtype_reflexive}
+use Rattle.calculus.proofs.Subtyping.{subtype_antisymmetric}
+use Rattle.rules.specs.Answer.{Bytes, Octets, accepted}
+use Rattle.rules.specs.Groups.{properties_of}
+use Rattle.rules.specs.Types.{type_count, type_at, encode_type}
+use Rattle.rules.specs.Comparison.{Comparison, same, strictly_below, neither, equal_properties, equal_types, comparison}
+use Rattle.rules.specs.Comparison.{comparison_number}
+use Rattle.rules.specs.Calls.{types_check, compare_call}
+use Rattle.rules.proofs.Asked.{ask_true}
+use Rattle.rules.proofs.PrefixLaws.{unique}
+use Rattle.rules.proofs.TypeCode.{type_prefix}
 use Rattle.promises.specs.Comparison.{Compares, left_sides, Composes, Comparisons}
 use Rattle.promises.proofs.Answers.{accepted_inj, both, asks, and_true}
 use Rattle.promises.proofs.Tables.{Tables}
@@ -123,7 +131,18 @@ module _ (S : Security) where
 
   pub composes : Composes S
   unfolding subtype equal_types
-  composes = search (rules, leaves, nodes, other_leaves, other_formers, below_related, ask_true, asks, related_below)
+  composes = record {
+    leaves = leaves;
+    sides = nodes;
+    other_leaves = other_leaves;
+    leaf_other = λ b f k l s t. refl;
+    other_leaf = λ b f k l s t. refl;
+    others = other_formers;
+    alike = λ place s t. (
+      λ h. below_related S s t (ask_true 22 place (subtype S directions.below s t) h),
+      λ h. asks 22 place (subtype S directions.below s t) (related_below S s t h),
+    );
+  }
 
 -- Two types of a table.
 module _ (g t : Bytes) (o : Octets g) (yes : types_check g t ≡ accepted tt) where

@@ -1,10 +1,10 @@
 -- A call that asks its questions one after another answers its yes, or by the first no.
-use Rattle.std.proofs.Common.{rules}
 use Rattle.std.proofs.Common.{◌≡◌, refl, sym, ap, subst, ◌∙◌, Bool, true, false, not, List, [], ◌∷◌, ◌++◌, ℕ, nat_eq}
 use Rattle.std.proofs.Common.{arith}
 use Rattle.std.proofs.Math.Option.{none, some, Option}
-use Rattle.rules.specs.Prelude.{Answer, accepted, refused, ◌>>=◌, ◌>>◌, ask, refused_at, each, first_below, exactly}
-use Rattle.rules.proofs.Prelude.{regroup}
+use Rattle.rules.specs.Answer.{Answer, accepted, refused, ◌>>=◌, ◌>>◌, ask, refused_at, each, first_below}
+use Rattle.rules.specs.Script.{exactly}
+use Rattle.rules.proofs.Asked.{regroup}
 use Rattle.promises.proofs.Answers.{accepted≢refused, number_inj, place_inj}
 use Rattle.promises.specs.Questions.{Question, question, AllYes, none_left, yes, FirstNo, first_no_here, first_no_later}
 use Rattle.promises.specs.Questions.{QuestionsDecide, Checks}
@@ -86,13 +86,6 @@ decided_then {A} {qs} {rs} m n (refuses F) D = refuses (before_more rs F)
 pub decided_yes : {A : Type 0} (a : A) → Decided [] (accepted a)
 decided_yes a = says_yes none_left
 
--- a question before others
-pub decided_first : {A : Type 0} {n : ℕ} {a : Answer (Unit {0})} {qs : List Question} {b : Answer A} → Own n a → Decided qs b
-    → Decided (question n a ∷ qs) (◌>>◌ a b)
-decided_first o D = decided_then _ _ (decided_one o) D
-
-pub ruleset asking = (decided_first, decided_one, decided_yes, ask_own, each_own, exactly_own)
-
 -- An answer that comes of a yes goes on.
 pub then_found : {A B : Type 0} (m : Answer (Unit {0})) (a : A) (f : A → Answer B) → ◌>>=◌ (◌>>◌ m (accepted a)) f ≡ ◌>>◌ m (f a)
 then_found m a f = grind arith
@@ -113,4 +106,5 @@ module _ (P : ℕ → Type 0) where
   first_no_number n (first_no_later h F) = first_no_number n.1 F
 
   pub refusal_number : {A : Type 0} {qs : List Question} {a : Answer A} {q place : ℕ} → Numbers P qs → Decided qs a → a ≡ refused q place → P q
-  refusal_number n D e = search (rules, accepted≢refused, number_inj, first_no_number)
+  refusal_number n (says_yes Y) e = accepted≢refused e
+  refusal_number n (refuses F) e = subst P (number_inj e) (first_no_number n F)

@@ -1,9 +1,16 @@
 -- A formed term, stripped, is formed over the one-group table and the stripped types.
 use Rattle.std.proofs.Common.{refl, ◌∙◌, ◌||◌, ℕ, suc, ◌+◌, ◌<◌, nat_lt, arith, IsTrue}
-use Rattle.rules.specs.Prelude.{plus, less, Term, var, unit, lam, pair, inj, app, proj, case, protect, mu, literal}
-use Rattle.rules.specs.Prelude.{reckon, relabel, finds_own, Bytes, rows, join, meet, properties_of, type_count}
-use Rattle.rules.specs.Prelude.{sum_of_units, strip_types, one_group}
-use Rattle.rules.proofs.Prelude.{OneGroup, public, no_influence, erase}
+use Rattle.calculus.specs.Terms.{plus, less, Term, var, unit, lam, pair, inj, app, proj, case, protect, mu, literal}
+use Rattle.calculus.specs.Terms.{reckon}
+use Rattle.calculus.specs.Relabelling.{relabel}
+use Rattle.calculus.proofs.Erasure.{OneGroup}
+use Rattle.calculus.specs.Typing.{finds_own}
+use Rattle.calculus.proofs.Erased.{public, no_influence, erase}
+use Rattle.rules.specs.Answer.{Bytes}
+use Rattle.rules.specs.Groups.{rows, join, meet, properties_of}
+use Rattle.rules.specs.Types.{type_count}
+use Rattle.rules.specs.Script.{sum_of_units}
+use Rattle.rules.specs.Strip.{strip_types, one_group}
 use Rattle.promises.proofs.Formed.{Secure, SecureI, Formed}
 use Rattle.promises.proofs.Stripping.{strip_type_count, strip_type_kind}
 

@@ -1,21 +1,30 @@
 -- Two runs of scripts that differ only in what is hidden end alike, and a reader's pages are equal.
 use Rattle.std.proofs.Common.{◌≡◌, ℕ, Bool, false, IsTrue, refl, sym, ap, subst, ◌∙◌, [], arith, lt-ltb}
 use Rattle.std.proofs.Math.Bool.{false≢true}
-use Rattle.rules.specs.Prelude.{Property, Groups, Lattice, first, second, plus, less, Term, var, unit, lam, pair, inj}
-use Rattle.rules.specs.Prelude.{app, proj, case, protect, mu, literal, reckon, is_value, Bytes, Octets, accepted, rows}
-use Rattle.rules.specs.Prelude.{leq, groups_of, properties_of, encode, term, Ran, sheet, q25, q26, q27, script_check}
-use Rattle.rules.specs.Prelude.{run_call, sheet_call, application, desk_check, desk_run, Packet, packet_call}
-use Rattle.rules.proofs.Prelude.{and_left, and_right, properties_laws, and_then, term_encode}
+use Rattle.calculus.specs.Security.{Property}
+use Rattle.calculus.specs.Groups.{Groups, Lattice}
+use Rattle.calculus.specs.Terms.{first, second, plus, less, Term, var, unit, lam, pair, inj, app, proj, case, protect}
+use Rattle.calculus.specs.Terms.{mu, literal, reckon, is_value}
+use Rattle.calculus.proofs.Booleans.{and_left, and_right}
+use Rattle.calculus.proofs.Properties.{properties_laws}
 use Rattle.noninterference.specs.Hidden as terms
-use Rattle.noninterference.specs.Hidden.{Observer, dark, Alike, both_dark, applications, Labelled, Observes}
+use Rattle.noninterference.specs.Hidden.{Observer, dark, Alike, both_dark, applications, Labelled, Observes, Clear}
 use Rattle.noninterference.specs.Hidden.{AlikeRunsEndAlike, AlikeAtAPlace}
 use Rattle.noninterference.specs.Observers.{reader_at, who_trusts, exact, ReadersObserve, WhoTrustsObserves}
 use Rattle.noninterference.specs.Observers.{ExactObserves, ClearIsOne}
 use Rattle.noninterference.proofs.Alike.{alike_runs_end_alike, or_left}
 use Rattle.noninterference.proofs.ObserverLaws.{readers_observe, who_trusts_observes, exact_observes, alike_at_a_place}
 use Rattle.noninterference.proofs.ObserverLaws.{clear_is_one}
-use Rattle.promises.specs.Closed.{Closed, closed_unit, closed_function, closed_pair, closed_injection, closed_literal}
-use Rattle.promises.specs.Closed.{ClosedObjectsClose}
+use Rattle.rules.specs.Answer.{Bytes, Octets, accepted}
+use Rattle.rules.specs.Groups.{rows, leq, groups_of, properties_of}
+use Rattle.rules.specs.Script.{encode, term}
+use Rattle.rules.specs.Run.{Ran}
+use Rattle.rules.specs.Sheet.{sheet}
+use Rattle.rules.specs.Calls.{q25, q26, q27, script_check, run_call, sheet_call}
+use Rattle.rules.specs.Packet.{application, desk_check, desk_run, Packet, packet_call}
+use Rattle.rules.proofs.Asked.{and_then}
+use Rattle.rules.proofs.Scripts.{term_encode}
+use Rattle.promises.specs.Closed.{Closed, closed_unit, closed_function, closed_pair, closed_injection, closed_literal, ClosedObjectsClose}
 use Rattle.promises.specs.Closed.{SameReaders, AlikeOutside, closed_in_both}
 use Rattle.promises.specs.Closed as outside
 use Rattle.promises.specs.Noninterference.{BothEnd}

@@ -1,22 +1,35 @@
 -- Export: its questions, and that importing an export gives back the script.
-use Rattle.std.proofs.Common.{rules}
 use Rattle.std.proofs.Common.{◌≡◌, refl, sym, ap, subst, ◌∙◌, [], ◌∷◌, ◌++◌, ℕ, ◌+◌, ◌/◌, ◌%◌, ◌≤◌, ◌<◌, arith}
-use Rattle.std.proofs.Common.{leb-true, le-leb, eq-eqb, length}
-use Rattle.rules.specs.Prelude.{Term, Bytes, Octets, accepted, office_width, office_limit, records, encode, size, term}
-use Rattle.rules.specs.Prelude.{c, ic, q13, q15, q36_objects, q16, q18, q19, types_check, form_check, own_check}
-use Rattle.rules.specs.Prelude.{script_check, q27, level_names, meant, office_records, nameless, with_names, named_term}
-use Rattle.rules.specs.Prelude.{q28, q30, import_of, import_call, office, export_of, q28_of_export, export_call}
-use Rattle.rules.proofs.Prelude.{ask_true, and_then, alone, size_positive, Every, to_nodes, term_shape, term_code, c_is}
-use Rattle.rules.proofs.Prelude.{ic_is, q14_encode, q18_depth, q18_encode, Scoped, q19_scoped, Whole, whole}
-use Rattle.rules.proofs.Prelude.{encode_whole, term_encode, records_encode, q17_encode, blank, blank_depth}
-use Rattle.rules.proofs.Prelude.{meant_naming, scoped_q30, Plain, office_length, export_records, export_nameless}
-use Rattle.rules.proofs.Prelude.{export_names, export_stands, export_q29, form_yes, yes_form}
+use Rattle.std.proofs.Common.{leb-true, le-leb, eq-eqb, nat_le, length}
+use Rattle.calculus.specs.Terms.{Term}
+use Rattle.rules.specs.Answer.{Bytes, Octets, Answer, accepted}
+use Rattle.rules.specs.Limits.{office_width, office_limit}
+use Rattle.rules.specs.Script.{records, encode, size, term, c, ic, q13, q15, q36_objects, q16, q18, q19}
+use Rattle.rules.specs.Calls.{types_check, form_check, own_check, script_check, q27}
+use Rattle.rules.specs.Rewriting.{rewritten_after}
+use Rattle.rules.specs.Names.{level_names, meant}
+use Rattle.rules.specs.Office.{office_records, nameless, with_names, named_term, q28, q30, import_of, import_call}
+use Rattle.rules.specs.Office.{office, export_of, q28_of_export, export_call}
+use Rattle.rules.proofs.Asked.{ask_true, and_then}
+use Rattle.rules.proofs.PrefixLaws.{alone, size_positive}
+use Rattle.rules.proofs.Nodes.{Every, to_nodes}
+use Rattle.rules.proofs.TermCode.{term_shape, term_code}
+use Rattle.rules.proofs.RecordFields.{c_is, ic_is}
+use Rattle.rules.proofs.NodeQuestions.{q14_encode}
+use Rattle.rules.proofs.Depth.{q18_depth, q18_encode}
+use Rattle.rules.proofs.Scope.{Scoped, q19_scoped}
+use Rattle.rules.proofs.Scripts.{Whole, whole, encode_whole, term_encode, records_encode, q17_encode}
+use Rattle.rules.proofs.Names.{blank, blank_depth, meant_naming}
+use Rattle.rules.proofs.Office.{scoped_q30}
+use Rattle.rules.proofs.Exports.{Plain, office_length, export_records, export_nameless, export_names, export_stands}
+use Rattle.rules.proofs.Exports.{export_q29}
 use Rattle.promises.specs.Questions.{question, of_groups, of_types, of_script}
 use Rattle.promises.specs.Office.{Uncreated, Exports}
+use Rattle.rules.proofs.Form.{form_yes, yes_form}
 use Rattle.promises.proofs.Answers.{accepted_inj, go_on, asks}
-use Rattle.promises.proofs.Deciding.{Decided, decides, decided_then, asking}
+use Rattle.promises.proofs.Deciding.{Decided, decides, ask_own, decided_one, decided_then, decided_yes}
 use Rattle.promises.proofs.EveryCallAnswers.{script_decided}
-use Rattle.promises.proofs.Imports.{every_blank, q15_kept, q36_kept, q16_kept}
+use Rattle.promises.proofs.Imports.{Kept, every_blank, q15_kept, q36_kept, q16_kept}
 
 -- What export asked, where it accepts, of the term that the script encodes.
 pub record Exported (g t : Bytes) (e : Term) : Type 0 where
@@ -61,21 +74,40 @@ module _ (g t : Bytes) (e : Term) (x : Exported g t e) (plain : Every term_shape
       refl
 
   o_form : form_check g t (nameless o) ≡ accepted tt
-  o_form = search (rules, blank, every_blank, present, yes_form, q14_encode, q15_kept, q36_kept, q16_kept, q17_encode, q18_encode, blank_depth, q18_depth) depth 30
+  o_form =
+      let kept : Kept g t e (blank e) = λ Q any h. every_blank Q any e h in
+      rw present
+      (yes_form g t (encode (blank e))
+      (record {
+        fields = q14_encode (blank e);
+        groups = q15_kept g t e (blank e) kept x.groups;
+        creators = q36_kept g t e (blank e) kept x.creators;
+        types = q16_kept g t e (blank e) kept x.named;
+        one_term = q17_encode (blank e);
+        shallow = q18_encode (blank e) (omega (arith, blank_depth e, q18_depth e x.shallow));
+      }))
 
   o_30 : q30 o ≡ accepted tt
   o_30 = scoped_q30 o o_whole (subst (Scoped 0) (sym given) x.scoped)
 
   back : (room : ℕ) → length (encode e) ≤ room → import_call g t o room ≡ accepted (encode e)
   unfolding import_call import_of
-  back room l = search (rules, given, go_on, o_28, o_form, export_q29, o_30, asks, le-leb)
+  back room l =
+      let p : encode (meant [] (named_term o)) ≡ encode e = ap encode given in
+      go_on x.types
+      (go_on o_28
+      (go_on o_form
+      (go_on (export_q29 e) (go_on o_30 (go_on (asks 27 0 _ (le-leb _ room (subst (λ (b : Bytes). length b ≤ room) (sym p) l))) (ap accepted p))))))
 
 module _ (g t s : Bytes) where
   export_decided : (room : ℕ)
       → Decided (of_groups g ++ of_types g t ++ of_script [] g t s ++ (question 28 (q28_of_export s) ∷ question 27 (q27 (export_of s) room) ∷ []))
       (export_call g t s room)
   unfolding export_call
-  export_decided room = decided_then (script_check [] g t s) _ (script_decided [] g t s) (search (rules, asking) depth 30)
+  export_decided room =
+      decided_then (script_check [] g t s) _ (script_decided [] g t s)
+      (decided_then (q28_of_export s) _ (decided_one (ask_own 28 0 (nat_le (records s) office_limit)))
+      (decided_then (q27 (export_of s) room) _ (decided_one (ask_own 27 0 (nat_le (length (export_of s)) room))) (decided_yes (export_of s))))
 
   module _ (octets : Octets s) (room : ℕ) (b : Bytes) (q : export_call g t s room ≡ accepted b) where
     abbrev e : Term
@@ -112,7 +144,10 @@ module _ (g t s : Bytes) where
         }
 
     export_counted : length b / office_width ≡ records s
-    export_counted = search (rules, answered, office_length, records_encode)
+    export_counted =
+        let x = answered in
+        let n : length (office (level_names 0 e)) / office_width ≡ records (encode e) = omega (arith, office_length 0 e, records_encode e) in
+        ap (λ (y : Bytes). length y / office_width) (sym x.is) ∙ n ∙ ap records x.encoded
 
     export_given_back : Uncreated s → (room' : ℕ) → length s ≤ room' → import_call g t b room' ≡ accepted s
     export_given_back plain room' l =
@@ -128,4 +163,9 @@ module _ (g t s : Bytes) where
         ∙ ap accepted x.encoded
 
 pub exports : (g t s : Bytes) → Octets s → Exports g t s
-exports g t s octets = search (rules, decides, export_decided, export_counted, export_given_back)
+exports g t s octets = record {
+  decides = λ room. decides (export_decided g t s room);
+  keeps = λ room q place e old. ap (λ (x : Answer Bytes). rewritten_after x old) e;
+  counted = export_counted g t s octets;
+  given_back = λ plain room b q. export_given_back g t s octets room b q plain;
+}

@@ -1,8 +1,13 @@
 -- What questions 15, 36, 16 and 19 ask of each record, said of each node of a term.
 use Rattle.std.proofs.Common.{◌≡◌, ◌||◌, nat_lt, ℕ, suc, ◌<◌, IsTrue}
-use Rattle.rules.specs.Prelude.{Property, Indirect, plus, less, Term, var, unit, lam, pair, inj, app, proj, case}
-use Rattle.rules.specs.Prelude.{protect, mu, literal, reckon, finds_own, Bytes, rows, properties_of, type_count}
-use Rattle.rules.specs.Prelude.{type_kind, sum_of_units}
+use Rattle.calculus.specs.Security.{Property, Indirect}
+use Rattle.calculus.specs.Terms.{plus, less, Term, var, unit, lam, pair, inj, app, proj, case, protect, mu, literal}
+use Rattle.calculus.specs.Terms.{reckon}
+use Rattle.calculus.specs.Typing.{finds_own}
+use Rattle.rules.specs.Answer.{Bytes}
+use Rattle.rules.specs.Groups.{rows, properties_of}
+use Rattle.rules.specs.Types.{type_count, type_kind}
+use Rattle.rules.specs.Script.{sum_of_units}
 
 -- ir ⊑ r and ic ⊑ c, so all four are groups
 abbrev pub Secure : Bytes → Property → Type 0

@@ -1,9 +1,14 @@
 -- Group 0 of a table that passes: its join with itself and its meet with anything, a group or not, are itself.
 use Rattle.std.proofs.Common.{◌≡◌, refl, sym, ap, ◌∙◌, Bool, true, false, ℕ, zero, suc, lt-ltb, IsTrue}
 use Rattle.std.proofs.Math.Option.{none, some, Option}
-use Rattle.rules.specs.Prelude.{Lattice, Bytes, Octets, accepted, last_below, group_limit, rows, leq, join, below_both}
-use Rattle.rules.specs.Prelude.{meet, or_zero, groups_of, groups_check}
-use Rattle.rules.proofs.Prelude.{and_left, and_right, Least, some_inj, none≢some}
+use Rattle.calculus.specs.Groups.{Lattice}
+use Rattle.calculus.proofs.Booleans.{and_left, and_right}
+use Rattle.calculus.proofs.Creators.{Least}
+use Rattle.rules.specs.Answer.{Bytes, Octets, accepted, last_below}
+use Rattle.rules.specs.Limits.{group_limit}
+use Rattle.rules.specs.Groups.{rows, leq, join, below_both, meet, or_zero, groups_of}
+use Rattle.rules.specs.Calls.{groups_check}
+use Rattle.rules.proofs.Search.{some_inj, none≢some}
 use Rattle.promises.proofs.Groups.{lattice, some_rows}
 
 last_passes : (test : ℕ → Bool) (n j : ℕ) → last_below test n ≡ some j → test j ≡ true

@@ -1,19 +1,22 @@
 -- A groups table that passes questions 2 to 7 is a lattice with 0 at the bottom, so properties over it obey the
 -- calculus's laws.
-use Rattle.std.proofs.Common.{rules}
-use Rattle.std.proofs.Common.{◌≡◌, refl, sym, subst, ◌∙◌, Bool, true, false, ◌&&◌, ℕ, ◌*◌, ◌%◌, ◌^◌, ◌≤◌, ◌<◌}
+use Rattle.std.proofs.Common.{◌≡◌, refl, sym, subst, ◌∙◌, Bool, true, false, ◌&&◌, ℕ, ◌+◌, ◌*◌, ◌%◌, ◌^◌, ◌≤◌, ◌<◌}
 use Rattle.std.proofs.Common.{arith, eqb-true, leb-true, ltb-true, lt-ltb, nat_eq, nat_le, nat_lt, length, IsTrue}
 use Rattle.std.proofs.Math.Bool.{beq, false≢true}
 use Rattle.std.proofs.Math.Option.{none, some, Option}
 use Rattle.std.proofs.Math.Decide.{dec_lt}
 use Rattle.std.proofs.Math.Nat.{zero-div, div-eq_of_lt, pow-le-pow_right}
 use Rattle.std.proofs.Math.ListN.{get_or-eq_default}
-use Rattle.rules.specs.Prelude.{Lattice, Bytes, byte, Octets, accepted, first_below, ◌⇒◌, row_width, group_limit, rows}
-use Rattle.rules.specs.Prelude.{row, bit, leq, in_both_rows, join, below_both, meet, or_zero, is_row_within}
-use Rattle.rules.specs.Prelude.{row_of_lowest, holds_number, ok3, ok4, ok5, ok6, ok7, q2, q3, q4, q5, q6, q7, groups_of}
-use Rattle.rules.specs.Prelude.{groups_check}
-use Rattle.rules.proofs.Prelude.{each_all, all_below_all, IsFirst, found, Last, last, ask_true, implied, same_bits}
+use Rattle.calculus.specs.Groups.{Lattice}
+use Rattle.rules.specs.Answer.{Bytes, byte, Octets, accepted, first_below, ◌⇒◌}
+use Rattle.rules.specs.Limits.{row_width, group_limit}
+use Rattle.rules.specs.Groups.{rows, row, bit, leq, in_both_rows, join, below_both, meet, or_zero, is_row_within}
+use Rattle.rules.specs.Groups.{row_of_lowest, holds_number, ok3, ok4, ok5, ok6, ok7, q2, q3, q4, q5, q6, q7, groups_of}
+use Rattle.rules.specs.Calls.{groups_check}
+use Rattle.rules.proofs.Search.{each_all, all_below_all, IsFirst, found, Last, last}
 use Rattle.promises.proofs.Answers.{both}
+use Rattle.rules.proofs.Asked.{ask_true, implied}
+use Rattle.calculus.proofs.Booleans.{same_bits}
 
 module _ (t : Bytes) (octets : Octets t) (passed : groups_check t ≡ accepted tt) where
   asked_all : (q2 t ≡ accepted tt) × (q3 t ≡ accepted tt) × (q4 t ≡ accepted tt) × (q5 t ≡ accepted tt) × (q6 t ≡ accepted tt) × (q7 t ≡ accepted tt)
@@ -38,7 +41,9 @@ module _ (t : Bytes) (octets : Octets t) (passed : groups_check t ≡ accepted t
   past i h = get_or-eq_default t 0 {n = i} h
 
   row_outside : (g : ℕ) → rows t ≤ g → row t g ≡ 0
-  row_outside g h = search (rules, whole, past)
+  row_outside g h =
+      let w = whole in
+      omega (arith, past (row_width * g) (omega arith), past (row_width * g + 1) (omega arith), past (row_width * g + 2) (omega arith), past (row_width * g + 3) (omega arith))
 
   -- a word has 32 bits
   word_bound : (g : ℕ) → row t g < 2 ^ 32

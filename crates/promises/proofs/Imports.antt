@@ -1,22 +1,34 @@
 -- Import: its questions, what is imported, and that it passes questions 2 to 19.
-use Rattle.std.proofs.Common.{rules}
-use Rattle.std.proofs.Common.{◌≡◌, refl, sym, ap, subst, ◌∙◌, true, [], ◌∷◌, ◌++◌, ◌↔◌, ℕ, ◌/◌, ◌≤◌, arith}
-use Rattle.std.proofs.Common.{length, Bool}
-use Rattle.rules.specs.Prelude.{plus, Term, var, reckon, Bytes, Octets, accepted, each, script_width, office_limit}
-use Rattle.rules.specs.Prelude.{script_record, encode, size, depth, term, records, ok15, ok36_object, ok16, q14, q15}
-use Rattle.rules.specs.Prelude.{q36_objects, q16, q17, q18, types_check, form_check, own_check, script_check, q27}
-use Rattle.rules.specs.Prelude.{Means, meant, office_records, nameless, named_term, with_names, q28, q29, q30}
-use Rattle.rules.specs.Prelude.{import_of, import_call}
-use Rattle.rules.proofs.Prelude.{and_then, q13_encode, record_at, encode_length, Every, term_shape, term_code}
-use Rattle.rules.proofs.Prelude.{term_head, ok15_record, ok36_object_record, ok16_record, asked_of_nodes}
-use Rattle.rules.proofs.Prelude.{asked_of_records, q14_encode, q18_depth, q18_encode, q19_encode, Whole, whole}
-use Rattle.rules.proofs.Prelude.{encode_injective, q17_encode, form_yes, yes_form, means_meant, meant_means, blank}
-use Rattle.rules.proofs.Prelude.{blank_size, blank_depth, blank_meant, to_blank, from_blank, q28_measured, nameless_13}
-use Rattle.rules.proofs.Prelude.{nameless_records, nameless_octets, q30_scoped, scoped_q30}
+use Rattle.std.proofs.Common.{◌≡◌, refl, sym, ap, subst, ◌∙◌, true, ◌&&◌, [], ◌∷◌, ◌++◌, ◌↔◌, ℕ, ◌/◌, ◌%◌, ◌≤◌, arith}
+use Rattle.std.proofs.Common.{nat_eq, nat_le, length}
+use Rattle.calculus.specs.Terms.{plus, Term, var, reckon}
+use Rattle.rules.specs.Answer.{Bytes, Octets, Answer, accepted}
+use Rattle.rules.specs.Limits.{script_width, office_width, office_limit}
+use Rattle.rules.specs.Script.{script_record, encode, size, depth, term, ok15, ok36_object, ok16, q14, q15, q36_objects}
+use Rattle.rules.specs.Script.{q16, q17, q18}
+use Rattle.rules.specs.Calls.{types_check, form_check, own_check, script_check, q27}
+use Rattle.rules.specs.Rewriting.{rewritten_after}
+use Rattle.rules.specs.Names.{Means, meant, scopes}
+use Rattle.rules.specs.Office.{office_records, nameless, named_term, with_names, ok29, ok30, q28, q29, q30, import_of}
+use Rattle.rules.specs.Office.{import_call}
+use Rattle.rules.proofs.Asked.{and_then}
+use Rattle.rules.proofs.ScriptLength.{q13_encode}
+use Rattle.rules.proofs.PrefixLaws.{encode_length}
+use Rattle.rules.proofs.Nodes.{Every}
+use Rattle.rules.proofs.TermCode.{term_shape, term_code, term_head}
+use Rattle.rules.proofs.RecordFields.{ok15_record, ok36_object_record, ok16_record}
+use Rattle.rules.proofs.NodeQuestions.{asked_of_nodes, asked_of_records, q14_encode}
+use Rattle.rules.proofs.Depth.{q18_depth, q18_encode}
+use Rattle.rules.proofs.Scope.{q19_encode}
+use Rattle.rules.proofs.Scripts.{Whole, whole, encode_injective, q17_encode}
+use Rattle.rules.proofs.Form.{form_yes, yes_form}
+use Rattle.rules.proofs.Names.{means_meant, meant_means, blank, blank_size, blank_depth, blank_meant, to_blank}
+use Rattle.rules.proofs.Names.{from_blank}
+use Rattle.rules.proofs.Office.{q28_measured, nameless_13, nameless_records, nameless_octets, q30_scoped, scoped_q30}
 use Rattle.promises.specs.Questions.{question, of_groups, of_types, of_office}
 use Rattle.promises.specs.Office.{Imports}
 use Rattle.promises.proofs.Answers.{accepted_inj, go_on}
-use Rattle.promises.proofs.Deciding.{Decided, decides, ask_own, decided_then, decided_first, asking}
+use Rattle.promises.proofs.Deciding.{Decided, decides, ask_own, each_own, decided_one, decided_then, decided_yes}
 use Rattle.promises.proofs.EveryCallAnswers.{types_decided, form_decided}
 
 -- What is asked of a record and doesn't look at a variable's number.
@@ -29,7 +41,9 @@ module _ (Q : Bytes → Type 0) (any : (n : ℕ) → Q (script_record 0 0 0 n)) 
 
   blank_head : (e : Term) → Q (term_head (blank e)) → Q (term_head e)
   unfolding blank
-  blank_head e h = grind arith
+  blank_head (var n) h = any n
+  blank_head (reckon plus w a b) h = h
+  blank_head _ h = h
 
   pub every_blank : (e : Term) → Every term_shape (λ x. Q (term_head x)) e → Every term_shape (λ x. Q (term_head x)) (blank e)
   every_blank e h = to_blank (λ x. Q (term_head x)) head_blank e h
@@ -37,32 +51,43 @@ module _ (Q : Bytes → Type 0) (any : (n : ℕ) → Q (script_record 0 0 0 n)) 
   -- so what holds of the records of an old term holds of what it means
   pub every_meant : (s : Bytes) (e : Term) → Every term_shape (λ x. Q (term_head x)) e
       → Every term_shape (λ x. Q (term_head x)) (meant [] (with_names s 0 e))
-  every_meant s e h = search (rules, from_blank, term_head, blank_head, term_shape, blank_meant, every_blank)
+  every_meant s e h =
+      from_blank (λ x. Q (term_head x)) blank_head (meant [] (with_names s 0 e))
+      (subst (Every term_shape (λ x. Q (term_head x))) (sym (blank_meant s 0 [] e)) (every_blank e h))
 
 -- Questions 15, 36 and 16 don't.
 module _ (g t : Bytes) where
+  any_15 : (n : ℕ) → ok15 g (script_record 0 0 0 n) 0 ≡ true
+  unfolding ok15
+  any_15 n = refl
+
+  any_36 : (n : ℕ) → ok36_object g (script_record 0 0 0 n) 0 ≡ true
+  unfolding ok36_object
+  any_36 n = refl
+
+  any_16 : (n : ℕ) → ok16 t (script_record 0 0 0 n) 0 ≡ true
+  unfolding ok16
+  any_16 n = refl
+
   -- a term with other variables' numbers
   abbrev pub Kept : Term → Term → Type 1
   Kept e e' = (Q : Bytes → Type 0) → ((n : ℕ) → Q (script_record 0 0 0 n)) → Every term_shape (λ x. Q (term_head x)) e → Every term_shape (λ x. Q (term_head x)) e'
 
   module _ (e e' : Term) (kept : Kept e e') where
-    -- a question of every record that looks at no variable's number
-    question_kept : (q : ℕ) (ok : Bytes → ℕ → Bool) → ((s : Bytes) (i : ℕ) → ok (record_at script_width s i) 0 ≡ ok s i)
-        → ((n : ℕ) → ok (script_record 0 0 0 n) 0 ≡ true) → each q (records (encode e)) (ok (encode e)) ≡ accepted tt
-        → each q (records (encode e')) (ok (encode e')) ≡ accepted tt
-    question_kept q ok own any h = asked_of_records q ok own e' (kept (λ s. ok s 0 ≡ true) any (asked_of_nodes q ok own e h))
-
     pub q15_kept : q15 g (encode e) ≡ accepted tt → q15 g (encode e') ≡ accepted tt
-    unfolding ok15
-    q15_kept = question_kept 15 (ok15 g) (λ s i. ok15_record s i g) (λ n. refl)
+    q15_kept q =
+        let own = λ (s : Bytes) (i : ℕ). ok15_record s i g in
+        asked_of_records 15 (ok15 g) own e' (kept (λ h. ok15 g h 0 ≡ true) any_15 (asked_of_nodes 15 (ok15 g) own e q))
 
     pub q36_kept : q36_objects g (encode e) ≡ accepted tt → q36_objects g (encode e') ≡ accepted tt
-    unfolding ok36_object
-    q36_kept = question_kept 36 (ok36_object g) (λ s i. ok36_object_record s i g) (λ n. refl)
+    q36_kept q =
+        let own = λ (s : Bytes) (i : ℕ). ok36_object_record s i g in
+        asked_of_records 36 (ok36_object g) own e' (kept (λ h. ok36_object g h 0 ≡ true) any_36 (asked_of_nodes 36 (ok36_object g) own e q))
 
     pub q16_kept : q16 t (encode e) ≡ accepted tt → q16 t (encode e') ≡ accepted tt
-    unfolding ok16
-    q16_kept = question_kept 16 (ok16 t) (λ s i. ok16_record s i t) (λ n. refl)
+    q16_kept q =
+        let own = λ (s : Bytes) (i : ℕ). ok16_record s i t in
+        asked_of_records 16 (ok16 t) own e' (kept (λ h. ok16 t h 0 ≡ true) any_16 (asked_of_nodes 16 (ok16 t) own e q))
 
 -- An old script whose form is right is a term without names.
 pub seen_whole : (s : Bytes) → Octets s → q28 s ≡ accepted tt → q14 (nameless s) ≡ accepted tt → q17 (nameless s) ≡ accepted tt → Whole (nameless s)
@@ -105,7 +130,11 @@ module _ (g t s : Bytes) where
   unfolding import_call
   import_decided room =
       decided_then (types_check g t) _ (types_decided g t)
-      (decided_first (ask_own 28 0 _) (decided_then (form_check g t (nameless s)) _ (form_decided g t (nameless s)) (search (rules, asking) depth 30)))
+      (decided_then (q28 s) _ (decided_one (ask_own 28 0 (nat_eq (length s % office_width) 0 && (nat_le 1 (office_records s) && nat_le (office_records s) office_limit))))
+      (decided_then (form_check g t (nameless s)) _ (form_decided g t (nameless s))
+      (decided_then (q29 s) _ (decided_one (each_own 29 (office_records s) (ok29 s)))
+      (decided_then (q30 s) _ (decided_one (each_own 30 (office_records s) (ok30 (scopes [] (named_term s)) s)))
+      (decided_then (q27 (import_of s) room) _ (decided_one (ask_own 27 0 (nat_le (length (import_of s)) room))) (decided_yes (import_of s)))))))
 
   imported_is : import_of s ≡ encode new
   unfolding import_of named_term
@@ -158,4 +187,10 @@ module _ (g t s : Bytes) where
           (go_on form (q19_encode new (q30_scoped s old_whole yes.bound)))))
 
 pub imports : (g t s : Bytes) → Octets s → Imports g t s
-imports g t s octets = search (rules, decides, import_decided, import_means, import_counted, import_checked)
+imports g t s octets = record {
+  decides = λ room. decides (import_decided g t s room);
+  keeps = λ room q place e old. ap (λ (x : Answer Bytes). rewritten_after x old) e;
+  means = import_means g t s octets;
+  counted = import_counted g t s octets;
+  checked = import_checked g t s octets;
+}

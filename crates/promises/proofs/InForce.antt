@@ -5,22 +5,30 @@ use Rattle.std.proofs.Common.{nat_le, length, IsTrue}
 use Rattle.std.proofs.Math.Option.{none, some, Option}
 use Rattle.std.proofs.Math.Bool.{false≢true}
 use Rattle.std.proofs.Math.Decide.{ℕ_discrete, dec_lt}
-use Rattle.rules.specs.Prelude.{Security, Ty, subtype, Bytes, Octets, Answer, accepted, refused, ◌>>◌, listed_width}
-use Rattle.rules.specs.Prelude.{entry_width, listed_limit, no_script, properties_of, type_count, type_at, types_check}
-use Rattle.rules.specs.Prelude.{compare_call, script_count, type_of, entry_count, entry_first, entry_replaced}
-use Rattle.rules.specs.Prelude.{is_listed, q40_lengths, ok25, q25_scripts, scripts_compared, entry_check, entries_check}
-use Rattle.rules.specs.Prelude.{lists_check, replacement, end_of_replacements, script_in_force, in_force, LeadsTo}
-use Rattle.rules.specs.Prelude.{stays, replaced_by, NamedFirst, InForceFrom}
+use Rattle.calculus.specs.Security.{Security}
+use Rattle.calculus.specs.Types.{Ty}
+use Rattle.calculus.specs.Subtyping.{subtype}
 use Rattle.calculus.specs.Subtyping as directions
-use Rattle.rules.proofs.Prelude.{properties_laws, subtype_complete, subtype_reflexive, subtype_transitive, ask_true}
-use Rattle.rules.proofs.Prelude.{and_then, regroup, from_all, found, each_all, among_these, among_at, not_among}
-use Rattle.rules.proofs.Prelude.{none_among, usable_is, EntryPasses, all_pass, few_entries}
+use Rattle.calculus.proofs.Properties.{properties_laws}
+use Rattle.calculus.proofs.Subtyping.{subtype_complete, subtype_reflexive, subtype_transitive}
+use Rattle.rules.specs.Answer.{Bytes, Octets, Answer, accepted, refused, ◌>>◌, ask}
+use Rattle.rules.specs.Limits.{listed_width, entry_width, listed_limit, no_script}
+use Rattle.rules.specs.Groups.{properties_of}
+use Rattle.rules.specs.Types.{type_count, type_at}
+use Rattle.rules.specs.Calls.{types_check, compare_call}
+use Rattle.rules.specs.InForce.{script_count, type_of, entry_count, entry_first, entry_replaced, is_listed, q40_lengths}
+use Rattle.rules.specs.InForce.{ok25, q25_scripts, ok40, ok41, ok42, scripts_compared, entry_check, entries_check}
+use Rattle.rules.specs.InForce.{lists_check, replacement, end_of_replacements, script_in_force, in_force, LeadsTo}
+use Rattle.rules.specs.InForce.{stays, replaced_by, NamedFirst, InForceFrom}
+use Rattle.rules.proofs.Asked.{ask_true, and_then, regroup}
+use Rattle.rules.proofs.Search.{from_all, found, each_all}
+use Rattle.rules.proofs.InForce.{among_these, among_at, not_among, none_among, usable_is, EntryPasses, all_pass}
+use Rattle.rules.proofs.InForce.{few_entries}
 use Rattle.promises.specs.Questions.{of_groups, of_types}
 use Rattle.promises.specs.InForce.{of_amendment, of_entries, of_lists, newest_after, newest, or_no_script, SameOrBelow}
 use Rattle.promises.specs.InForce.{FindsInForce, Amendments}
 use Rattle.promises.proofs.Answers.{accepted_inj, both, go_on, asks}
-use Rattle.promises.proofs.Deciding.{Decided, decides, decided_then, decided_yes, asking}
-use Rattle.std.proofs.Common.{rules}
+use Rattle.promises.proofs.Deciding.{Decided, decides, ask_own, each_own, decided_one, decided_then, decided_yes}
 use Rattle.promises.proofs.EveryCallAnswers.{types_decided}
 use Rattle.promises.proofs.Tables.{Tables}
 use Rattle.promises.proofs.TypesTable.{tables}
@@ -29,7 +37,9 @@ use Rattle.promises.proofs.TypesTable.{tables}
 
 entry_decided : (g t l a : Bytes) (e : ℕ) → Decided (of_amendment g t l a e) (entry_check g t l a e)
 unfolding entry_check
-entry_decided g t l a e = search (rules, asking) depth 30
+entry_decided g t l a e =
+    decided_then (ask 40 e (ok40 l a e)) _ (decided_one (ask_own 40 e (ok40 l a e)))
+    (decided_then (ask 41 e (ok41 a e)) (ask 42 e (ok42 g t l a e)) (decided_one (ask_own 41 e (ok41 a e))) (decided_one (ask_own 42 e (ok42 g t l a e))))
 
 entries_decided : (g t l a : Bytes) (n : ℕ) → Decided (of_entries g t l a n) (entries_check g t l a n)
 unfolding of_entries entries_check
@@ -37,7 +47,9 @@ entries_decided g t l a zero = decided_yes tt
 entries_decided g t l a (suc n) = decided_then (entries_check g t l a n) (entry_check g t l a n) (entries_decided g t l a n) (entry_decided g t l a n)
 
 lists_decided : (g t l a : Bytes) → Decided (of_lists g t l a) (◌>>◌ (q40_lengths l a) (◌>>◌ (q25_scripts t l) (entries_check g t l a (entry_count a))))
-lists_decided g t l a = search (rules, asking, entries_decided) depth 30
+lists_decided g t l a =
+    decided_then (q40_lengths l a) _ (decided_one (ask_own 40 0 (nat_eq (length l % listed_width) 0 && (nat_le (script_count l) listed_limit && nat_eq (length a % entry_width) 0))))
+    (decided_then (q25_scripts t l) (entries_check g t l a (entry_count a)) (decided_one (each_own 25 (script_count l) (ok25 t l))) (entries_decided g t l a (entry_count a)))
 
 -- ---- lists that pass
 

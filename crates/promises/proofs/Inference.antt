@@ -1,16 +1,24 @@
 -- The rules' typing, with questions and places, finds exactly the type that the calculus's inference finds.
-use Rattle.std.proofs.Common.{◌≡◌, refl, Bool, true, ◌&&◌, cond, List, [], ◌∷◌, ℕ, suc, zero, ◌+◌, ◌<◌, arith}
+use Rattle.std.proofs.Common.{◌≡◌, refl, Bool, true, false, ◌&&◌, cond, List, [], ◌∷◌, ℕ, suc, zero, ◌+◌, ◌<◌, arith}
 use Rattle.std.proofs.Common.{length, get_or, IsTrue}
 use Rattle.std.proofs.Math.Option.{none, some, Option}
-use Rattle.rules.specs.Prelude.{Property, Reader, Indirect, Security, sum, product, function, Ty, node, top, raise_t}
-use Rattle.rules.specs.Prelude.{fits, when, parts, subtype, below, Side, choose, plus, less, Term, var, unit, lam, pair}
-use Rattle.rules.specs.Prelude.{inj, app, proj, case, protect, mu, literal, reckon, finds_own, lookup, recurs}
-use Rattle.rules.specs.Prelude.{type_of_case, infer, of_both, reckon_type, number_property, nearest_type, Bytes, Answer}
-use Rattle.rules.specs.Prelude.{accepted, refused, ◌>>=◌, ◌>>◌, properties_of, type_at, type_count, type_kind, no_type}
-use Rattle.rules.specs.Prelude.{sum_of_units, size, has_form, left, right, q20, q20_number, q21, q22, q23, q24}
-use Rattle.rules.specs.Prelude.{found_or, number_result, typing}
+use Rattle.calculus.specs.Security.{Property, Reader, Indirect, Security}
+use Rattle.calculus.specs.Types.{number, Former, sum, product, function, Ty, leaf, node, top, raise_t, fits, when}
+use Rattle.calculus.specs.Types.{Parts, parts}
+use Rattle.calculus.specs.Subtyping.{subtype, below}
+use Rattle.calculus.specs.Terms.{Side, choose, plus, less, Term, var, unit, lam, pair, inj, app, proj, case, protect}
+use Rattle.calculus.specs.Terms.{mu, literal, reckon}
+use Rattle.calculus.specs.Typing.{finds_own, lookup, recurs, type_of_case, infer}
+use Rattle.calculus.specs.Numbers.{of_both, reckon_type, number_property}
+use Rattle.calculus.specs.Common.{nearest_type}
 use Rattle.calculus.specs.Types as typing
-use Rattle.rules.proofs.Prelude.{UnitSum}
+use Rattle.rules.specs.Answer.{Bytes, Answer, accepted, refused, ◌>>=◌, ◌>>◌, ask}
+use Rattle.rules.specs.Groups.{properties_of}
+use Rattle.rules.specs.Types.{type_at, type_count, type_kind, no_type}
+use Rattle.rules.specs.Script.{sum_of_units, size}
+use Rattle.rules.specs.Typing.{has_form, left, right, q20, q20_number, q21, q22, q23, q24, found_or, number_result}
+use Rattle.rules.specs.Typing.{typing}
+use Rattle.rules.proofs.UnitSums.{UnitSum}
 use Rattle.promises.proofs.Formed.{Formed}
 
 -- a found type, without the question and place of a refusal

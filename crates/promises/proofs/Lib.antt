@@ -6,7 +6,6 @@ pub mod Inference
 pub mod Tables
 pub mod Stepping
 pub mod RelabelledBytes
-pub mod Courses
 pub mod RelabelledTyping
 pub mod WidenedTerms
 pub mod Stripping
@@ -29,7 +28,6 @@ pub mod Comparison
 pub mod Closed
 pub mod GroupZero
 pub mod Recalled
-pub mod EarlierForms
 pub mod MigratedScripts
 pub mod Migration
 pub mod CommonTypes
@@ -45,5 +43,3 @@ pub mod InForce
 pub mod Imports
 pub mod Exports
 pub mod OfficeCallers
-pub mod RelationExamples
-pub mod ExchangedExamples

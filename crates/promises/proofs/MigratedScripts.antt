@@ -2,14 +2,22 @@
 -- questions 2 to 19, and the term of the one is that of the other, rewritten.
 use Rattle.std.proofs.Common.{◌≡◌, refl, sym, ap, ap₂, ◌∙◌, true, false, List, ℕ, ◌+◌, ◌*◌, ◌<◌, arith, lt-ltb}
 use Rattle.std.proofs.Common.{ltb-true, nat_eq, nat_lt}
-use Rattle.rules.specs.Prelude.{top, Bytes, byte, Octets, script_width, old_type_width, old_script_width, rows}
-use Rattle.rules.specs.Prelude.{properties_of, type_count, type_at, records, kind, r, number, term, q13, q15}
-use Rattle.rules.specs.Prelude.{old_records, old_kind, old_r, caller, write_callers, widen_types, widen_script}
-use Rattle.rules.specs.Prelude.{types_check, form_check, own_check, script_check}
-use Rattle.rules.proofs.Prelude.{and_left, top_secure, Standing, callers_length, callers_r, widen_script_length}
-use Rattle.rules.proofs.Prelude.{widen_script_records, widen_script_byte, widened_callers_byte, old_number}
-use Rattle.promises.specs.EarlierForms.{Form, form_1, Uncalled}
-use Rattle.promises.specs.Migration.{new_script, new_term}
+use Rattle.calculus.specs.Types.{top}
+use Rattle.calculus.proofs.Booleans.{and_left}
+use Rattle.calculus.proofs.SecureTyping.{top_secure}
+use Rattle.rules.specs.Answer.{Bytes, byte, Octets}
+use Rattle.rules.specs.Limits.{script_width, old_type_width, old_script_width}
+use Rattle.rules.specs.Groups.{rows, properties_of}
+use Rattle.rules.specs.Types.{type_count, type_at}
+use Rattle.rules.specs.Script.{records, kind, r, number, term, q13, q15}
+use Rattle.rules.specs.Callers.{old_records, old_kind, old_r, caller, write_callers}
+use Rattle.rules.specs.Rewriting.{widen_types, widen_script}
+use Rattle.rules.specs.Calls.{types_check, form_check, own_check, script_check}
+use Rattle.rules.proofs.TypePlaces.{Standing}
+use Rattle.rules.proofs.Callers.{callers_length, callers_r}
+use Rattle.rules.proofs.Widening.{widen_script_length, widen_script_records, widen_script_byte, widened_callers_byte}
+use Rattle.rules.proofs.OldTables.{old_number}
+use Rattle.promises.specs.Migration.{Form, form_1, form_2, Existing, caller_in, new_script, new_term}
 use Rattle.promises.proofs.Answers.{then_same}
 use Rattle.promises.proofs.Tables.{Tables}
 use Rattle.promises.proofs.TypesTable.{tables}
@@ -18,9 +26,9 @@ use Rattle.promises.proofs.WidenedTerms.{kept_parse, put_parse, parsed_term, own
 
 -- one question after another, of which the later are asked where the earlier is answered yes
 -- The term.
-pub new_term_is : (form : Form) (t s : Bytes) → ((i : ℕ) → i < type_count (widen_types t) → Standing (widen_types t) i) → Uncalled form s
+pub new_term_is : (form : Form) (t s : Bytes) → ((i : ℕ) → i < type_count (widen_types t) → Standing (widen_types t) i) → Existing form s
     → term (new_script form t s) ≡ new_term form t (term (widen_script s))
-new_term_is form t s stands uncalled = grind (arith, parsed_term, put_parse, own_r, kept_parse)
+new_term_is form t s stands existing = grind (arith, parsed_term, put_parse, own_r, kept_parse)
 
 -- A script and that with its callers written, both widened.
 module _ (t s : Bytes) where
@@ -68,12 +76,12 @@ pub own_group : (g t : Bytes) → Tables g t → (i : ℕ) → nat_lt (top (type
 own_group g t X i =
     X.lattice.groups_only _ _ (X.lattice.self_right _ _ (and_left _ _ (top_secure (properties_of g) (type_at t i) (X.table.secure i))))
 
-module _ (g t s : Bytes) (X : Tables g (widen_types t)) (uncalled : Uncalled form_1 s) where
+module _ (g t s : Bytes) (X : Tables g (widen_types t)) (existing : Existing form_1 s) where
   some_group : nat_lt 0 (rows g) ≡ true
   some_group = lt-ltb 0 (rows g) (omega (arith, ltb-true (top (type_at (widen_types t) 0)).r (rows g) (own_group g (widen_types t) X 0)))
 
   was_zero : (i : ℕ) → i < records (widen_script s) → kind (widen_script s) i ≡ 11 → r (widen_script s) i ≡ 0
-  was_zero i l k = r_was t s i l ∙ uncalled i (inside t s i l) (sym (kind_was t s i l) ∙ k)
+  was_zero i l k = r_was t s i l ∙ existing i (inside t s i l) (sym (kind_was t s i l) ∙ k)
 
   caller_group : (i : ℕ) → i < records (widen_script s) → kind (widen_script s) i ≡ 11 → nat_lt (r (new t s) i) (rows g) ≡ true
   caller_group i l k = grind (arith, r_is, was_zero, own_r, own_group)
@@ -83,17 +91,17 @@ module _ (g t s : Bytes) (X : Tables g (widen_types t)) (uncalled : Uncalled for
       q15_same (recalled t s) g (λ i l k. rw (was_zero i l k) some_group) caller_group
 
 -- questions 2 to 19
-callers_same : (rooms : List ℕ) (g t s : Bytes) → Octets g → Uncalled form_1 s
+callers_same : (rooms : List ℕ) (g t s : Bytes) → Octets g → Existing form_1 s
     → script_check rooms g (widen_types t) (new t s) ≡ script_check rooms g (widen_types t) (widen_script s)
 unfolding own_check script_check
-callers_same rooms g t s octets uncalled =
+callers_same rooms g t s octets existing =
     then_same (types_check g (widen_types t)) _ _ _ refl λ types.
     let X = tables g (widen_types t) octets types in
-    let read = new_term_is form_1 t s X.stands uncalled in
+    let read = new_term_is form_1 t s X.stands existing in
     then_same (q13 rooms (new t s)) _ _ _ (q13_same (recalled t s) rooms) λ q13_yes.
-    then_same (form_check g (widen_types t) (new t s)) _ _ _ (form_same (recalled t s) g (widen_types t) _ (q15_again g t s X uncalled) (λ q14_yes q17_yes. read)) λ form_yes.
+    then_same (form_check g (widen_types t) (new t s)) _ _ _ (form_same (recalled t s) g (widen_types t) _ (q15_again g t s X existing) (λ q14_yes q17_yes. read)) λ form_yes.
     q19_same (recalled t s) _ read
 
-pub script_same : (form : Form) (rooms : List ℕ) (g t s : Bytes) → Octets g → Uncalled form s
+pub script_same : (form : Form) (rooms : List ℕ) (g t s : Bytes) → Octets g → Existing form s
     → script_check rooms g (widen_types t) (new_script form t s) ≡ script_check rooms g (widen_types t) (widen_script s)
-script_same form rooms g t s octets uncalled = grind (arith, callers_same)
+script_same form rooms g t s octets existing = grind (arith, callers_same)

@@ -1,21 +1,38 @@
 -- Migration: scripts of earlier forms, rewritten, are checked and run as they were.
 use Rattle.std.proofs.Common.{◌≡◌, refl, sym, subst, ap, ◌∙◌, List, [], ◌∷◌, ◌↔◌, ℕ, suc, ◌≤◌, ◌<◌, min, arith, le-leb}
 use Rattle.std.proofs.Common.{ltb-true, length, IsTrue}
-use Rattle.rules.specs.Prelude.{Property, Reader, Indirect, Ty, leaf, node, top, plus, less, Term, var, unit, lam, pair}
-use Rattle.rules.specs.Prelude.{inj, app, proj, case, protect, mu, literal, reckon, Labels, relabel_t, relabel}
-use Rattle.rules.specs.Prelude.{as_written, without_creators, without_creators_i, rewriting_labels, Bytes, Octets}
-use Rattle.rules.specs.Prelude.{Answer, accepted, refused, ◌>>◌, old_script_width, rows, leq, groups_of, properties_of}
-use Rattle.rules.specs.Prelude.{type_at, records, encode, term, q13_of, right, typing, End, at_value, moves, may_not}
-use Rattle.rules.specs.Prelude.{wrong_kind, too_big, step_in, Ran, run, write_callers, widen_types, widen_script}
-use Rattle.rules.specs.Prelude.{old_types_check, old_script_check, rewriting_types, rewriting_script, q1, groups_check}
-use Rattle.rules.specs.Prelude.{types_check, script_check, check_call, check_call_by, step_call, step_report, run_call}
-use Rattle.rules.specs.Prelude.{run_call_by, run_report}
-use Rattle.rules.proofs.Prelude.{both, and_left, top_secure, properties_laws, Least, rewritten_agrees, uncreated_agrees}
-use Rattle.rules.proofs.Prelude.{relabel_top, Agrees, and_then, term_encode, callers_length, callers_octets}
-use Rattle.rules.proofs.Prelude.{widen_script_records, widen_script_octets}
+use Rattle.calculus.specs.Security.{Property, Reader, Indirect}
+use Rattle.calculus.specs.Types.{Ty, leaf, node, top}
+use Rattle.calculus.specs.Terms.{plus, less, Term, var, unit, lam, pair, inj, app, proj, case, protect, mu, literal}
+use Rattle.calculus.specs.Terms.{reckon}
+use Rattle.calculus.specs.Relabelling.{Labels, relabel_t, relabel}
+use Rattle.calculus.specs.Callers.{as_written}
+use Rattle.calculus.specs.Creators.{without_creators, without_creators_i, rewriting_labels}
+use Rattle.calculus.proofs.Booleans.{both, and_left}
+use Rattle.calculus.proofs.SecureTyping.{top_secure}
+use Rattle.calculus.proofs.Properties.{properties_laws}
+use Rattle.calculus.proofs.Creators.{Least, rewritten_agrees, uncreated_agrees}
+use Rattle.calculus.proofs.RelabelledTerms.{relabel_top}
+use Rattle.calculus.proofs.RelabelledTypes.{Agrees}
+use Rattle.rules.specs.Answer.{Bytes, Octets, Answer, accepted, refused, ◌>>◌}
+use Rattle.rules.specs.Limits.{old_script_width}
+use Rattle.rules.specs.Groups.{rows, leq, groups_of, properties_of}
+use Rattle.rules.specs.Types.{type_at}
+use Rattle.rules.specs.Script.{records, encode, term, q13_of}
+use Rattle.rules.specs.Typing.{right, typing}
+use Rattle.rules.specs.Step.{End, at_value, moves, may_not, wrong_kind, too_big, step_in}
+use Rattle.rules.specs.Run.{Ran, run}
+use Rattle.rules.specs.Callers.{write_callers}
+use Rattle.rules.specs.Rewriting.{widen_types, widen_script, old_types_check, old_script_check, rewriting_types}
+use Rattle.rules.specs.Rewriting.{rewriting_script}
+use Rattle.rules.specs.Calls.{q1, groups_check, types_check, script_check, check_call, check_call_by, step_call}
+use Rattle.rules.specs.Calls.{step_report, run_call, run_call_by, run_report}
+use Rattle.rules.proofs.Asked.{and_then}
+use Rattle.rules.proofs.Scripts.{term_encode}
+use Rattle.rules.proofs.Callers.{callers_length, callers_octets}
+use Rattle.rules.proofs.Widening.{widen_script_records, widen_script_octets}
 use Rattle.promises.specs.Runs.{moved_to, Reaches, ReachesBy, the_script, after_step}
-use Rattle.promises.specs.EarlierForms.{Form, form_1, form_2, Uncalled}
-use Rattle.promises.specs.Migration.{caller_in, earlier, with_callers, new_script, Migrated}
+use Rattle.promises.specs.Migration.{Form, form_1, form_2, Existing, caller_in, earlier, with_callers, new_script}
 use Rattle.promises.specs.Migration.{new_labels, new_term, earlier_step, Migration}
 use Rattle.promises.proofs.Answers.{accepted_inj, asks, go_on, then_same}
 use Rattle.promises.proofs.Tables.{Tables}
@@ -29,7 +46,6 @@ use Rattle.promises.proofs.RelabelledBytes.{relabel_size, relabel_depth}
 use Rattle.promises.proofs.RelabelledTyping.{relabel_a, relabel_end, relabel_ran, relabel_typing, relabel_step_in}
 use Rattle.promises.proofs.RelabelledTyping.{relabel_run}
 use Rattle.promises.proofs.WidenedTerms.{widened_type, kept_parse, parsed_term}
-use Rattle.promises.proofs.EarlierForms.{own_types_same, own_script_same, accepted_then}
 use Rattle.promises.proofs.MigratedScripts.{new_term_is, own_group, script_same}
 
 -- who is called doesn't depend on creators
@@ -98,9 +114,9 @@ module _ (form : Form) (g t s : Bytes) (octets_g : Octets g) where
       labels (accepted u) = ap accepted (no_recursion form tab u)
       labels (refused q p) = refl
 
-  module _ (uncalled : Uncalled form s) where
+  module _ (existing : Existing form s) where
     new_is : types_check g T ≡ accepted tt → term (new_script form t s) ≡ new_term form t (term (widen_script s))
-    new_is types = new_term_is form t s (tables g T octets_g types).stands uncalled
+    new_is types = new_term_is form t s (tables g T octets_g types).stands existing
 
     -- the old questions, and the calls
     asked : old_script_check g t (with_callers form t s) ≡ old_script_check g t s
@@ -108,7 +124,7 @@ module _ (form : Form) (g t s : Bytes) (octets_g : Octets g) where
     asked =
         then_same (old_types_check g t) _ _ _ refl λ types.
         then_same (q13_of old_script_width [] (with_callers form t s)) (q13_of old_script_width [] s) _ _ (rw (callers_length_in form t s)) λ length.
-        script_same form [] g t s octets_g uncalled
+        script_same form [] g t s octets_g existing
 
     types_rewritten : old_script_check g t s ≡ accepted tt → (room : ℕ) → length T ≤ room → rewriting_types g t room ≡ accepted T
     unfolding old_script_check rewriting_types
@@ -123,7 +139,7 @@ module _ (form : Form) (g t s : Bytes) (octets_g : Octets g) where
     unfolding check_call
     checked work answer =
         ap (λ (m : Answer Ty). ◌>>◌ (q1 work answer) m)
-        (then_same (script_check [] g T (new_script form t s)) _ _ _ (script_same form [] g t s octets_g uncalled) λ q.
+        (then_same (script_check [] g T (new_script form t s)) _ _ _ (script_same form [] g t s octets_g existing) λ q.
         let types = types_first [] g T (widen_script s) q in
         ap (typing (properties_of g) tab [] 0) (new_is types)
         ∙ relabel_typing (agrees types) fixed [] 0 (term (widen_script s))
@@ -139,7 +155,7 @@ module _ (form : Form) (g t s : Bytes) (octets_g : Octets g) where
     steps : (room : ℕ) → step_call g T (new_script form t s) room ≡ answer_with (relabel_end R) (earlier_step form g t room (widen_script s))
     unfolding step_call
     steps room =
-        then_same (script_check [] g T (new_script form t s)) _ _ _ (script_same form [] g t s octets_g uncalled)
+        then_same (script_check [] g T (new_script form t s)) _ _ _ (script_same form [] g t s octets_g existing)
         (λ q.
         let types = types_first [] g T (widen_script s) q in
         ap (λ (e : Term). accepted (step_in (properties_of g) tab room e)) (new_is types)
@@ -151,7 +167,7 @@ module _ (form : Form) (g t s : Bytes) (octets_g : Octets g) where
     unfolding run_call
     runs budget first scratch =
         let rooms = first ∷ scratch ∷ [] in
-        then_same (script_check rooms g T (new_script form t s)) _ _ _ (script_same form rooms g t s octets_g uncalled)
+        then_same (script_check rooms g T (new_script form t s)) _ _ _ (script_same form rooms g t s octets_g existing)
         (λ q.
         let types = types_first rooms g T (widen_script s) q in
         ap (λ (e : Term). accepted (run (properties_of g) tab (min first scratch) budget e)) (new_is types)
@@ -296,17 +312,17 @@ new_octets : (form : Form) (t s : Bytes) → Octets t → Octets s → Octets (n
 new_octets form_1 t s p q = widen_script_octets (write_callers t s) (callers_octets t s p q)
 new_octets form_2 t s p q = widen_script_octets s q
 
-reached : (form : Form) (g t s : Bytes) → Octets g → Octets t → Octets s → Uncalled form s → script_check [] g (widen_types t) (widen_script s) ≡ accepted tt
+reached : (form : Form) (g t s : Bytes) → Octets g → Octets t → Octets s → Existing form s → script_check [] g (widen_types t) (widen_script s) ≡ accepted tt
     → (room budget : ℕ) (u : Bytes)
     → Reaches g (widen_types t) room budget (new_script form t s) u
     ↔ ((v : Bytes) × ReachesBy (earlier_step form g t room) budget (widen_script s) v × (u ≡ encode (new_term form t (term v))))
-reached form g t s octets_g octets_t octets_s uncalled q room budget u =
+reached form g t s octets_g octets_t octets_s existing q room budget u =
     let T = widen_types t in
     let S = widen_script s in
     let P = script_passed [] g T S (widen_script_octets s octets_s) q in
-    let P' = script_passed [] g T (new_script form t s) (new_octets form t s octets_t octets_s) (script_same form [] g t s octets_g uncalled ∙ q) in
+    let P' = script_passed [] g T (new_script form t s) (new_octets form t s octets_t octets_s) (script_same form [] g t s octets_g existing ∙ q) in
     let new : encode (new_term form t (term S)) ≡ new_script form t s =
-    ap encode (sym (new_is form g t s octets_g uncalled P.types)) ∙ P'.encoded in (
+    ap encode (sym (new_is form g t s octets_g existing P.types)) ∙ P'.encoded in (
       λ r.
           let z = forth form g t octets_g P.types room (term S) P.fit new r in
           (z.0, subst (λ (b : Bytes). ReachesBy (earlier_step form g t room) budget b z.0) P.encoded z.1, z.2),
@@ -330,28 +346,19 @@ widened_creators t i =
     let tab = type_at (widen_types t) in
     subst NoCreators (widened_type as_written tab t i) (relabelled_creators tab (tab i))
 
-pub migrated : (form : Form) (g t s : Bytes) → Octets g → Octets t → Octets s → Uncalled form s → Migrated form g t s
-migrated form g t s G O P E = record {
-  asked = asked form g t s G E;
-  types_rewritten = types_rewritten form g t s G E;
-  script_rewritten = script_rewritten form g t s G E;
-  checked = checked form g t s G E;
-  uncreated = found_uncreated form g t s G E;
-  stepped = stepped form g t s G E;
-  reported = reported form g t s G E;
-  last = last form g t s G E;
-  reached = reached form g t s G O P E;
-}
-
 pub migration : Migration
 migration = record {
-  as_it_was = λ form g t s G O P own. record {
-    types_asked = own_types_same form g t s G own;
-    asked = asked form g t s G own.uncalled ∙ own_script_same form g t s G own;
-    migrated = migrated form g t s G O P own.uncalled;
+  migrated = λ form g t s G O P E. record {
+    asked = asked form g t s G E;
+    types_rewritten = types_rewritten form g t s G E;
+    script_rewritten = script_rewritten form g t s G E;
+    checked = checked form g t s G E;
+    uncreated = found_uncreated form g t s G E;
+    stepped = stepped form g t s G E;
+    reported = reported form g t s G E;
+    last = last form g t s G E;
+    reached = reached form g t s G O P E;
   };
-  accepted_then = accepted_then;
-  later = migrated;
   unasked_21 = λ g t G types i place w l.
       let X = tables g t G types in
       asks 21 place _ (X.lattice.self_right _ _ (and_left _ _ (top_secure (properties_of g) (type_at t i) (X.table.secure i))));

@@ -1,20 +1,31 @@
 -- Two runs of scripts that differ in a part that isn't seen, or that others made, end with one value.
-use Rattle.std.proofs.Common.{◌≡◌, ap, subst, ◌∙◌, true, false, List, [], ◌∷◌, ℕ, suc, min}
+use Rattle.std.proofs.Common.{◌≡◌, refl, ap, subst, ◌∙◌, Bool, true, false, cond, List, [], ◌∷◌, ℕ, suc, zero, min}
 use Rattle.std.proofs.Common.{arith}
-use Rattle.rules.specs.Prelude.{Security, Ty, Term, Reduces, runs_end, runs_on, HasType, Table, Bytes, Octets, accepted}
-use Rattle.rules.specs.Prelude.{groups_of, properties_of, type_at, term, at_value, step_in, Ran, run, script_check}
-use Rattle.rules.specs.Prelude.{run_call, Lattice}
-use Rattle.rules.proofs.Prelude.{step_value, step_reduces, and_then}
+use Rattle.calculus.specs.Security.{Security}
+use Rattle.calculus.specs.Types.{Ty}
+use Rattle.calculus.specs.Terms.{Term, is_value}
+use Rattle.calculus.specs.Reduction.{Outcome, value, moved, denied, stuck, Reduces, step}
+use Rattle.calculus.specs.Runs.{runs_end, runs_on}
+use Rattle.calculus.specs.Typing.{HasType, Table}
+use Rattle.calculus.proofs.Reduction.{step_value, step_reduces}
 use Rattle.noninterference.specs.Noninterference as terms
 use Rattle.noninterference.specs.Noninterference.{EndsInValue, OneValue}
 use Rattle.noninterference.proofs.Noninterference.{one_value, one_made}
+use Rattle.rules.specs.Answer.{Bytes, Octets, accepted}
+use Rattle.rules.specs.Groups.{groups_of, properties_of}
+use Rattle.rules.specs.Types.{type_at}
+use Rattle.rules.specs.Script.{encode, term, records}
+use Rattle.rules.specs.Sheet.{sheet}
+use Rattle.rules.specs.Step.{exceeds, step_in}
+use Rattle.rules.specs.Run.{Ran, run}
+use Rattle.rules.specs.Calls.{script_check, run_call, sheet_call}
+use Rattle.rules.proofs.Asked.{and_then}
 use Rattle.noninterference.specs.Places as places
 use Rattle.noninterference.specs.Places.{Place, put}
+use Rattle.calculus.specs.Groups.{Lattice}
 use Rattle.promises.specs.Noninterference.{Exchanged, Unseen, BothEnd, SameValue, Noninterference, OneMade}
 use Rattle.promises.proofs.Answers.{accepted_inj}
 use Rattle.promises.proofs.Checked.{script_passed}
-use Rattle.promises.proofs.Courses.{Course, budget_spent, step_ended, step_moved, course}
-use Rattle.promises.proofs.Steps.{limited_moves, limited_value}
 use Rattle.promises.proofs.TypesTable.{tables}
 use Rattle.promises.proofs.AcceptedByTheRules.{reported}
 use Rattle.promises.proofs.RecordKinds.{same_records}
@@ -24,18 +35,27 @@ use Rattle.promises.proofs.PlaceBytes.{place_around, of_terms, of_bytes, octets_
 more_steps : {S : Security} {tab : ℕ → Ty} {e e' v : Term} → Reduces S tab e e' → EndsInValue S tab e' v → EndsInValue S tab e v
 more_steps r x = record { steps = suc x.steps; runs = runs_on r x.runs; ended = x.ended }
 
-ends_of : {S : Security} {tab : ℕ → Ty} {room budget : ℕ} {e : Term} {x : Ran} → Course S tab room budget e x → x.end ≡ 0 → EndsInValue S tab e x.last
-unfolding step_in
-ends_of (budget_spent {b = true} v) z = record { steps = 0; runs = runs_end; ended = v }
-ends_of (budget_spent {b = false} v) z = absurd (omega arith)
-ends_of (step_ended {x = at_value} h k n) z =
-    record { steps = 0; runs = runs_end; ended = step_value _ _ _ (limited_value _ _ h) }
-ends_of (step_ended {x = x} h k n) z = absurd (omega arith)
-ends_of (step_moved h r) z = more_steps (step_reduces _ _ _ _ (limited_moves _ _ _ h).0) (ends_of r z)
+module _ (S : Security) (tab : ℕ → Ty) (room : ℕ) where
+  pub ends_0 : (budget : ℕ) (e : Term) → (run S tab room budget e).end ≡ 0 → EndsInValue S tab e (run S tab room budget e).last
+  unfolding run step_in
+  ends_0 zero e h = go (is_value e) refl h
+    where
+      go : (b : Bool) → is_value e ≡ b → ◌≡◌ {A = ℕ} (cond b 0 1) 0 → EndsInValue S tab e e
+      go true v h = record { steps = 0; runs = runs_end; ended = v }
+      go false v h = absurd (omega arith)
+  ends_0 (suc budget) e h = go (step S tab e) refl (λ e'. ends_0 budget e') h
+    where
+      big : (b : Bool) (e' : Term) → step S tab e ≡ moved e' → exceeds room e' ≡ b → ((run S tab room budget e').end ≡ 0 → EndsInValue S tab e' (run S tab room budget e').last)
+          → (run S tab room (suc budget) e).end ≡ 0 → EndsInValue S tab e (run S tab room (suc budget) e).last
+      big true e' m x ih = rw (m, x, run, step_in) (λ h. absurd (omega arith))
+      big false e' m x ih = rw (m, x, run, step_in) (λ h. more_steps (step_reduces S tab e e' m) (ih h))
 
-pub ends_0 : (S : Security) (tab : ℕ → Ty) (room budget : ℕ) (e : Term) → (run S tab room budget e).end ≡ 0
-    → EndsInValue S tab e (run S tab room budget e).last
-ends_0 S tab room budget e = ends_of (course S tab room budget e)
+      go : (o : Outcome) → step S tab e ≡ o → ((e' : Term) → (run S tab room budget e').end ≡ 0 → EndsInValue S tab e' (run S tab room budget e').last)
+          → (run S tab room (suc budget) e).end ≡ 0 → EndsInValue S tab e (run S tab room (suc budget) e).last
+      go value m ih = rw (m, run, step_in) (λ h. record { steps = 0; runs = runs_end; ended = step_value S tab e m })
+      go (moved e') m ih = big (exceeds room e') e' m refl (ih e')
+      go denied m ih = rw (m, run, step_in) (λ h. absurd (omega arith))
+      go stuck m ih = rw (m, run, step_in) (λ h. absurd (omega arith))
 
 -- What a run that isn't refused and ends 0 says of its script.
 pub record Run0 (g t w : Bytes) (ran : Ran) : Type 0 where
@@ -100,7 +120,13 @@ on_terms g t a b w w' part type ran ran' octets_g octets_w octets_w' U E =
     }
 
 same_value : (g t : Bytes) (ran ran' : Ran) → ran.last ≡ ran'.last → SameValue g t ran ran'
-same_value g t ran ran' e = grind arith
+same_value g t ran ran' e = record {
+  terms = e;
+  bytes = ap encode e;
+  buffers = λ old old' l. rw (e, l);
+  sheets = λ group. ap (sheet g group) e;
+  sheet_calls = λ group room. ap (λ (v : Term). sheet_call g t (encode v) group room) e;
+}
 
 one_seen : (g t a b w w' : Bytes) (part type : Ty) (ran ran' : Ran) → Octets g → Octets w → Octets w' → Unseen g t a b w w' part type
     → BothEnd g t w w' ran ran' → ran.last ≡ ran'.last

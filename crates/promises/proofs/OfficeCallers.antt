@@ -1,37 +1,54 @@
 -- Old office scripts with r of its type put in each recursion: import gives what it gave, with the callers put in, and
 -- they are checked and run as they were.
-use Rattle.std.proofs.Common.{rules}
-use Rattle.std.proofs.Common.{◌≡◌, refl, sym, ap, ap₂, subst, ◌∙◌, Bool, true, false, ◌&&◌, List, [], ◌∷◌, ◌++◌}
-use Rattle.std.proofs.Common.{ℕ, zero, suc, ◌+◌, ◌*◌, ◌/◌, ◌%◌, ◌≤◌, ◌<◌, arith, ltb-true, lt-ltb, nat_eq}
+use Rattle.std.proofs.Common.{◌≡◌, refl, sym, ap, ap₂, subst, ◌∙◌, Bool, true, false, cond, ◌&&◌, List, [], ◌∷◌, ◌++◌}
+use Rattle.std.proofs.Common.{ℕ, zero, suc, ◌+◌, ◌*◌, ◌/◌, ◌%◌, ◌≤◌, ◌<◌, arith, leb-true, ltb-true, lt-ltb, nat_eq}
 use Rattle.std.proofs.Common.{nat_le, nat_lt, length, take, drop}
+use Rattle.std.proofs.Math.Bool.{and-eq-true_iff}
 use Rattle.std.proofs.Math.Decide.{dec_lt}
 use Rattle.std.proofs.Math.ListN.{get_or-eq_default}
-use Rattle.rules.specs.Prelude.{first, second, plus, less, Term, var, unit, lam, pair, inj, app, proj, case, protect}
-use Rattle.rules.specs.Prelude.{mu, literal, reckon, Labels, relabel, Bytes, byte, Octets, Answer, accepted, ◌>>◌, ask}
-use Rattle.rules.specs.Prelude.{type_width, script_width, old_type_width, old_script_width, office_width, rows}
-use Rattle.rules.specs.Prelude.{type_count, type_r, ok9, q8, q9, script_record, records, kind, r, number, c, ic, encode}
-use Rattle.rules.specs.Prelude.{size, depth, weight, term, q18, old_records, old_kind, caller, put_callers}
-use Rattle.rules.specs.Prelude.{write_callers, write_callers_of, write_office_callers, groups_check, types_check}
-use Rattle.rules.specs.Prelude.{form_check, q27, widen_types, widen_script, meant, scopes, office_records, office_kind}
-use Rattle.rules.specs.Prelude.{office_number, first_name, second_name, nameless, with_names, named_term, ok29, ok30}
-use Rattle.rules.specs.Prelude.{q28, q29, q30, import_of, import_call}
-use Rattle.rules.proofs.Prelude.{and_left, each_all, each_same, and_then, record_at, record_byte, alone, encode_length}
-use Rattle.rules.proofs.Prelude.{Every, every_node, to_nodes, to_records, term_shape, term_code, term_head, c_is, ic_is}
-use Rattle.rules.proofs.Prelude.{octets_append, octets_take, octets_drop, q18_depth, Scoped, Whole, term_encode}
-use Rattle.rules.proofs.Prelude.{records_encode, form_yes, put_length, put_byte, put_r, callers_first}
-use Rattle.rules.proofs.Prelude.{widen_types_count, widen_types_byte, widen_script_records, widen_script_byte}
-use Rattle.rules.proofs.Prelude.{widen_script_zero, nameless_records, nameless_octets, nameless_byte, nameless_kind}
-use Rattle.rules.proofs.Prelude.{q30_scoped, callers_encode, office_callers_length, nameless_callers}
-use Rattle.rules.proofs.RecordFields.{kind_is as kind_field, r_is as r_field}
-use Rattle.rules.proofs.OfficeCallers.{called as call_labels}
-use Rattle.promises.specs.EarlierForms.{form_1, Uncalled}
-use Rattle.promises.specs.Office.{OldOffice, answer_with_callers, ImportsCalled, AsBefore, Importing, Exporting}
-use Rattle.promises.specs.Office.{ImportingCalled, ImportedAsBefore}
+use Rattle.calculus.specs.Typing.{finds_own}
+use Rattle.calculus.specs.Terms.{first, second, plus, less, Term, var, unit, lam, pair, inj, app, proj, case, protect}
+use Rattle.calculus.specs.Terms.{mu, literal, reckon}
+use Rattle.calculus.specs.Relabelling.{Labels, relabel}
+use Rattle.calculus.proofs.Booleans.{and_left}
+use Rattle.rules.specs.Answer.{Bytes, byte, Octets, Answer, accepted, ◌>>◌, ask, each}
+use Rattle.rules.specs.Limits.{type_width, script_width, old_type_width, old_script_width, office_width}
+use Rattle.rules.specs.Groups.{rows}
+use Rattle.rules.specs.Types.{type_count, type_r, ok9, q8, q9}
+use Rattle.rules.specs.Script.{script_record, records, kind, r, number, c, ic, encode, size, depth, weight, term, q18}
+use Rattle.rules.specs.Callers.{old_records, old_kind, caller, put_callers, write_callers, write_callers_of}
+use Rattle.rules.specs.Callers.{write_office_callers}
+use Rattle.rules.specs.Calls.{groups_check, types_check, form_check, q27}
+use Rattle.rules.specs.Rewriting.{widen_types, widen_script}
+use Rattle.rules.specs.Names.{meant, scopes}
+use Rattle.rules.specs.Office.{office_records, office_kind, office_number, first_name, second_name, nameless}
+use Rattle.rules.specs.Office.{with_names, named_term, ok29, ok30, q28, q29, q30, import_of, import_call}
+use Rattle.rules.proofs.Search.{each_all, each_same}
+use Rattle.rules.proofs.Asked.{and_then}
+use Rattle.rules.proofs.Prefix.{record_at}
+use Rattle.rules.proofs.Parts.{record_byte}
+use Rattle.rules.proofs.PrefixLaws.{alone, encode_length}
+use Rattle.rules.proofs.Nodes.{Every, every_node, to_nodes, to_records}
+use Rattle.rules.proofs.TermCode.{term_shape, term_code, term_head}
+use Rattle.rules.proofs.RecordFields.{kind_is as kind_field, r_is as r_field, c_is, ic_is}
+use Rattle.rules.proofs.Octets.{octets_append, octets_take, octets_drop}
+use Rattle.rules.proofs.Depth.{q18_depth}
+use Rattle.rules.proofs.Scope.{Scoped}
+use Rattle.rules.proofs.Scripts.{Whole, term_encode, records_encode}
+use Rattle.rules.proofs.Form.{form_yes}
+use Rattle.rules.proofs.Callers.{put_length, put_byte, put_r, callers_first}
+use Rattle.rules.proofs.Widening.{widen_types_count, widen_types_byte, widen_script_records, widen_script_byte}
+use Rattle.rules.proofs.Widening.{widen_script_zero}
+use Rattle.rules.proofs.Office.{nameless_records, nameless_octets, nameless_byte, nameless_kind, q30_scoped}
+use Rattle.rules.proofs.OfficeCallers.{called as call_labels, callers_encode, office_callers_length, nameless_callers}
+use Rattle.rules.proofs.OldTables.{old_type_count}
+use Rattle.promises.specs.Migration.{form_1, Existing}
+use Rattle.promises.specs.Office.{OldOffice, answer_with_callers, ImportsCalled, AsBefore, Importing, Exporting, ImportingCalled, ImportedAsBefore}
 use Rattle.promises.proofs.RelabelledBytes.{relabel_size}
 use Rattle.promises.proofs.Recalled.{Recalled, q15_same, form_same}
 use Rattle.promises.proofs.Imports.{every_meant, seen_whole, office_whole, Imported, import_yes, new_depth, imports}
 use Rattle.promises.proofs.Exports.{exports}
-use Rattle.promises.proofs.Migration.{migrated}
+use Rattle.promises.proofs.Migration.{migration}
 
 -- Over tables that pass, r of a type is a group, and so is 0.
 module _ (g t : Bytes) (types : types_check g t ≡ accepted tt) where
@@ -93,7 +110,13 @@ module _ (t s : Bytes) where
   room = omega arith
 
   recalled : Recalled (nameless s) (nameless s')
-  recalled = search (rules, nameless_callers, put_length, room, put_byte, put_r)
+  recalled =
+      rw (nameless_callers t s)
+      (record {
+        same_length = put_length type_width script_width (omega arith) t (records (nameless s)) (nameless s) room;
+        field_same = λ i n l d. put_byte type_width script_width (omega arith) t (records (nameless s)) (nameless s) i n room l d;
+        r_kept = λ i l e. put_r type_width script_width (omega arith) t (records (nameless s)) (nameless s) i room l ∙ rw e refl;
+      })
 
   r_is : (i : ℕ) → i < records (nameless s) → r (nameless s') i ≡ caller type_width t (kind (nameless s) i) (r (nameless s) i) (number (nameless s) i)
   r_is i l = grind (arith, nameless_callers, put_r)
@@ -109,10 +132,16 @@ module _ (t s : Bytes) where
   meant_same i ns (app w a b) = rw (relabel_size R a, meant_same (1 + i) ns a, meant_same (1 + i + size a) ns b) refl
   meant_same i ns (proj d w e) = rw (meant_same (1 + i) ns e) refl
   meant_same i ns (case w t e a b) =
-      let x = meant_same (1 + i) ns e in
-      let y = meant_same (1 + i + size e) (first_name s i ∷ ns) a in
-      let z = meant_same (1 + i + size e + size a) (second_name s i ∷ ns) b in
-      rw (relabel_size R e, relabel_size R a, first_same i, second_same i, x, y, z) refl
+      rw (
+        relabel_size R e,
+        relabel_size R a,
+        first_same i,
+        second_same i,
+        meant_same (1 + i) ns e,
+        meant_same (1 + i + size e) (first_name s i ∷ ns) a,
+        meant_same (1 + i + size e + size a) (second_name s i ∷ ns) b,
+      )
+      refl
   meant_same i ns (protect m e) = rw (meant_same (1 + i) ns e) refl
   meant_same i ns (mu w t e) = rw (first_same i, meant_same (1 + i) (first_name s i ∷ ns) e) refl
   meant_same i ns (literal k n) = refl
@@ -126,10 +155,16 @@ module _ (t s : Bytes) where
   scopes_same i ns (app w a b) = rw (relabel_size R a, scopes_same (1 + i) ns a, scopes_same (1 + i + size a) ns b) refl
   scopes_same i ns (proj d w e) = rw (scopes_same (1 + i) ns e) refl
   scopes_same i ns (case w t e a b) =
-      let x = scopes_same (1 + i) ns e in
-      let y = scopes_same (1 + i + size e) (first_name s i ∷ ns) a in
-      let z = scopes_same (1 + i + size e + size a) (second_name s i ∷ ns) b in
-      rw (relabel_size R e, relabel_size R a, first_same i, second_same i, x, y, z) refl
+      rw (
+        relabel_size R e,
+        relabel_size R a,
+        first_same i,
+        second_same i,
+        scopes_same (1 + i) ns e,
+        scopes_same (1 + i + size e) (first_name s i ∷ ns) a,
+        scopes_same (1 + i + size e + size a) (second_name s i ∷ ns) b,
+      )
+      refl
   scopes_same i ns (protect m e) = rw (scopes_same (1 + i) ns e) refl
   scopes_same i ns (mu w t e) = rw (first_same i, scopes_same (1 + i) (first_name s i ∷ ns) e) refl
   scopes_same i ns (reckon o w a b) = rw (relabel_size R a, scopes_same (1 + i) ns a, scopes_same (1 + i + size a) ns b) refl
@@ -156,11 +191,18 @@ module _ (t s : Bytes) where
 
     q30_same : q30 s' ≡ q30 s
     unfolding named_term
-    q30_same = search (rules, same_count, read, scopes_same, each_same, ok30_same)
+    q30_same =
+        ap₂ (λ (n : ℕ) (ns : List (List ℕ)). each 30 n (ok30 ns s')) same_count
+        (ap (λ (e : Term). scopes [] (with_names s' 0 e)) read ∙ scopes_same 0 [] (term (nameless s)))
+        ∙ each_same 30 (office_records s) _ _ (λ i l. ok30_same (scopes [] (named_term s)) i)
 
     imported_same : import_of s' ≡ write_callers_of type_width script_width t (import_of s)
     unfolding import_of named_term
-    imported_same = search (rules, read, meant_same, callers_encode)
+    imported_same =
+        let e = meant [] (with_names s 0 (term (nameless s))) in
+        ap (λ (x : Term). encode (meant [] (with_names s' 0 x))) read
+        ∙ ap encode (meant_same 0 [] (term (nameless s)))
+        ∙ sym (callers_encode type_width t e)
 
     imported_length : length (import_of s') ≡ length (import_of s)
     imported_length = grind (arith, imported_same, put_length)
@@ -389,8 +431,8 @@ module _ (g t s : Bytes) (octets_s : Octets s) (old : OldOffice s) (most : ℕ) 
   u_records : old_records u ≡ records b
   u_records = sym (widen_script_records u) ∙ ap records u_is
 
-  u_uncalled : Uncalled form_1 u
-  u_uncalled i l k =
+  u_existing : Existing form_1 u
+  u_existing i l k =
       let m : i < records b = omega (arith, u_records) in
       let z : script_width * i + 0 ≡ script_width * i = omega arith in
       let y : old_script_width * i ≡ old_script_width * i + 0 = omega arith in
@@ -408,12 +450,12 @@ module _ (g t s : Bytes) (octets_s : Octets s) (old : OldOffice s) (most : ℕ) 
       subst Octets b_is (encode_octets e₁ (record { at = λ j y a. head_octets y (others.at j y a) (small.at j y a) }))
 
   module _ (octets_g : Octets g) (octets_t : Octets t) where
-    pub before : AsBefore g t b
+    pub before : AsBefore g t s most b
     before = record {
       old = u;
       without = u_is;
       with = widened_callers t u ∙ ap (write_callers_of type_width script_width (widen_types t)) u_is;
-      migrated = migrated form_1 g t u octets_g octets_t (narrow_octets (records b) b b_octets) u_uncalled;
+      migrated = migration.migrated form_1 g t u octets_g octets_t (narrow_octets (records b) b b_octets) u_existing;
     }
 
 pub importing : Importing

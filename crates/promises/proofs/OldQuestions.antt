@@ -1,12 +1,14 @@
 -- What the rewriting calls ask, each question once: after the old table's own questions, those that are put again to
 -- the widened one are answered yes.
-use Rattle.std.proofs.Common.{rules}
-use Rattle.std.proofs.Common.{◌≡◌, ◌&&◌, [], ℕ, ◌/◌, ◌%◌, arith, nat_eq, nat_le, length}
-use Rattle.rules.specs.Prelude.{Bytes, Answer, accepted, ◌>>◌, ask, first_from, script_limit, old_type_width}
-use Rattle.rules.specs.Prelude.{old_script_width, q8_of, q8, q9, q10, q36_types, q11, q12, q13_of, q13, q19}
-use Rattle.rules.specs.Prelude.{groups_check, types_check, form_check, own_check, script_check, widen_types}
-use Rattle.rules.specs.Prelude.{widen_script, old_types_check, old_script_check}
-use Rattle.rules.proofs.Prelude.{and_then, widen_types_length, widen_script_length}
+use Rattle.std.proofs.Common.{◌≡◌, true, ◌&&◌, [], ℕ, ◌/◌, ◌%◌, arith, nat_eq, nat_le, length}
+use Rattle.rules.specs.Answer.{Bytes, Answer, accepted, ◌>>◌, ask, first_from}
+use Rattle.rules.specs.Limits.{script_limit, old_type_width, old_script_width}
+use Rattle.rules.specs.Types.{q8_of, q8, q9, q10, q36_types, q11, q12}
+use Rattle.rules.specs.Script.{q13_of, q13, q19}
+use Rattle.rules.specs.Calls.{groups_check, types_check, form_check, own_check, script_check}
+use Rattle.rules.specs.Rewriting.{widen_types, widen_script, old_types_check, old_script_check}
+use Rattle.rules.proofs.Asked.{and_then}
+use Rattle.rules.proofs.Widening.{widen_types_length, widen_script_length}
 
 abbrev pub after_8 : Bytes → Bytes → Answer (Unit {0})
 after_8 g t = do
@@ -43,4 +45,6 @@ types_passed g t q = (and_then (q8_of old_type_width t) _ (and_then (groups_chec
 pub old_script_asked : (g t s : Bytes)
     → old_script_check g t s ≡ ◌>>◌ (old_types_check g t) (◌>>◌ (q13_of old_script_width [] s) (◌>>◌ (form_check g (widen_types t) (widen_script s)) (q19 (widen_script s))))
 unfolding old_script_check own_check script_check
-old_script_asked g t s = search (rules, known, types_passed, script_counted)
+old_script_asked g t s =
+    known (old_types_check g t) (q13_of old_script_width [] s) (types_check g (widen_types t)) (q13 [] (widen_script s))
+    (◌>>◌ (form_check g (widen_types t) (widen_script s)) (q19 (widen_script s))) (types_passed g t) (script_counted s)

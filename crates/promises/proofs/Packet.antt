@@ -1,22 +1,37 @@
 -- Every packet is what building the application by hand gives.
-use Rattle.std.proofs.Common.{rules}
-use Rattle.std.proofs.Common.{◌≡◌, refl, sym, ap, ap₂, subst, ◌∙◌, true, [], ◌∷◌, ℕ, ◌+◌, ◌≤◌, ◌<◌, min}
+use Rattle.std.proofs.Common.{◌≡◌, refl, sym, ap, ap₂, subst, ◌∙◌, true, [], ◌∷◌, ℕ, zero, suc, ◌+◌, ◌≤◌, ◌<◌, min}
 use Rattle.std.proofs.Common.{arith, leb-true, le-leb, ltb-true, lt-ltb, nat_le, nat_lt, length}
-use Rattle.rules.specs.Prelude.{Security, Ty, function, top, raise_t, subtype, below, Term, app, is_value, Bytes}
-use Rattle.rules.specs.Prelude.{Octets, Answer, accepted, ◌>>=◌, ◌>>◌, work_length, script_limit, depth_limit, rows}
-use Rattle.rules.specs.Prelude.{properties_of, q2, type_at, encode, records, term, size, depth, script_record}
-use Rattle.rules.specs.Prelude.{signature_of, ok15, q13, q19, has_form, left, right, q21, typing, Ran, run, sheet, q25}
-use Rattle.rules.specs.Prelude.{q26, q27, groups_check, types_check, form_check, own_check, script_check, check_call}
-use Rattle.rules.specs.Prelude.{run_call, sheet_call, Accepted, ok39, q39, AcceptedInProfile, application, q1_work}
-use Rattle.rules.specs.Prelude.{q39_if, q37, q38, q18_whole, before_typing, application_check, desk_check, desk_run}
-use Rattle.rules.specs.Prelude.{Packet, packet_of_run, packet_call}
-use Rattle.rules.proofs.Prelude.{ask_true, and_then, few_rows, form_yes, octets_append, every_node, asked_of_nodes}
-use Rattle.rules.proofs.Prelude.{asked_of_records, q13_fitting, q13_encode, term_encode, records_encode, each_all}
+use Rattle.calculus.specs.Security.{Security}
+use Rattle.calculus.specs.Types.{Ty, function, top, raise_t}
+use Rattle.calculus.specs.Subtyping.{subtype, below}
+use Rattle.calculus.specs.Terms.{Term, app, is_value}
+use Rattle.rules.specs.Answer.{Bytes, Octets, Answer, accepted, refused, ◌>>=◌, ◌>>◌}
+use Rattle.rules.specs.Limits.{work_length, script_limit, depth_limit}
+use Rattle.rules.specs.Groups.{rows, properties_of, q2}
+use Rattle.rules.specs.Types.{type_at}
+use Rattle.rules.specs.Script.{encode, records, term, size, depth, script_record, signature_of, ok15, q13, q19}
+use Rattle.rules.specs.Typing.{has_form, left, right, q20, q21, q22, typing}
+use Rattle.rules.specs.Step.{End, moves, step_in}
+use Rattle.rules.specs.Run.{Ran, run}
+use Rattle.rules.specs.Sheet.{sheet}
+use Rattle.rules.specs.Calls.{q25, q26, q27, groups_check, types_check, form_check, own_check, script_check, check_call}
+use Rattle.rules.specs.Calls.{run_call, sheet_call}
+use Rattle.rules.specs.Reach.{Accepted}
+use Rattle.rules.specs.Profile.{ok39, q39, AcceptedInProfile}
+use Rattle.rules.specs.Packet.{application, q1_work, q39_if, q37, q38, q18_whole, before_typing, application_check}
+use Rattle.rules.specs.Packet.{desk_check, desk_run, Packet, packet_of_run, packet_call}
+use Rattle.rules.proofs.Asked.{ask_true, and_then, few_rows}
+use Rattle.rules.proofs.Form.{form_yes}
+use Rattle.rules.proofs.Octets.{octets_append}
+use Rattle.rules.proofs.Nodes.{every_node}
+use Rattle.rules.proofs.NodeQuestions.{asked_of_nodes, asked_of_records}
+use Rattle.rules.proofs.ScriptLength.{q13_fitting, q13_encode}
+use Rattle.rules.proofs.Scripts.{term_encode, records_encode}
+use Rattle.rules.proofs.Search.{each_all}
 use Rattle.promises.specs.Profile.{Finishes}
 use Rattle.promises.specs.Packet.{page_by_hand, by_hand, AsByHand, Applicable, PacketByHand}
 use Rattle.promises.proofs.Answers.{accepted≢refused, accepted_inj, go_on, asks, both}
 use Rattle.promises.proofs.Checked.{Fit, Passed, script_passed}
-use Rattle.promises.proofs.Courses.{Course, step_moved, course}
 use Rattle.promises.proofs.Formed.{Formed}
 use Rattle.promises.proofs.Inference.{forget, agree}
 use Rattle.promises.proofs.Noninterference.{ends_0}
@@ -35,7 +50,8 @@ pub record BoundAnswer {A B : Type 0} (m : Answer A) (f : A → Answer B) (x : B
   pub goes_on : f what ≡ accepted x
 
 pub bind_then : {A B : Type 0} (m : Answer A) (f : A → Answer B) {x : B} → ◌>>=◌ m f ≡ accepted x → BoundAnswer m f x
-bind_then m f h = search (rules, accepted≢refused)
+bind_then (accepted a) f h = record { what = a; is = refl; goes_on = h }
+bind_then (refused q p) f h = accepted≢refused (sym h)
 
 -- the application's bytes
 pub built : (group : ℕ) (f a : Term) → encode (app group f a) ≡ application group (encode f) (encode a)
@@ -43,7 +59,9 @@ unfolding encode
 built group f a = refl
 
 built_octets : (group : ℕ) (script entry : Bytes) → group < 256 → Octets script → Octets entry → Octets (application group script entry)
-built_octets group script entry l O E i = search (rules, octets_append)
+built_octets group script entry l O E (suc zero) = l
+built_octets group script entry l O E (suc (suc (suc (suc (suc (suc (suc (suc i)))))))) = octets_append script entry O E i
+built_octets group script entry l O E _ = omega arith
 
 -- few groups: each is a byte
 pub byte_group : (g : Bytes) (group : ℕ) → groups_check g ≡ accepted tt → group < rows g → group < 256
@@ -64,7 +82,22 @@ record Applied (S : Security) (tab : ℕ → Ty) (w : ℕ) (f a : Term) (type : 
 module _ (S : Security) (tab : ℕ → Ty) (w : ℕ) (f a : Term) where
   applied : (type : Ty) → typing S tab [] 0 (app w f a) ≡ accepted type → Applied S tab w f a type
   unfolding typing
-  applied type h = search (rules, bind_then, and_then, ask_true, accepted_inj)
+  applied type h =
+      let x = bind_then (typing S tab [] 1 f) _ h in
+      let y = and_then (q20 0 function x.what) _ x.goes_on in
+      let z = and_then (q21 S 0 x.what w) _ y.1 in
+      let v = bind_then (typing S tab [] (1 + size f) a) _ z.1 in
+      let b = and_then (q22 S 0 v.what (left x.what)) _ v.goes_on in
+      record {
+        s = x.what;
+        u = v.what;
+        first = x.is;
+        function_type = ask_true 20 0 (has_form function x.what) y.0;
+        reads = ask_true 21 0 (S.permits (top x.what) w) z.0;
+        second = v.is;
+        below_left = ask_true 22 0 (subtype S below v.what (left x.what)) b.0;
+        is = sym (accepted_inj b.1);
+      }
 
   apply_typed : (type : Ty) → Applied S tab w f a type → typing S tab [] 0 (app w f a) ≡ accepted type
   unfolding typing
@@ -72,12 +105,16 @@ module _ (S : Security) (tab : ℕ → Ty) (w : ℕ) (f a : Term) where
 
 -- what a run leaves
 module _ (g t : Bytes) (types : types_check g t ≡ accepted tt) (X : Tables g t) (room : ℕ) where
-  fits_after : {budget : ℕ} {e : Term} {x : Ran} → Course (properties_of g) (type_at t) room budget e x → Fit g t e → Fit g t x.last
-  fits_after (step_moved h r) F = fits_after r (fit_moves g t types X room _ _ F h)
-  fits_after _ F = F
-
   pub run_fits : (budget : ℕ) (e : Term) → Fit g t e → Fit g t (run (properties_of g) (type_at t) room budget e).last
-  run_fits budget e F = fits_after (course (properties_of g) (type_at t) room budget e) F
+  unfolding run
+  run_fits zero e F = F
+  run_fits (suc budget) e F = go (step_in (properties_of g) (type_at t) room e) refl (λ e' h. run_fits budget e' (fit_moves g t types X room e e' F h))
+    where
+      go : (x : End) → step_in (properties_of g) (type_at t) room e ≡ x
+          → ((e' : Term) → step_in (properties_of g) (type_at t) room e ≡ moves e' → Fit g t (run (properties_of g) (type_at t) room budget e').last)
+          → Fit g t (run (properties_of g) (type_at t) room (suc budget) e).last
+      go (moves e') h ih = rw (h, run) (ih e' h)
+      go _ h ih = rw (h, run) F
 
 -- the sheet's questions of a value that fits, but for the last
 fit_sheet : (g t : Bytes) (types : types_check g t ≡ accepted tt) (X : Tables g t) (group room : ℕ) (v : Term) → Fit g t v → group < rows g → is_value v ≡ true
@@ -200,7 +237,8 @@ module _ (g t script entry : Bytes) (G : Octets g) (O : Octets script) (E : Octe
   tables_of B = tables g t G B.types
 
   tree_bytes : Both → encode tree ≡ whole
-  tree_bytes B = search (rules, built, script_passed)
+  tree_bytes B =
+      built group (term script) (term entry) ∙ ap₂ (application group) B.script_passed.encoded B.entry_passed.encoded
 
   term_whole : Both → term whole ≡ tree
   term_whole B = ap term (sym (tree_bytes B)) ∙ term_encode tree
@@ -224,7 +262,10 @@ module _ (g t script entry : Bytes) (G : Octets g) (O : Octets script) (E : Octe
   tree_size B = sym (records_encode tree) ∙ ap records (tree_bytes B)
 
   fit_tree : Both → Parts → Fit g t tree
-  fit_tree B P = search (rules, q13_fitting, leb-true, ask_true, fits, group_low, tree_size, term_whole)
+  fit_tree B P =
+      let F = q13_fitting (first ∷ scratch ∷ []) whole P.long in
+      let d = leb-true (depth (term whole)) depth_limit (ask_true 18 0 (nat_le (depth (term whole)) depth_limit) P.shallow) in
+      fits B (group_low P) (omega (arith, tree_size B, F.limited)) (subst (λ (e : Term). depth e ≤ depth_limit) (term_whole B) d)
 
   holding : Parts → (length whole ≤ first) × (length whole ≤ scratch)
   holding P = grind (arith, q13_fitting)
@@ -233,7 +274,18 @@ module _ (g t script entry : Bytes) (G : Octets g) (O : Octets script) (E : Octe
   type_of P = raise_t S (right P.s) (S.influence (top P.s) group)
 
   tree_typed : Both → (P : Parts) → typing S tab [] 0 tree ≡ accepted (type_of P)
-  tree_typed B P = search (rules, apply_typed, typed_at, script_passed, ask_true)
+  tree_typed B P =
+      apply_typed S tab group (term script) (term entry) (type_of P)
+      (record {
+        s = P.s;
+        u = P.u;
+        first = typed_at B 0 1 (term script) B.script_passed.fit.formed P.s P.script_typed;
+        function_type = ask_true 37 0 (has_form function P.s) P.function_type;
+        reads = ask_true 21 0 (S.permits (top P.s) group) P.reads;
+        second = typed_at B 0 (1 + size (term script)) (term entry) B.entry_passed.fit.formed P.u P.entry_typed;
+        below_left = ask_true 38 0 (subtype S below P.u (left P.s)) P.below_left;
+        is = refl;
+      })
 
   both_of : Parts → Both
   both_of P = both_pass P.script_yes P.entry_yes
@@ -243,14 +295,19 @@ module _ (g t script entry : Bytes) (G : Octets g) (O : Octets script) (E : Octe
   whole_octets B l = built_octets group script entry (byte_group g group (and_then (groups_check g) _ B.types).0 l) O E
 
   whole_accepted : (B : Both) (P : Parts) → Accepted g t whole (type_of P)
-  whole_accepted B P = search (rules, tree_bytes, fit_verdict, tables_of, fit_tree, tree_typed)
+  whole_accepted B P =
+      subst (λ (b : Bytes). Accepted g t b (type_of P)) (tree_bytes B) (fit_verdict g t B.types (tables_of B) tree (fit_tree B P) ∙ tree_typed B P)
 
   -- its run by hand, and the packet's
   abbrev ran : Ran
   ran = run S tab (min first scratch) budget tree
 
   hand_runs : Both → Parts → run_call g t whole budget first scratch ≡ accepted ran
-  hand_runs B P = search (rules, holding, tree_bytes, fit_runs, tables_of, fit_tree)
+  hand_runs B P =
+      let l = holding P in
+      let h = tree_bytes B in
+      subst (λ (b : Bytes). run_call g t b budget first scratch ≡ accepted ran) h
+      (fit_runs g t B.types (tables_of B) tree budget first scratch (fit_tree B P) (rw h l.0) (rw h l.1))
 
   desk_runs : Both → desk_check g t script entry group profile work first scratch ≡ accepted tt
       → desk_run g t script entry group budget profile work first scratch ≡ accepted ran
@@ -329,7 +386,8 @@ module _ (g t script entry : Bytes) (G : Octets g) (O : Octets script) (E : Octe
   entry_asked h = (and_then (types_check g t) (own_check [] g t entry) h).1
 
   applied_whole : (B : Both) → (type : Ty) → typing S tab [] 0 (term whole) ≡ accepted type → Applied S tab group (term script) (term entry) type
-  applied_whole B type h = search (rules, applied, term_whole)
+  applied_whole B type h =
+      applied S tab group (term script) (term entry) type (subst (λ (e : Term). typing S tab [] 0 e ≡ accepted type) (term_whole B) h)
 
   one_type : Both → (p : ℕ) (e : Term) → Formed g t 0 e → (s s' : Ty) → typing S tab [] 0 e ≡ accepted s → typing S tab [] p e ≡ accepted s' → s' ≡ s
   one_type B p e F s s' h k = accepted_inj (sym k ∙ typed_at B 0 p e F s h)
@@ -404,16 +462,10 @@ module _ (g t script entry : Bytes) (group budget profile work : ℕ) (first scr
         in_profile = finishing g t script entry G O E group budget profile work (length first) (length scratch) B P;
       }
 
-  -- a run that is answered has been asked for
-  asked_by_hand : AsByHand g t script entry group budget profile work first scratch room → Asked
-  unfolding desk_run
-  asked_by_hand x = (and_then (desk_check g t script entry group profile work (length first) (length scratch)) _ x.same_ran).0
-
   pub packet_by_hand : PacketByHand g t script entry group budget profile work first scratch room
   packet_by_hand = record {
     asks = packet_questions g t script entry group budget profile work (length first) (length scratch) room;
     equals = as_by_hand;
-    only_there = asked_by_hand;
     runs_when = (
       λ h.
           let P = all_yes h in

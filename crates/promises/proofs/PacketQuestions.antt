@@ -1,18 +1,28 @@
 -- The packet's questions, one after another, and what its buffers hold.
-use Rattle.std.proofs.Common.{rules}
 use Rattle.std.proofs.Common.{◌≡◌, refl, ap, ◌∙◌, Bool, true, false, cond, List, [], ◌∷◌, ◌++◌, ℕ, min, eqb-true}
-use Rattle.std.proofs.Common.{nat_eq, nat_le, length, arith}
-use Rattle.rules.specs.Prelude.{Ty, Bytes, Answer, accepted, refused, ◌>>=◌, ◌>>◌, work_length, properties_of, type_at}
-use Rattle.rules.specs.Prelude.{term, typing, Ran, run, sheet, fill_front, q27, own_check, script_check, first_after}
-use Rattle.rules.specs.Prelude.{scratch_after, application, q39_if, before_typing, application_check, desk_check}
-use Rattle.rules.specs.Prelude.{desk_run, Packet, packet_of_run, packet_call, desk_work_after, packet_page_after}
-use Rattle.rules.proofs.Prelude.{and_then}
+use Rattle.std.proofs.Common.{nat_eq, nat_le, nat_lt, length, arith}
+use Rattle.calculus.specs.Types.{Ty, function, top}
+use Rattle.calculus.specs.Subtyping.{subtype, below}
+use Rattle.calculus.specs.Terms.{is_value}
+use Rattle.rules.specs.Answer.{Bytes, Answer, accepted, refused, ◌>>=◌, ◌>>◌}
+use Rattle.rules.specs.Limits.{work_length, script_width, depth_limit}
+use Rattle.rules.specs.Groups.{rows, properties_of}
+use Rattle.rules.specs.Types.{type_at}
+use Rattle.rules.specs.Script.{records, term, depth, q13}
+use Rattle.rules.specs.Typing.{has_form, left, q21, typing}
+use Rattle.rules.specs.Run.{Ran, run}
+use Rattle.rules.specs.Sheet.{sheet}
+use Rattle.rules.specs.Calls.{fill_front, q25, q26, q27, own_check, script_check, first_after, scratch_after}
+use Rattle.rules.specs.Profile.{ok39, q39}
+use Rattle.rules.specs.Packet.{application, q1_work, q39_if, q37, q38, q18_whole, before_typing, application_check}
+use Rattle.rules.specs.Packet.{desk_check, desk_run, Packet, packet_of_run, packet_call, desk_work_after}
+use Rattle.rules.specs.Packet.{packet_page_after}
+use Rattle.rules.proofs.Asked.{and_then}
 use Rattle.promises.specs.Questions.{Question, question, yes, none_left, first_no_here}
-use Rattle.promises.specs.Packet.{typing_question, found_type, of_beginning, of_application, of_entry, of_desk}
-use Rattle.promises.specs.Packet.{page_question, PacketQuestions}
-use Rattle.promises.proofs.Answers.{accepted_inj}
+use Rattle.promises.specs.Packet.{typing_question, found_type, of_beginning, of_application, of_entry, of_desk, page_question, PacketQuestions}
+use Rattle.promises.proofs.Answers.{accepted≢refused, accepted_inj}
 use Rattle.promises.proofs.Deciding.{Own, own_yes, Decided, says_yes, refuses, decides, ask_own, each_own, decided_one}
-use Rattle.promises.proofs.Deciding.{decided_then, decided_first, decided_yes, asking, then_found}
+use Rattle.promises.proofs.Deciding.{decided_then, decided_yes, then_found}
 use Rattle.promises.proofs.EveryCallAnswers.{own_13, own_decided, script_decided}
 use Rattle.std.proofs.lemmas.Grind.{common_steps}
 
@@ -24,18 +34,31 @@ decided_typed (refused q place) f qs D = refuses (first_no_here refl)
 
 own_39 : (profile : ℕ) (s : Bytes) → Own 39 (q39_if profile s)
 unfolding q39_if
-own_39 profile s = search (rules, own_yes, each_own)
+own_39 profile s = go (nat_eq profile 0)
+  where
+    go : (b : Bool) → Own 39 (cond b (accepted tt) (q39 s))
+    go true = own_yes
+    go false = each_own 39 (records s) (ok39 s)
 
 begins_decided : (g t script : Bytes) (profile work : ℕ) → Decided (of_beginning g t script profile work) (before_typing g t script profile work)
 unfolding before_typing
 begins_decided g t script profile work =
-    decided_first (ask_own 1 0 (nat_le work_length work))
+    decided_then (q1_work work) _ (decided_one (ask_own 1 0 (nat_le work_length work)))
     (decided_then (script_check [] g t script) (q39_if profile script) (script_decided [] g t script) (decided_one (own_39 profile script)))
 
 application_decided : (g script entry : Bytes) (group first scratch : ℕ) (s u : Ty)
     → Decided (of_application g script entry group first scratch s u) (application_check g script entry group first scratch s u)
 unfolding application_check
-application_decided g script entry group first scratch s u = search (rules, asking, own_13) depth 30
+application_decided g script entry group first scratch s u =
+    let S = properties_of g in
+    let whole = application group script entry in
+    decided_then (q26 (term entry)) _ (decided_one (ask_own 26 0 (is_value (term entry))))
+    (decided_then (q25 0 group (rows g)) _ (decided_one (ask_own 25 0 (nat_lt group (rows g))))
+    (decided_then (q37 s) _ (decided_one (ask_own 37 0 (has_form function s)))
+    (decided_then (q21 S 0 s group) _ (decided_one (ask_own 21 0 (S.permits (top s) group)))
+    (decided_then (q38 S u s) _ (decided_one (ask_own 38 0 (subtype S below u (left s))))
+    (decided_then (q13 (first ∷ scratch ∷ []) whole) (q18_whole whole) (decided_one (own_13 script_width (first ∷ scratch ∷ []) whole))
+    (decided_one (ask_own 18 0 (nat_le (depth (term whole)) depth_limit))))))))
 
 module _ (g t script entry : Bytes) (group budget profile work first scratch : ℕ) where
   abbrev of_script_type : Answer Ty

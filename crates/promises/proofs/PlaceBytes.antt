@@ -1,17 +1,23 @@
 -- A place in bytes: the records before and after it are the same whatever stands there, and where a whole term stands
 -- among the records of another, it stands at a place of it.
-use Rattle.std.proofs.Common.{rules}
 use Rattle.std.proofs.Common.{◌≡◌, refl, ap, ap₂, sym, subst, ◌∙◌, List, [], ◌∷◌, ◌++◌, append-nil, ℕ, zero, suc, ◌+◌}
 use Rattle.std.proofs.Common.{◌*◌, ◌/◌, ◌<◌, arith, length, take, drop, length-append, take_at, drop_at}
-use Rattle.rules.specs.Prelude.{Property, Reader, Indirect, Side, choose, Operation, Term, var, lam, pair, inj, app}
-use Rattle.rules.specs.Prelude.{proj, case, protect, mu, reckon, Bytes, Octets, script_width, full_record}
-use Rattle.rules.specs.Prelude.{object_record, script_record, encode, size, term}
+use Rattle.calculus.specs.Security.{Property, Reader, Indirect}
+use Rattle.calculus.specs.Terms.{Side, choose, Operation, Term, var, lam, pair, inj, app, proj, case, protect, mu}
+use Rattle.calculus.specs.Terms.{reckon}
 use Rattle.noninterference.specs.Places.{Place, whole, in_lam, in_pair_left, in_pair_right, at_inj, in_app_left}
 use Rattle.noninterference.specs.Places.{in_app_right, at_proj, in_tested, in_first, in_second, at_protect, in_mu}
 use Rattle.noninterference.specs.Places.{in_reckon_left, in_reckon_right, put}
-use Rattle.rules.proofs.Prelude.{joined, total, joined_append, encode_length, joined_length, alone, unique}
-use Rattle.rules.proofs.Prelude.{size_positive, NodeAt, here, below, node_at, at_bytes, term_shape, term_code}
-use Rattle.rules.proofs.Prelude.{term_prefix, term_operands, term_head, term_head_length, term_encode_is, term_encode}
+use Rattle.rules.specs.Answer.{Bytes, Octets}
+use Rattle.rules.specs.Limits.{script_width}
+use Rattle.rules.specs.Script.{full_record, object_record, script_record, encode, size, term}
+use Rattle.rules.proofs.Prefix.{joined, total}
+use Rattle.rules.proofs.Parts.{joined_append}
+use Rattle.rules.proofs.PrefixLaws.{encode_length, joined_length, alone, unique, size_positive}
+use Rattle.rules.proofs.Nodes.{NodeAt, here, below, node_at, at_bytes}
+use Rattle.rules.proofs.TermCode.{term_shape, term_code, term_prefix, term_operands, term_head, term_head_length}
+use Rattle.rules.proofs.TermCode.{term_encode_is}
+use Rattle.rules.proofs.Scripts.{term_encode}
 use Rattle.promises.specs.Noninterference.{ScriptsAtPlace, SamePlaceOf}
 use Rattle.std.proofs.lemmas.Grind.{common_steps}
 
@@ -244,10 +250,16 @@ module _ (a b w w' : Bytes) (whole_a : encode (term a) ≡ a) (whole_b : encode 
 
     inside : at < size (term w)
     inside =
-        let w_length = encode_length term_code (term w) in
-        let a_length = encode_length term_code (term a) in
-        let some = size_positive term_code (term a) in
-        omega (arith, lengths, at_is, ap length whole_w, ap length whole_a)
+        omega (
+          arith,
+          lengths,
+          at_is,
+          encode_length term_code (term w),
+          ap length whole_w,
+          encode_length term_code (term a),
+          ap length whole_a,
+          size_positive term_code (term a),
+        )
 
     there : PlaceOfNode (term w) at (term a)
     there = found_at (term w) at (term a) S.after inside from_a
@@ -259,7 +271,9 @@ module _ (a b w w' : Bytes) (whole_a : encode (term a) ≡ a) (whole_b : encode 
     ends_so = (begin_alike a a there.bytes.after S.after refl begins.1).1
 
     second_is : w' ≡ encode (put there.place (term b))
-    second_is = search (rules, begins, ends_so, there)
+    second_is =
+        S.second ∙ ap₂ (λ x y. x ++ (b ++ y)) (sym begins.0) (sym ends_so) ∙ ap (λ x. there.bytes.before ++ (x ++ there.bytes.after)) (sym whole_b)
+        ∙ sym (there.bytes.is (term b))
 
     pub of_terms : SamePlaceOf (term a) (term b) (term w) (term w')
     of_terms = record { place = there.place; first = there.is; second = ap term second_is ∙ term_encode (put there.place (term b)) }

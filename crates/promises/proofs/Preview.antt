@@ -1,8 +1,10 @@
 -- A preview, and the move that takes it back.
 use Rattle.std.proofs.Common.{◌≡◌, ap, cond, ◌↔◌, ℕ, ◌+◌, min, nat_eq, length, arith}
-use Rattle.rules.specs.Prelude.{Bytes, Answer, accepted, refused, ◌>>=◌, ◌>>◌, records, End, end_number, end_count}
-use Rattle.rules.specs.Prelude.{step_call, written_after, Preview, q35, preview_call, move_call, largest_steps}
-use Rattle.rules.specs.Prelude.{moved_steps}
+use Rattle.rules.specs.Answer.{Bytes, Answer, accepted, refused, ◌>>=◌, ◌>>◌}
+use Rattle.rules.specs.Script.{records}
+use Rattle.rules.specs.Step.{End, end_number, end_count}
+use Rattle.rules.specs.Calls.{step_call, written_after}
+use Rattle.rules.specs.Preview.{Preview, q35, preview_call, move_call, largest_steps, steps_with, moved_steps}
 use Rattle.promises.specs.Preview.{PreviewThenMove}
 
 -- the end and the count of the preview of a step that answers m, where the script has `own` records, and the move's

@@ -1,18 +1,35 @@
 -- A script in the profile has no recursion, so it comes to a value, and a run that meets no limit ends there.
-use Rattle.std.proofs.Common.{rules}
 use Rattle.std.proofs.Common.{◌≡◌, refl, sym, ap, ◌∙◌, Bool, true, false, not, ◌↔◌, [], ◌∷◌, ℕ, suc, zero, ◌≤◌, ◌<◌}
-use Rattle.std.proofs.Common.{min, arith, eq-eqb}
+use Rattle.std.proofs.Common.{min, arith, eqb-true, eq-eqb, le-leb, nat_eq}
 use Rattle.std.proofs.Math.Bool.{false≢true}
-use Rattle.rules.specs.Prelude.{Security, Ty, Term, var, unit, lam, pair, inj, app, proj, case, protect, mu, literal}
-use Rattle.rules.specs.Prelude.{reckon, is_value, Runs, runs_end, runs_on, Bytes, Octets, Answer, accepted, ◌>>◌}
-use Rattle.rules.specs.Prelude.{script_width, work_length, answer_length, properties_of, type_at, encode, records, kind}
-use Rattle.rules.specs.Prelude.{term, typing, exceeds, step_in, Ran, one_step_more, run, q1, script_check, check_call}
-use Rattle.rules.specs.Prelude.{run_call, Accepted, ok39, q39, profile_checking, AcceptedInProfile}
-use Rattle.rules.proofs.Prelude.{properties_laws, reduces_step, value_step, and_then, each_all, each_accepted}
-use Rattle.rules.proofs.Prelude.{record_at, Every, every_here, every_below, term_shape, term_head, kind_is}
-use Rattle.rules.proofs.Prelude.{asked_of_nodes}
+use Rattle.calculus.specs.Security.{Security}
+use Rattle.calculus.specs.Types.{Ty}
+use Rattle.calculus.specs.Terms.{Term, var, unit, lam, pair, inj, app, proj, case, protect, mu, literal, reckon}
+use Rattle.calculus.specs.Terms.{is_value}
+use Rattle.calculus.specs.Runs.{Runs, runs_end, runs_on}
+use Rattle.calculus.proofs.Properties.{properties_laws}
+use Rattle.calculus.proofs.Reduction.{reduces_step}
+use Rattle.calculus.proofs.Values.{value_step}
 use Rattle.termination.specs.Profile.{recursion_free}
 use Rattle.termination.proofs.Termination.{termination}
+use Rattle.rules.specs.Answer.{Bytes, Octets, Answer, accepted, ◌>>◌}
+use Rattle.rules.specs.Limits.{script_width, work_length, answer_length}
+use Rattle.rules.specs.Groups.{properties_of}
+use Rattle.rules.specs.Types.{type_at}
+use Rattle.rules.specs.Script.{encode, records, kind, term}
+use Rattle.rules.specs.Typing.{typing}
+use Rattle.rules.specs.Step.{exceeds, step_in}
+use Rattle.rules.specs.Run.{Ran, one_step_more, run}
+use Rattle.rules.specs.Calls.{q1, script_check, check_call, run_call}
+use Rattle.rules.specs.Reach.{Accepted}
+use Rattle.rules.specs.Profile.{ok39, q39, profile_checking, AcceptedInProfile}
+use Rattle.rules.proofs.Asked.{and_then}
+use Rattle.rules.proofs.Search.{each_all, each_accepted}
+use Rattle.rules.proofs.Prefix.{record_at}
+use Rattle.rules.proofs.Nodes.{Every, every_here, every_below}
+use Rattle.rules.proofs.TermCode.{term_shape, term_head}
+use Rattle.rules.proofs.RecordFields.{kind_is}
+use Rattle.rules.proofs.NodeQuestions.{asked_of_nodes}
 use Rattle.promises.specs.Profile.{Finishes, InProfile}
 use Rattle.promises.proofs.Answers.{accepted_inj, go_on, and_true}
 use Rattle.promises.proofs.Checked.{script_passed}
@@ -92,7 +109,9 @@ module _ (g t s : Bytes) (octets_g : Octets g) (octets_s : Octets s) where
 
   pub in_profile : (type : Ty) → Accepted g t s type → q39 s ≡ accepted tt → AcceptedInProfile g t s type
   unfolding check_call profile_checking
-  in_profile type a f = search (rules, and_then, go_on)
+  in_profile type a f =
+      let p = and_then (script_check [] g t s) _ a in
+      go_on p.0 (go_on f p.1)
 
   admits : (type : Ty) → AcceptedInProfile g t s type ↔ (Accepted g t s type × ((i : ℕ) → i < records s → kind s i ≡ 11 → ⊥))
   admits type = (

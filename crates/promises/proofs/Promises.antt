@@ -1,5 +1,4 @@
 -- What every call answers, what is accepted, how accepted scripts run, and what holds of page scripts, moves and packets, of all bytes.
-use Rattle.std.proofs.Common.{rules}
 use Rattle.promises.specs.Promises.{CallsAnswer, Acceptance, AcceptedRuns}
 use Rattle.promises.specs.Profile.{PageScripts}
 use Rattle.promises.specs.Preview.{PreviewedMoves}
@@ -33,4 +32,5 @@ previewed_moves = preview_then_move
 
 pub packets_by_hand : PacketsByHand
 unfolding PacketsByHand
-packets_by_hand g t script entry group budget profile work first scratch room G O E = search (rules, packet_by_hand)
+packets_by_hand g t script entry group budget profile work first scratch room G O E =
+    packet_by_hand g t script entry group budget profile work first scratch room G O E

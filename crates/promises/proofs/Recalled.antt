@@ -1,14 +1,17 @@
 -- A script and the same with other bytes 1 in its recursions get the same answers to questions 13 to 19, where those
 -- bytes are groups: no other question looks at them.
-use Rattle.std.proofs.Common.{rules}
-use Rattle.std.proofs.Common.{ap₂, ◌≡◌, refl, sym, ap, ◌∙◌, Bool, true, false, ◌&&◌, List, ℕ, ◌+◌, ◌*◌, ◌-◌, ◌/◌, ◌<◌}
-use Rattle.std.proofs.Common.{arith}
+use Rattle.std.proofs.Common.{ap₂, ◌≡◌, refl, sym, ap, ◌∙◌, Bool, true, false, ◌&&◌, List, ℕ, ◌+◌, ◌*◌, ◌-◌, ◌/◌, ◌<◌, arith}
 use Rattle.std.proofs.Common.{eqb-true, nat_eq, nat_le, nat_lt, length}
-use Rattle.rules.specs.Prelude.{Labels, relabel, Bytes, byte, accepted, each, ◌⇒◌, script_width, rows, leq, end_after}
-use Rattle.rules.specs.Prelude.{records, kind, r, ir, zero_byte, number, c, ic, signature_of, is_object, arity, term}
-use Rattle.rules.specs.Prelude.{term_end, exactly, ok14, ok15, ok36_object, ok16, ok19, q13, q14, q15, q36_objects, q16}
-use Rattle.rules.specs.Prelude.{ok18, q17, q18, q19, depths, form_check}
-use Rattle.rules.proofs.Prelude.{each_same}
+use Rattle.calculus.specs.Relabelling.{Labels, relabel}
+use Rattle.rules.specs.Answer.{Bytes, byte, accepted, each, ◌⇒◌}
+use Rattle.rules.specs.Limits.{script_width}
+use Rattle.rules.specs.Groups.{rows, leq}
+use Rattle.rules.specs.Types.{end_after}
+use Rattle.rules.specs.Script.{records, kind, r, ir, zero_byte, number, c, ic, signature_of, is_object, arity, term}
+use Rattle.rules.specs.Script.{term_end, exactly, ok14, ok15, ok36_object, ok16, ok19, q13, q14, q15, q36_objects, q16}
+use Rattle.rules.specs.Script.{ok18, q17, q18, q19, depths, binders}
+use Rattle.rules.specs.Calls.{form_check}
+use Rattle.rules.proofs.Search.{each_same}
 use Rattle.promises.proofs.Answers.{then_same}
 use Rattle.promises.proofs.RelabelledBytes.{relabel_depths, relabel_binders}
 
@@ -81,7 +84,9 @@ module _ {old new : Bytes} (x : Recalled old new) where
     ok19_same bs i = rw (kind_same i, number_same i)
 
     pub q19_same : q19 new ≡ q19 old
-    q19_same = search (rules, count, relabel_binders, each_same, ok19_same)
+    q19_same =
+        ap₂ (λ (n : ℕ) (bs : List ℕ). each 19 n (ok19 bs new)) count (ap binders e ∙ relabel_binders R 0 (term old))
+        ∙ each_same 19 (records old) _ _ (λ i l. ok19_same (binders (term old)) i)
 
   -- 14 to 18, where 15 is answered alike and the script, once it is one term, is read so
   pub form_same : (g t : Bytes) (R : Labels) → q15 g new ≡ q15 g old → (q14 old ≡ accepted tt → q17 old ≡ accepted tt → term new ≡ relabel R (term old))

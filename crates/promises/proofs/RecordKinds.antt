@@ -1,11 +1,17 @@
 -- The kinds of a term's records, and the numbers of its literals, are those of its bytes, record by record.
 use Rattle.std.proofs.Common.{◌≡◌, refl, ap, ap₂, sym, subst, ◌∙◌, cond, ◌↔◌, List, [], ◌∷◌, ◌++◌, append_assoc, ℕ}
 use Rattle.std.proofs.Common.{zero, suc, ◌+◌, ◌*◌, ◌<◌, arith, eq-eqb, nat_eq, length, drop}
-use Rattle.rules.specs.Prelude.{Term, Bytes, script_width, encode, size, records, kind, number}
+use Rattle.calculus.specs.Terms.{Term}
 use Rattle.noninterference.specs.Places.{Shown, shown_literal}
 use Rattle.noninterference.specs.Places as places
-use Rattle.rules.proofs.Prelude.{All, joined, total, after_head, past_tree, record_is, alone, term_shape, term_code}
-use Rattle.rules.proofs.Prelude.{term_operands, term_head, term_size_is, kind_is, number_is, records_encode}
+use Rattle.rules.specs.Answer.{Bytes}
+use Rattle.rules.specs.Limits.{script_width}
+use Rattle.rules.specs.Script.{encode, size, records, kind, number}
+use Rattle.rules.proofs.Prefix.{All, joined, total}
+use Rattle.rules.proofs.PrefixLaws.{after_head, past_tree, record_is, alone}
+use Rattle.rules.proofs.TermCode.{term_shape, term_code, term_operands, term_head, term_size_is}
+use Rattle.rules.proofs.RecordFields.{kind_is, number_is}
+use Rattle.rules.proofs.Scripts.{records_encode}
 use Rattle.promises.specs.Noninterference.{SameRecords}
 use Rattle.std.proofs.lemmas.Grind.{common_steps}
 

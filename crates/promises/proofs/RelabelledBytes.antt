@@ -1,11 +1,13 @@
 -- A relabelled term: its records, its depth and its bytes. Where a change of bytes goes record by record, it is a
 -- relabelling of what they encode.
-use Rattle.std.proofs.Common.{◌≡◌, refl, sym, ap, ◌∙◌, List, [], ◌∷◌, ◌++◌, append_assoc, append-nil, map, ℕ, suc, ◌+◌}
-use Rattle.std.proofs.Common.{arith}
-use Rattle.rules.specs.Prelude.{Term, var, unit, lam, pair, inj, app, proj, case, protect, mu, literal, reckon, Labels}
-use Rattle.rules.specs.Prelude.{relabel, Bytes, encode, size, weight, depth, depths_from, binders_from}
-use Rattle.rules.proofs.Prelude.{All, joined, term_operands, term_head, term_induction, term_encode_is, term_shape}
-use Rattle.rules.proofs.Prelude.{Every, every_here, every_below}
+use Rattle.std.proofs.Common.{◌≡◌, refl, sym, ap, ◌∙◌, List, [], ◌∷◌, ◌++◌, append_assoc, append-nil, map, ℕ, suc, ◌+◌, arith}
+use Rattle.calculus.specs.Terms.{Term, var, unit, lam, pair, inj, app, proj, case, protect, mu, literal, reckon}
+use Rattle.calculus.specs.Relabelling.{Labels, relabel}
+use Rattle.rules.specs.Answer.{Bytes}
+use Rattle.rules.specs.Script.{encode, size, weight, depth, depths_from, binders_from}
+use Rattle.rules.proofs.Prefix.{All, joined}
+use Rattle.rules.proofs.TermCode.{term_operands, term_head, term_induction, term_encode_is, term_shape}
+use Rattle.rules.proofs.Nodes.{Every, every_here, every_below}
 
 pub relabel_size : (R : Labels) (e : Term) → size (relabel R e) ≡ size e
 unfolding size relabel

@@ -1,18 +1,29 @@
 -- A relabelled term is typed and run as it was where the rules agree, numbers and places of refusals and the limits of
 -- a run included.
 use Rattle.std.proofs.Common.{◌≡◌, refl, sym, ap, ap₂, ◌∙◌, Bool, true, false, cond, List, [], ◌∷◌, map, ℕ, suc, zero}
-use Rattle.std.proofs.Common.{◌+◌, get_or, arith, rules}
+use Rattle.std.proofs.Common.{◌+◌, get_or, arith}
 use Rattle.std.proofs.Math.Option.{none, some, Option}
-use Rattle.rules.specs.Prelude.{Property, Reader, Security, one, Former, sum, function, Ty, leaf, node, top, raise_t}
-use Rattle.rules.specs.Prelude.{below, nearest_type, finds_own, Side, first, second, choose, Operation, Term, var, unit}
-use Rattle.rules.specs.Prelude.{lam, pair, inj, app, proj, case, protect, mu, literal, reckon, of_both, Outcome, step}
-use Rattle.rules.specs.Prelude.{Labels, relabel_t, relabel, Answer, accepted, refused, ◌>>=◌, ◌>>◌, ask, no_type, size}
-use Rattle.rules.specs.Prelude.{has_form, is_number, left, right, q20, q20_number, q21, q22, q23, q24, q22_of_branch}
-use Rattle.rules.specs.Prelude.{found_or, branch_type, number_result, typing, End, at_value, moves, may_not, wrong_kind}
-use Rattle.rules.specs.Prelude.{too_big, exceeds, end_of_outcome, end_number, step_in, Ran, run}
-use Rattle.rules.proofs.Prelude.{relabel_top, relabel_value, Agrees, relabel_size_t, relabel_found, relabel_subtype}
-use Rattle.rules.proofs.Prelude.{relabel_raise_t, relabel_common, agreed_step, relabel_o}
-use Rattle.promises.proofs.Courses.{Course, budget_spent, step_ended, step_moved, course, run_is}
+use Rattle.calculus.specs.Security.{Property, Reader, Security}
+use Rattle.calculus.specs.Types.{one, Former, sum, product, function, Ty, leaf, node, top, raise_t}
+use Rattle.calculus.specs.Subtyping.{below}
+use Rattle.calculus.specs.Common.{nearest_type}
+use Rattle.calculus.specs.Typing.{finds_own}
+use Rattle.calculus.specs.Terms.{Side, first, second, choose, Operation, Term, var, unit, lam, pair, inj, app, proj}
+use Rattle.calculus.specs.Terms.{case, protect, mu, literal, reckon}
+use Rattle.calculus.specs.Numbers.{of_both}
+use Rattle.calculus.specs.Reduction.{Outcome, value, moved, denied, stuck, step}
+use Rattle.calculus.specs.Relabelling.{Labels, relabel_t, relabel}
+use Rattle.calculus.proofs.RelabelledTerms.{relabel_top, relabel_value}
+use Rattle.calculus.proofs.RelabelledTypes.{Agrees, relabel_size_t, relabel_found, relabel_subtype, relabel_raise_t}
+use Rattle.calculus.proofs.RelabelledTypes.{relabel_common, agreed_step}
+use Rattle.calculus.proofs.RelabelledOutcomes.{relabel_o}
+use Rattle.rules.specs.Answer.{Answer, accepted, refused, ◌>>=◌, ◌>>◌, ask}
+use Rattle.rules.specs.Types.{no_type}
+use Rattle.rules.specs.Script.{size}
+use Rattle.rules.specs.Typing.{has_form, is_number, left, right, q20, q20_number, q21, q22, q23, q24, q22_of_branch}
+use Rattle.rules.specs.Typing.{found_or, branch_type, number_result, typing}
+use Rattle.rules.specs.Step.{End, at_value, moves, may_not, wrong_kind, too_big, exceeds, end_of_outcome, step_in}
+use Rattle.rules.specs.Run.{Ran, one_step_more, run}
 use Rattle.promises.proofs.RelabelledBytes.{relabel_size, relabel_depth}
 
 -- the relabelled type, or the same question and place
@@ -29,28 +40,6 @@ relabel_end R too_big = too_big
 
 abbrev pub relabel_ran : Labels → Ran → Ran
 relabel_ran R x = record { end = x.end; steps = x.steps; last = relabel R x.last }
-
-relabel_exceeds : (R : Labels) (room : ℕ) (e : Term) → exceeds room (relabel R e) ≡ exceeds room e
-unfolding exceeds
-relabel_exceeds R room e = rw (relabel_size R e, relabel_depth R e)
-
-pub relabel_limited : (R : Labels) (room : ℕ) (o : Outcome) → end_of_outcome room (relabel_o R o) ≡ relabel_end R (end_of_outcome room o)
-relabel_limited R room o = grind (arith, relabel_exceeds, relabel_end)
-
-relabel_number_of : (R : Labels) (x : End) → end_number (relabel_end R x) ≡ end_number x
-relabel_number_of R x = grind arith
-
--- Runs of relabelled terms, where each step from a term with P is the relabelled one.
-module _ (S S' : Security) (tab tab' : ℕ → Ty) (R : Labels) (room : ℕ) (P : Term → Type 0)
-    (kept : (e e' : Term) → P e → step_in S tab room e ≡ moves e' → P e')
-    (same : (e : Term) → P e → step_in S' tab' room (relabel R e) ≡ relabel_end R (step_in S tab room e)) where
-  relabelled : {budget : ℕ} {e : Term} {x : Ran} → P e → Course S tab room budget e x → Course S' tab' room budget (relabel R e) (relabel_ran R x)
-  relabelled p (budget_spent v) = budget_spent (relabel_value R _ ∙ v)
-  relabelled p (step_ended {x = x} h k n) = step_ended (same _ p ∙ ap (relabel_end R) h) (relabel_number_of R x ∙ k) n
-  relabelled p (step_moved h r) = step_moved (same _ p ∙ ap (relabel_end R) h) (relabelled (kept _ _ p h) r)
-
-  pub relabelled_run : (budget : ℕ) (e : Term) → P e → run S' tab' room budget (relabel R e) ≡ relabel_ran R (run S tab room budget e)
-  relabelled_run budget e p = run_is (relabelled p (course S tab room budget e))
 
 -- a type that is found, and what is then answered
 after_type : (R : Labels) (x y : Answer Ty) (f f' : Ty → Answer Ty) → y ≡ relabel_a R x → ((t : Ty) → f' (relabel_t R t) ≡ relabel_a R (f t))
@@ -157,15 +146,6 @@ module _ {R : Labels} {S S' : Security} {tab : ℕ → Ty} (agrees : Agrees R S 
   sized : (p : ℕ) (s s' : Ty) → s' ≡ relabel_t R s → ◌>>◌ (q24 p s') (accepted s') ≡ relabel_a R (◌>>◌ (q24 p s) (accepted s))
   sized p s s' e = grind (arith, after_question, same_24)
 
-  found_same : (s s' : Ty) → s' ≡ relabel_t R s → accepted s' ≡ relabel_a R (accepted s)
-  found_same s s' e = ap accepted e
-
-  ruleset questions = (after_question, same_20, same_20_number, same_21, same_22)
-
-  ruleset types = (after_type, found_same, relabel_raise_t, relabel_raised, relabel_left, relabel_right, relabel_side)
-
-  ruleset alike = (questions, types, relabel_both, relabel_result, sized)
-
   pub relabel_typing : (Γ : List Ty) (p : ℕ) (e : Term) → typing S' tab (map (relabel_t R) Γ) p (relabel R e) ≡ relabel_a R (typing S tab Γ p e)
   unfolding typing relabel relabel_t
   relabel_typing Γ p (var n) = ap accepted (relabel_nearest Γ n)
@@ -175,7 +155,10 @@ module _ {R : Labels} {S S' : Security} {tab : ℕ → Ty} (agrees : Agrees R S 
       (under (tab i) Γ (1 + p) e (sym (fixed i)) (relabel_typing (tab i ∷ Γ) (1 + p) e)) λ t.
       sized p (node function k (tab i) t) _ (ap (λ (s : Ty). node function (R.property k) s (relabel_t R t)) (sym (fixed i)))
   relabel_typing Γ p (pair k a b) =
-      rw (relabel_size R a) (search (rules, alike, relabel_typing Γ (1 + p) a, relabel_typing Γ (1 + p + size a) b) depth 30)
+      rw (relabel_size R a)
+      (after_type R (typing S tab Γ (1 + p) a) _ _ _ (relabel_typing Γ (1 + p) a) λ s.
+      after_type R (typing S tab Γ (1 + p + size a) b) _ _ _ (relabel_typing Γ (1 + p + size a) b) λ t.
+      sized p (node product k s t) _ refl)
   relabel_typing Γ p (inj d k i e) =
       after_type R (typing S tab Γ (1 + p) e) _ _ _ (relabel_typing Γ (1 + p) e) λ t.
       let wanted = choose d (left (tab i)) (right (tab i)) in
@@ -183,9 +166,19 @@ module _ {R : Labels} {S S' : Security} {tab : ℕ → Ty} (agrees : Agrees R S 
       (ap (q22 S' p (relabel_t R t)) (sym (fixed_side d i)) ∙ same_22 p t wanted)
       (ap₂ (λ (a b : Ty). accepted (node sum (R.property k) a b)) (sym (fixed_side first i)) (sym (fixed_side second i)))
   relabel_typing Γ p (app w f a) =
-      rw (relabel_size R f) (search (rules, alike, relabel_typing Γ (1 + p) f, relabel_typing Γ (1 + p + size f) a) depth 30)
+      rw (relabel_size R f)
+      (after_type R (typing S tab Γ (1 + p) f) _ _ _ (relabel_typing Γ (1 + p) f) λ s.
+      after_question R (q20 p function s) _ _ _ (same_20 p function s)
+      (after_question R (q21 S p s w) _ _ _ (same_21 p s w)
+      (after_type R (typing S tab Γ (1 + p + size f) a) _ _ _ (relabel_typing Γ (1 + p + size f) a) λ t.
+      after_question R (q22 S p t (left s)) _ (accepted (raise_t S (right s) (S.influence (top s) w))) _
+      (ap (q22 S' p (relabel_t R t)) (relabel_left s) ∙ same_22 p t (left s))
+      (ap accepted (relabel_raised s (right s) (right (relabel_t R s)) w (relabel_right s))))))
   relabel_typing Γ p (proj d w e) =
-      search (rules, alike, relabel_typing Γ (1 + p) e) depth 30
+      after_type R (typing S tab Γ (1 + p) e) _ _ _ (relabel_typing Γ (1 + p) e) λ s.
+      after_question R (q20 p product s) _ _ _ (same_20 p product s)
+      (after_question R (q21 S p s w) _ (accepted (raise_t S (choose d (left s) (right s)) (S.influence (top s) w))) _ (same_21 p s w)
+      (ap accepted (relabel_raised s (choose d (left s) (right s)) (choose d (left (relabel_t R s)) (right (relabel_t R s))) w (relabel_side d s))))
   relabel_typing Γ p (case w i e a b) =
       rw (relabel_size R e, relabel_size R a)
       (after_type R (typing S tab Γ (1 + p) e) _ _ _ (relabel_typing Γ (1 + p) e) λ s.
@@ -200,7 +193,8 @@ module _ {R : Labels} {S S' : Security} {tab : ℕ → Ty} (agrees : Agrees R S 
       (after_type R (branch_type S p tab i t u) _ _ _ (relabel_branches p i t u) λ r.
       ap accepted (relabel_raised s r (relabel_t R r) w refl))))))
   relabel_typing Γ p (protect m e) =
-      search (rules, alike, relabel_typing Γ (1 + p) e) depth 30
+      after_type R (typing S tab Γ (1 + p) e) _ _ _ (relabel_typing Γ (1 + p) e) λ t.
+      ap accepted (relabel_raise_t agrees t m)
   relabel_typing Γ p (mu w i e) =
       rw (relabel_called i w)
       (after_question R (q21 S p (tab i) (S.caller (top (tab i)) w)) _ _ _ (fixed_21 p i (S.caller (top (tab i)) w))
@@ -209,13 +203,40 @@ module _ {R : Labels} {S S' : Security} {tab : ℕ → Ty} (agrees : Agrees R S 
       after_question R (q22 S p t (tab i)) _ (accepted (tab i)) _ (fixed_22 p i t) (ap accepted (sym (fixed i))))))
   relabel_typing Γ p (literal k n) = refl
   relabel_typing Γ p (reckon o w a b) =
-      rw (relabel_size R a) (search (rules, alike, relabel_typing Γ (1 + p) a, relabel_typing Γ (1 + p + size a) b) depth 30)
+      rw (relabel_size R a)
+      (after_type R (typing S tab Γ (1 + p) a) _ _ _ (relabel_typing Γ (1 + p) a) λ s.
+      after_question R (q20_number p s) _ _ _ (same_20_number p s)
+      (after_question R (q21 S p s w) _ _ _ (same_21 p s w)
+      (after_type R (typing S tab Γ (1 + p + size a) b) _ _ _ (relabel_typing Γ (1 + p + size a) b) λ t.
+      after_question R (q20_number p t) _ _ _ (same_20_number p t)
+      (after_question R (q21 S p t w) _ (accepted (number_result tab o (of_both S w (top s) (top t)))) _ (same_21 p t w)
+      (ap accepted (relabel_result o (of_both S w (top s) (top t)) _ (relabel_both w s t)))))))
+
+  relabel_exceeds : (room : ℕ) (e : Term) → exceeds room (relabel R e) ≡ exceeds room e
+  unfolding exceeds
+  relabel_exceeds room e = rw (relabel_size R e, relabel_depth R e)
+
+  relabel_limited : (room : ℕ) (o : Outcome) → end_of_outcome room (relabel_o R o) ≡ relabel_end R (end_of_outcome room o)
+  relabel_limited room o = grind (arith, relabel_exceeds, relabel_end)
 
   -- the same end, and the relabelled term where it moved
   pub relabel_step_in : (room : ℕ) (e : Term) → step_in S' tab room (relabel R e) ≡ relabel_end R (step_in S tab room e)
   unfolding step_in
-  relabel_step_in room e = ap (end_of_outcome room) (agreed_step agrees tab (λ i. sym (fixed i)) e) ∙ relabel_limited R room (step S tab e)
+  relabel_step_in room e = ap (end_of_outcome room) (agreed_step agrees tab (λ i. sym (fixed i)) e) ∙ relabel_limited room (step S tab e)
 
   -- the same end after as many steps, and the relabelled last term
   pub relabel_run : (room budget : ℕ) (e : Term) → run S' tab room budget (relabel R e) ≡ relabel_ran R (run S tab room budget e)
-  relabel_run room budget e = relabelled_run S S' tab tab R room (λ e. Unit {0}) (λ e e' p h. tt) (λ e p. relabel_step_in room e) budget e tt
+  unfolding run
+  relabel_run room zero e = rw (relabel_value R e)
+  relabel_run room (suc budget) e = go (step_in S tab room e) refl (λ e'. relabel_run room budget e')
+    where
+      same : (x : End) → step_in S tab room e ≡ x → step_in S' tab room (relabel R e) ≡ relabel_end R x
+      same x h = relabel_step_in room e ∙ ap (relabel_end R) h
+
+      go : (x : End) → step_in S tab room e ≡ x → ((e' : Term) → run S' tab room budget (relabel R e') ≡ relabel_ran R (run S tab room budget e'))
+          → run S' tab room (suc budget) (relabel R e) ≡ relabel_ran R (run S tab room (suc budget) e)
+      go at_value h ih = rw (same at_value h, h, run)
+      go (moves e') h ih = rw (same (moves e') h, h, run) (ap one_step_more (ih e'))
+      go may_not h ih = rw (same may_not h, h, run)
+      go wrong_kind h ih = rw (same wrong_kind h, h, run)
+      go too_big h ih = rw (same too_big h, h, run)

@@ -1,11 +1,16 @@
 -- The terms after 0, 1, 2, .. steps of a run: the terms that it reaches.
 use Rattle.std.proofs.Common.{◌≡◌, refl, sym, subst, ap, ◌∙◌, ◌↔◌, ℕ, suc, zero, ◌≤◌, ◌<◌, arith}
-use Rattle.rules.specs.Prelude.{Term, Bytes, accepted, properties_of, type_at, encode, moves, end_number, step_in, Ran}
-use Rattle.rules.specs.Prelude.{ends, one_step_more, run, types_check}
+use Rattle.calculus.specs.Terms.{Term}
+use Rattle.rules.specs.Answer.{Bytes, accepted}
+use Rattle.rules.specs.Groups.{properties_of}
+use Rattle.rules.specs.Types.{type_at}
+use Rattle.rules.specs.Script.{encode}
+use Rattle.rules.specs.Step.{End, at_value, moves, may_not, wrong_kind, too_big, end_number, step_in}
+use Rattle.rules.specs.Run.{Ran, ends, one_step_more, run}
+use Rattle.rules.specs.Calls.{types_check}
 use Rattle.promises.specs.Runs.{MovesTo, moved_to, Reaches, the_script, after_step}
 use Rattle.promises.proofs.Tables.{Tables}
 use Rattle.promises.proofs.Checked.{Fit}
-use Rattle.promises.proofs.Courses.{Course, budget_spent, step_ended, step_moved, course}
 use Rattle.promises.proofs.Steps.{moves_inj, fit_steps, fit_step_is, fit_moves}
 
 pub record RunTerms (g t : Bytes) (room budget : ℕ) (s : Bytes) (x : Ran) : Type 0 where
@@ -70,11 +75,19 @@ module _ (g t : Bytes) (types : types_check g t ≡ accepted tt) (X : Tables g t
           let w = (T.reaches u).0 (subst (λ (b : Term). Reaches g t room budget (encode b) u) same r) in
           (suc w.0, omega (arith, w.1), w.2)
 
-  along : {budget : ℕ} {e : Term} {x : Ran} → Fit g t e → Course (properties_of g) (type_at t) room budget e x → Of budget e x
-  along {e = e} F (budget_spent v) = stays 0 _ e (λ u r. no_budget r)
-  along {e = e} F (step_ended h k n) =
-      stays _ _ e (λ u r. no_move e refl F (λ e' m. n (sym k ∙ ap end_number (sym h ∙ m))) r)
-  along {e = e} F (step_moved {e' = e'} {x = x} h r) = moved_on _ e e' x F h (along (fit_moves g t types X room e e' F h) r)
-
   pub run_terms : (budget : ℕ) (e : Term) → Fit g t e → Of budget e (run (properties_of g) (type_at t) room budget e)
-  run_terms budget e F = along F (course (properties_of g) (type_at t) room budget e)
+  unfolding run
+  run_terms zero e F = stays 0 _ e (λ u r. no_budget r)
+  run_terms (suc budget) e F = go (step_in (properties_of g) (type_at t) room e) refl (λ e' h. run_terms budget e' (fit_moves g t types X room e e' F h))
+    where
+      stopped : (x : End) → step_in (properties_of g) (type_at t) room e ≡ x → (end_number x ≡ 1 → ⊥) → Of (suc budget) e (ends (end_number x) e)
+      stopped x h n = stays (suc budget) (end_number x) e (λ u r. no_move e refl F (λ e' m. n (ap end_number (sym h ∙ m))) r)
+
+      go : (x : End) → step_in (properties_of g) (type_at t) room e ≡ x
+          → ((e' : Term) → step_in (properties_of g) (type_at t) room e ≡ moves e' → Of budget e' (run (properties_of g) (type_at t) room budget e'))
+          → Of (suc budget) e (run (properties_of g) (type_at t) room (suc budget) e)
+      go at_value h ih = rw (h, run) (stopped at_value h (λ x. omega arith))
+      go (moves e') h ih = rw (h, run) (moved_on budget e e' (run (properties_of g) (type_at t) room budget e') F h (ih e' h))
+      go may_not h ih = rw (h, run) (stopped may_not h (λ x. omega arith))
+      go wrong_kind h ih = rw (h, run) (stopped wrong_kind h (λ x. omega arith))
+      go too_big h ih = rw (h, run) (stopped too_big h (λ x. omega arith))

@@ -1,16 +1,23 @@
 -- A step keeps what questions 15, 36, 16 and 19 ask: every term that a run reaches is formed as the script is.
-use Rattle.std.proofs.Common.{rules}
 use Rattle.std.proofs.Common.{◌≡◌, refl, sym, subst, Bool, true, false, cond, ℕ, suc, ◌+◌, ◌<◌, ◌≤◌, min, arith}
 use Rattle.std.proofs.Common.{eqb-true, ltb-true, nat_eq, IsTrue}
 use borrow.Author.Tests.{eqb-false}
-use Rattle.rules.specs.Prelude.{Property, Reader, Indirect, Security, Ty, top, secure_t, Side, choose, Operation, plus}
-use Rattle.rules.specs.Prelude.{less, Term, var, unit, lam, pair, inj, app, proj, case, protect, mu, literal, reckon}
-use Rattle.rules.specs.Prelude.{raise_value, unrolled_function, Contracts, c_app, c_proj, c_case, c_mu, c_reckon}
-use Rattle.rules.specs.Prelude.{c_protect, Context, hole, app_left, app_right, in_proj, in_inj, pair_left, pair_right}
-use Rattle.rules.specs.Prelude.{in_protect, in_case, reckon_left, reckon_right, plug, moved, step, of_both}
-use Rattle.rules.specs.Prelude.{number_limit, side, less_side, reckon_result, Bytes, rows, properties_of, type_at}
+use Rattle.calculus.specs.Security.{Property, Reader, Indirect, Security}
+use Rattle.calculus.specs.Types.{Ty, leaf, node, top, secure_t}
+use Rattle.calculus.specs.Terms.{Side, first, second, choose, Operation, plus, less, Term, var, unit, lam, pair, inj}
+use Rattle.calculus.specs.Terms.{app, proj, case, protect, mu, literal, reckon, raise_value}
 use Rattle.calculus.specs.Terms as terms
-use Rattle.rules.proofs.Prelude.{and_left, and_right, properties_laws, step_reduces, table_parts}
+use Rattle.calculus.specs.Reduction.{unrolled_function, Contracts, c_app, c_proj, c_case, c_mu, c_reckon, c_protect}
+use Rattle.calculus.specs.Reduction.{Context, hole, app_left, app_right, in_proj, in_inj, pair_left, pair_right}
+use Rattle.calculus.specs.Reduction.{in_protect, in_case, reckon_left, reckon_right, plug, moved, step}
+use Rattle.calculus.specs.Numbers.{of_both, number_limit, side, less_side, reckon_result}
+use Rattle.calculus.proofs.Booleans.{and_left, and_right}
+use Rattle.calculus.proofs.Properties.{properties_laws}
+use Rattle.calculus.proofs.Reduction.{step_reduces}
+use Rattle.calculus.proofs.SecureTyping.{table_parts}
+use Rattle.rules.specs.Answer.{Bytes}
+use Rattle.rules.specs.Groups.{rows, properties_of}
+use Rattle.rules.specs.Types.{type_at}
 use Rattle.promises.proofs.Formed.{Secure, SecureI, Formed}
 use Rattle.promises.proofs.Tables.{Tables}
 
@@ -57,7 +64,8 @@ formed_subst g t n v (reckon plus w a b) H F = (F.0, formed_subst g t n v a H F.
 formed_subst g t n v (reckon (less i) w a b) H F = (F.0, F.1, F.2, formed_subst g t n v a H F.3, formed_subst g t n v b H F.4)
 
 formed_choose : (g t : Bytes) (n : ℕ) (d : Side) (a b : Term) → Formed g t n a → Formed g t n b → Formed g t n (choose d a b)
-formed_choose g t n d a b F F' = grind arith
+formed_choose g t n first a b A B = A
+formed_choose g t n second a b A B = B
 
 -- an evaluation context: what stands in it is closed, and another formed term may take its place
 formed_plug : (g t : Bytes) (E : Context) (e : Term) → Formed g t 0 (plug E e) → (Formed g t 0 e) × ((e' : Term) → Formed g t 0 e' → Formed g t 0 (plug E e'))
@@ -94,22 +102,31 @@ module _ {g t : Bytes} (X : Tables g t) where
 
   top_secure : (u : Ty) → IsTrue (secure_t (properties_of g) u) → Secure g (top u)
   unfolding secure_t
-  top_secure u h = search (rules, and_left)
+  top_secure (leaf b k) h = h
+  top_secure (node f k s u) h = and_left _ _ h
 
   module _ {S : Security} (stays : Stays g S) where
     formed_raise : (n : ℕ) (v : Term) (m : Indirect) → SecureI g m → Formed g t n v → Formed g t n (raise_value S v m)
     unfolding Formed raise_value
-    formed_raise n v m h F = grind arith
+    formed_raise n (unit k) m l F = stays.raise k m F l
+    formed_raise n (lam k i e) m l F = (stays.raise k m F.0 l, F.1, F.2)
+    formed_raise n (pair k a b) m l F = (stays.raise k m F.0 l, F.1, F.2)
+    formed_raise n (inj d k i e) m l F = (stays.raise k m F.0 l, F.1, F.2, F.3)
+    formed_raise n (literal k x) m l F = (stays.raise k m F.0 l, F.1)
+    formed_raise n _ m l F = F
 
     both_secure : (k l : Property) (w : Reader) → Secure g k → Secure g l → IsTrue (S.permits k w) → IsTrue (S.permits l w) → Secure g (of_both S w k l)
-    both_secure k l w h h' p p' = grind arith
+    both_secure k l w h h' p p' =
+        stays.raise _ _ (stays.raise _ _ (stays.fresh k w p) (stays.influence k w h p)) (stays.influence l w h' p')
 
     bounded : (m n : ℕ) → min (m + n) number_limit < 65536
     bounded m n = omega arith
 
     side_secure : (d : Side) (u : Ty) → IsTrue (secure_t (properties_of g) u) → Secure g (top (side d u))
     unfolding secure_t
-    side_secure d u h = search (rules, top_secure, and_left, and_right)
+    side_secure d (leaf b k) h = h
+    side_secure first (node f k s u) h = top_secure s (and_left _ _ (and_right ((properties_of g).secure k) _ h))
+    side_secure second (node f k s u) h = top_secure u (and_right (secure_t (properties_of g) s) _ (and_right ((properties_of g).secure k) _ h))
 
     formed_reckoned : (o : Operation) (w : Reader) (k l : Property) (m n : ℕ) → IsTrue (S.permits k w) → IsTrue (S.permits l w)
         → Formed g t 0 (reckon o w (literal k m) (literal l n)) → Formed g t 0 (reckon_result (type_at t) o (of_both S w k l) m n)

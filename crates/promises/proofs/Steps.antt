@@ -1,11 +1,16 @@
 -- One step of bytes is the step of their term, and keeps it within the limits.
-use Rattle.std.proofs.Common.{rules}
-use Rattle.std.proofs.Common.{◌≡◌, ap, true, false, [], ℕ, ◌/◌, ◌≤◌, arith}
-use Rattle.rules.specs.Prelude.{Security, Term, Outcome, value, moved, denied, stuck, Bytes, accepted, script_width}
-use Rattle.rules.specs.Prelude.{script_limit, depth_limit, properties_of, type_at, encode, size, depth, End, at_value}
-use Rattle.rules.specs.Prelude.{moves, may_not, wrong_kind, too_big, exceeds, end_of_outcome, step_in, types_check}
-use Rattle.rules.specs.Prelude.{script_check, step_call}
-use Rattle.rules.proofs.Prelude.{term_encode}
+use Rattle.std.proofs.Common.{◌≡◌, refl, ap, Bool, true, false, cond, ◌||◌, [], ℕ, ◌/◌, ◌≤◌, arith}
+use Rattle.calculus.specs.Security.{Security}
+use Rattle.calculus.specs.Terms.{Term}
+use Rattle.calculus.specs.Reduction.{Outcome, value, moved, denied, stuck, step}
+use Rattle.rules.specs.Answer.{Bytes, accepted}
+use Rattle.rules.specs.Limits.{script_width, script_limit, depth_limit}
+use Rattle.rules.specs.Groups.{properties_of}
+use Rattle.rules.specs.Types.{type_at}
+use Rattle.rules.specs.Script.{encode, size, depth}
+use Rattle.rules.specs.Step.{End, at_value, moves, may_not, wrong_kind, too_big, exceeds, end_of_outcome, step_in}
+use Rattle.rules.specs.Calls.{types_check, script_check, step_call}
+use Rattle.rules.proofs.Scripts.{term_encode}
 use Rattle.promises.proofs.Answers.{accepted_inj}
 use Rattle.promises.proofs.Tables.{Tables}
 use Rattle.promises.proofs.Stepping.{Stays, properties_stay, formed_step}
@@ -30,7 +35,14 @@ pub limited_moves : (room : ℕ) (o : Outcome) (e : Term) → end_of_outcome roo
 limited_moves room o e h = grind arith
 
 pub limited_too_big : (room : ℕ) (o : Outcome) → end_of_outcome room o ≡ too_big → (e : Term) × (o ≡ moved e) × (exceeds room e ≡ true)
-limited_too_big room o h = search (rules, ends_differ)
+limited_too_big room value h = ends_differ at_value too_big (λ x. omega arith) h
+limited_too_big room (moved e') h = go (exceeds room e') refl h
+  where
+    go : (b : Bool) → exceeds room e' ≡ b → cond b too_big (moves e') ≡ too_big → (e : Term) × (moved e' ≡ moved e) × (exceeds room e ≡ true)
+    go true x k = (e', refl, x)
+    go false x k = ends_differ (moves e') too_big (λ x. omega arith) k
+limited_too_big room denied h = ends_differ may_not too_big (λ x. omega arith) h
+limited_too_big room stuck h = ends_differ wrong_kind too_big (λ x. omega arith) h
 
 pub limited_value : (room : ℕ) (o : Outcome) → end_of_outcome room o ≡ at_value → o ≡ value
 limited_value room o h = grind arith
@@ -63,7 +75,10 @@ module _ (g t : Bytes) (types : types_check g t ≡ accepted tt) (X : Tables g t
 
   pub fit_moves_by : {S : Security} → Stays g S → (room : ℕ) (e e' : Term) → Fit g t e → step_in S (type_at t) room e ≡ moves e' → Fit g t e'
   unfolding step_in
-  fit_moves_by {S} stays room e e' F h = search (rules, limited_moves, within_limits, formed_step)
+  fit_moves_by {S} stays room e e' F h =
+      let m = limited_moves room (step S (type_at t) e) e' h in
+      let l = within_limits room e' m.1 in
+      record { formed = formed_step X stays e e' m.0 F.formed; small = l.0; shallow = l.2 }
 
   pub fit_moves : (room : ℕ) (e e' : Term) → Fit g t e → step_in (properties_of g) (type_at t) room e ≡ moves e' → Fit g t e'
   fit_moves = fit_moves_by (properties_stay X)

@@ -1,20 +1,29 @@
 -- A types table that passes, stripped, passes over the one-group table.
-use Rattle.std.proofs.Common.{rules}
-use Rattle.std.proofs.Common.{◌≡◌, refl, ap, ap₂, ◌∙◌, Bool, true, not, ℕ, nat_eq}
+use Rattle.std.proofs.Common.{◌≡◌, refl, ap, ap₂, ◌∙◌, Bool, true, not, ◌&&◌, ℕ, suc, zero, ◌+◌, ◌-◌, ◌/◌, ◌%◌, nat_eq}
 use Rattle.std.proofs.Common.{nat_le, nat_lt, arith}
 use Rattle.std.proofs.Math.Option.{Option}
-use Rattle.rules.specs.Prelude.{Bytes, accepted, each, is_absent, ◌⇒◌, rows, leq, type_count, type_kind, sides}
-use Rattle.rules.specs.Prelude.{end_after, type_end, pending, short, ok9, ok10, ok36_type, ok11, ok12, q8, strip_types}
-use Rattle.rules.specs.Prelude.{one_group, groups_check, types_check}
-use Rattle.rules.proofs.Prelude.{each_all, each_accepted, and_then, strip_length}
+use Rattle.rules.specs.Answer.{Bytes, accepted, ask, each, is_absent, ◌⇒◌}
+use Rattle.rules.specs.Limits.{type_width, table_limit}
+use Rattle.rules.specs.Groups.{rows, leq}
+use Rattle.rules.specs.Types.{type_count, type_kind, sides, end_after, type_end, pending, short, ok9, ok10, ok36_type}
+use Rattle.rules.specs.Types.{ok11, ok12, q8}
+use Rattle.rules.specs.Strip.{strip_types, one_group}
+use Rattle.rules.specs.Calls.{groups_check, types_check}
+use Rattle.rules.proofs.Search.{each_all, each_accepted}
 use Rattle.promises.proofs.Answers.{go_on, and_true}
+use Rattle.rules.proofs.Asked.{and_then}
 use Rattle.promises.proofs.Stripping.{strip_type_count, strip_type_kind, strip_type_r, strip_type_ir, strip_type_zero}
 use Rattle.promises.proofs.Stripping.{strip_type_c, strip_type_ic}
+use Rattle.rules.proofs.Strip.{strip_length}
 
 -- what is read of the kinds alone
 end_after_same : (f h : ℕ → ℕ) → ((i : ℕ) → f i ≡ h i) → (left need i : ℕ) → end_after f left need i ≡ end_after h left need i
 unfolding end_after
-end_after_same f h e left need i = grind arith
+end_after_same f h e zero zero i = refl
+end_after_same f h e zero (suc need) i = refl
+end_after_same f h e (suc left) zero i = refl
+end_after_same f h e (suc left) (suc need) i =
+    end_after_same f h e left (need + f i) (suc i) ∙ ap (λ (n : ℕ). end_after h left (need + n) (suc i)) (e i)
 
 module _ (t : Bytes) where
   sides_same : (i : ℕ) → sides (type_kind (strip_types t) i) ≡ sides (type_kind t i)
@@ -26,7 +35,8 @@ module _ (t : Bytes) where
 
   pending_same : (i : ℕ) → pending (strip_types t) i ≡ pending t i
   unfolding pending
-  pending_same i = search (rules, sides_same)
+  pending_same zero = refl
+  pending_same (suc i) = ap₂ (λ (a b : ℕ). (a - 1) + b) (pending_same i) (sides_same i)
 
   ok11_same : (i : ℕ) → ok11 (strip_types t) i ≡ ok11 t i
   unfolding ok11

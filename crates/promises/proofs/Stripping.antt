@@ -1,11 +1,20 @@
 -- Stripping bytes is erasure of what they encode.
 use Rattle.std.proofs.Common.{◌≡◌, refl, sym, ap, ◌∙◌, Bool, true, false, cond, List, [], ◌∷◌, ◌++◌, map, ℕ, zero, suc}
 use Rattle.std.proofs.Common.{◌+◌, ◌*◌, ◌/◌, ◌%◌, suc-add, add-suc, add-zero, arith, get_or, drop}
-use Rattle.rules.specs.Prelude.{Property, Ty, Term, relabel_t, relabel, Bytes, byte, type_width, script_width}
-use Rattle.rules.specs.Prelude.{type_count, type_kind, type_r, type_ir, type_zero, type_c, type_ic, sides, no_type}
-use Rattle.rules.specs.Prelude.{make_type, parse_types, type_at, encode, size, depth, group_byte, strip_from}
-use Rattle.rules.specs.Prelude.{strip_script, strip_types}
-use Rattle.rules.proofs.Prelude.{public, erasure_labels, erase_t, erase, every_of, term_head, strip_length}
+use Rattle.calculus.specs.Security.{Property}
+use Rattle.calculus.specs.Types.{Ty}
+use Rattle.calculus.specs.Terms.{Term}
+use Rattle.calculus.specs.Relabelling.{relabel_t, relabel}
+use Rattle.calculus.proofs.Erased.{public, erasure_labels, erase_t, erase}
+use Rattle.rules.specs.Answer.{Bytes, byte}
+use Rattle.rules.specs.Limits.{type_width, script_width}
+use Rattle.rules.specs.Types.{type_count, type_kind, type_r, type_ir, type_zero, type_c, type_ic, sides, no_type}
+use Rattle.rules.specs.Types.{make_type, parse_types, type_at}
+use Rattle.rules.specs.Script.{encode, size, depth}
+use Rattle.rules.proofs.Nodes.{every_of}
+use Rattle.rules.proofs.TermCode.{term_head}
+use Rattle.rules.specs.Strip.{group_byte, strip_from, strip_script, strip_types}
+use Rattle.rules.proofs.Strip.{strip_length}
 use Rattle.promises.proofs.RelabelledBytes.{relabel_size, relabel_depth, change_encode}
 
 -- Only the place within a record matters. `next` is what a width has to know of its remainders.

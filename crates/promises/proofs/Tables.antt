@@ -1,8 +1,15 @@
 -- What the questions about two tables give the theory.
 use Rattle.std.proofs.Common.{◌≡◌, ℕ, suc, ◌<◌, IsTrue}
-use Rattle.rules.specs.Prelude.{Lattice, sum, function, Table, Bytes, groups_of, properties_of, type_count, type_kind}
-use Rattle.rules.specs.Prelude.{type_at, sum_of_units, has_form}
-use Rattle.rules.proofs.Prelude.{Standing, UnitSum}
+use Rattle.calculus.specs.Groups.{Lattice}
+use Rattle.calculus.specs.Types.{sum, function}
+use Rattle.calculus.specs.Typing.{Table}
+use Rattle.rules.specs.Answer.{Bytes}
+use Rattle.rules.specs.Groups.{groups_of, properties_of}
+use Rattle.rules.specs.Types.{type_count, type_kind, type_at}
+use Rattle.rules.specs.Script.{sum_of_units}
+use Rattle.rules.specs.Typing.{has_form}
+use Rattle.rules.proofs.TypePlaces.{Standing}
+use Rattle.rules.proofs.UnitSums.{UnitSum}
 
 pub record Tables (g t : Bytes) : Type 0 where
   pub lattice : Lattice (groups_of g)

@@ -1,9 +1,19 @@
 -- Two tables that pass questions 2 to 12 are what the theory needs.
 use Rattle.std.proofs.Common.{◌≡◌, ℕ, suc, ◌<◌, arith, lt-ltb, IsTrue}
-use Rattle.rules.specs.Prelude.{Former, sum, function, size_t, Bytes, Octets, accepted, rows, type_count, type_kind}
-use Rattle.rules.specs.Prelude.{type_at, former_kind, q8, q9, q10, q36_types, q11, has_form, groups_check, types_check}
-use Rattle.rules.proofs.Prelude.{size_positive, type_code, Standing, kind_at, of_kind, Passes, passes, standing}
-use Rattle.rules.proofs.Prelude.{unit_sum, secure_table, and_then, same_refl}
+use Rattle.calculus.specs.Types.{Former, sum, function, size_t}
+use Rattle.rules.specs.Answer.{Bytes, Octets, accepted}
+use Rattle.rules.specs.Groups.{rows}
+use Rattle.rules.specs.Types.{type_count, type_kind, type_at, former_kind, q8, q9, q10, q36_types, q11}
+use Rattle.rules.specs.Typing.{has_form}
+use Rattle.rules.specs.Calls.{groups_check, types_check}
+use Rattle.rules.proofs.PrefixLaws.{size_positive}
+use Rattle.rules.proofs.TypeCode.{type_code}
+use Rattle.rules.proofs.TypePlaces.{Standing, kind_at, of_kind}
+use Rattle.rules.proofs.TypeTables.{Passes, passes, standing}
+use Rattle.rules.proofs.UnitSums.{unit_sum}
+use Rattle.rules.proofs.SecureTables.{secure_table}
+use Rattle.rules.proofs.Asked.{and_then}
+use Rattle.calculus.proofs.Directed.{same_refl}
 use Rattle.promises.proofs.Groups.{lattice, some_rows}
 use Rattle.promises.proofs.Tables.{Tables}
 

@@ -1,16 +1,24 @@
 -- Widened bytes on trees: their types have no creators, and the term of a script whose callers were put in is the
 -- earlier one's, rewritten.
-use Rattle.std.proofs.Common.{rules}
-use Rattle.std.proofs.Common.{◌≡◌, refl, sym, ap, ap₂, ◌∙◌, cond, List, [], ◌∷◌, map, ℕ, zero, suc}
-use Rattle.std.proofs.Common.{◌+◌, ◌*◌, ◌<◌, arith, eqb-true, lt-ltb, ltb-true, nat_lt, get_or, drop}
+use Rattle.std.proofs.Common.{◌≡◌, refl, sym, ap, ap₂, ◌∙◌, Bool, true, false, cond, List, [], ◌∷◌, map, ℕ, zero, suc}
+use Rattle.std.proofs.Common.{◌+◌, ◌*◌, ◌<◌, arith, eqb-true, lt-ltb, ltb-true, nat_eq, nat_lt, get_or, drop}
 use Rattle.std.proofs.Math.Decide.{dec_lt}
 use Rattle.std.proofs.Math.ListN.{get_or-map}
-use Rattle.rules.specs.Prelude.{Property, Reader, Ty, top, Term, Labels, relabel_t, relabel, rewriting_labels, Bytes}
-use Rattle.rules.specs.Prelude.{type_count, type_at, no_type, make_type, parse_types, sides, arity, make, no_term}
-use Rattle.rules.specs.Prelude.{parse, term, old_type_width, old_records, old_kind, old_r, caller, put_callers}
-use Rattle.rules.specs.Prelude.{write_callers, widen_types, widen_script}
-use Rattle.rules.proofs.Prelude.{record_past, callers_first, Standing, r_at, type_at_outside, widen_types_drop}
-use Rattle.rules.proofs.Prelude.{widen_types_byte, widen_types_count, old_type_count, old_type_r}
+use Rattle.calculus.specs.Security.{Property, Reader}
+use Rattle.calculus.specs.Types.{Ty, top}
+use Rattle.calculus.specs.Terms.{Term}
+use Rattle.calculus.specs.Relabelling.{Labels, relabel_t, relabel}
+use Rattle.calculus.specs.Creators.{rewriting_labels}
+use Rattle.rules.specs.Answer.{Bytes}
+use Rattle.rules.specs.Types.{type_count, type_at, no_type, make_type, parse_types, sides}
+use Rattle.rules.specs.Script.{arity, make, no_term, parse, term}
+use Rattle.rules.specs.Limits.{old_type_width}
+use Rattle.rules.specs.Callers.{old_records, old_kind, old_r, caller, put_callers, write_callers}
+use Rattle.rules.specs.Rewriting.{widen_types, widen_script}
+use Rattle.rules.proofs.Callers.{record_past, callers_first}
+use Rattle.rules.proofs.TypePlaces.{Standing, r_at, type_at_outside}
+use Rattle.rules.proofs.Widening.{widen_types_drop, widen_types_byte, widen_types_count}
+use Rattle.rules.proofs.OldTables.{old_type_count, old_type_r}
 
 map_drop : {A B : Type 0} (f : A → B) (n : ℕ) (xs : List A) → drop n (map f xs) ≡ map f (drop n xs)
 map_drop f zero xs = refl
@@ -78,7 +86,11 @@ module _ (called : Property → Reader → Reader) (tab : ℕ → Ty) where
   -- one whose recursions hold 0 in r, with r of their type written
   module _ (t : Bytes) (calls : (n : ℕ) → cond (nat_lt n (old_type_count t)) (old_type_r t n) 0 ≡ called (top (tab n)) 0) where
     put : (k r n : ℕ) → (k ≡ 11 → r ≡ 0) → Put k n r (caller old_type_width t k r n)
-    put k r n h = search (rules, eqb-true)
+    put k r n h = (λ e. rw (e, h e) (calls n), λ ne. other ne (nat_eq k 11) refl)
+      where
+        other : (k ≡ 11 → ⊥) → (b : Bool) → nat_eq k 11 ≡ b → caller old_type_width t k r n ≡ r
+        other ne true e = absurd (ne (eqb-true k 11 e))
+        other ne false e = rw e
 
     later : (a b c d e f : ℕ) (s : Bytes) → Uncalled (a ∷ b ∷ c ∷ d ∷ e ∷ f ∷ s) → Uncalled s
     later a b c d e f s h i l k =

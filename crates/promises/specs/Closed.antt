@@ -2,8 +2,13 @@
 -- of what is closed to it (manual, 7.2 and 11). Nothing is said of how a value came about: steps, ends and lengths of
 -- runs may depend on what is closed.
 use Rattle.std.specs.Prelude.{◌≡◌, true, false, ◌↔◌, [], ℕ}
-use Rattle.rules.specs.Prelude.{Property, Side, Term, unit, lam, pair, inj, literal, is_value, Bytes, accepted, leq}
-use Rattle.rules.specs.Prelude.{term, sheet, script_check, sheet_call}
+use Rattle.calculus.specs.Security.{Property}
+use Rattle.calculus.specs.Terms.{Side, Term, unit, lam, pair, inj, literal, is_value}
+use Rattle.rules.specs.Answer.{Bytes, accepted}
+use Rattle.rules.specs.Groups.{leq}
+use Rattle.rules.specs.Script.{term}
+use Rattle.rules.specs.Sheet.{sheet}
+use Rattle.rules.specs.Calls.{script_check, sheet_call}
 
 -- an object with r ⋢ the group
 pub data Closed (g : Bytes) (group : ℕ) : Term → Type 0 where

@@ -2,8 +2,13 @@
 -- and 11).
 use Rattle.std.specs.Prelude.{◌≡◌, true, ◌↔◌, IsTrue}
 use Rattle.std.proofs.Math.Option.{some}
-use Rattle.rules.specs.Prelude.{Security, Ty, secure_t, size_t, Subtype, Direction, below, above, nearest_type}
-use Rattle.rules.specs.Prelude.{same_shape, Bytes, Octets, accepted, properties_of, groups_check}
+use Rattle.calculus.specs.Security.{Security}
+use Rattle.calculus.specs.Types.{Ty, secure_t, size_t}
+use Rattle.calculus.specs.Subtyping.{Subtype, Direction, below, above}
+use Rattle.calculus.specs.Common.{nearest_type, same_shape}
+use Rattle.rules.specs.Answer.{Bytes, Octets, accepted}
+use Rattle.rules.specs.Groups.{properties_of}
+use Rattle.rules.specs.Calls.{groups_check}
 
 -- at or below, or, of the other direction, at or above
 abbrev pub Toward : Security → Direction → Ty → Ty → Type 0

@@ -1,9 +1,15 @@
 -- What the comparison of two types promises (manual, 3.5 and 11).
 use Rattle.std.specs.Prelude.{◌≡◌, if◌then◌else◌, ◌↔◌, ℕ, ◌<◌, min}
-use Rattle.rules.specs.Prelude.{Property, Security, Leaf, one, Former, sum, product, function, Ty, leaf, node, Subtype}
-use Rattle.rules.specs.Prelude.{Bytes, Octets, accepted, properties_of, type_count, type_at, encode_type, Comparison}
-use Rattle.rules.specs.Prelude.{same, strictly_below, neither, equal_properties, comparison, comparison_number, q22}
-use Rattle.rules.specs.Prelude.{types_check, compare_call}
+use Rattle.calculus.specs.Security.{Property, Security}
+use Rattle.calculus.specs.Types.{Leaf, one, Former, sum, product, function, Ty, leaf, node}
+use Rattle.calculus.specs.Subtyping.{Subtype}
+use Rattle.rules.specs.Answer.{Bytes, Octets, accepted}
+use Rattle.rules.specs.Groups.{properties_of}
+use Rattle.rules.specs.Types.{type_count, type_at, encode_type}
+use Rattle.rules.specs.Comparison.{Comparison, same, strictly_below, neither, equal_properties, comparison}
+use Rattle.rules.specs.Comparison.{comparison_number}
+use Rattle.rules.specs.Typing.{q22}
+use Rattle.rules.specs.Calls.{types_check, compare_call}
 
 -- Two types of a table, in the words of the call.
 pub record Compares (g t : Bytes) (i j : ℕ) : Type 0 where

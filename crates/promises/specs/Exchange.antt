@@ -4,8 +4,14 @@
 use Rattle.std.specs.Prelude.{◌≡◌, Bool, not, ◌&&◌, ◌||◌, ℕ, ◌<◌, nat_eq, nat_le, if◌then◌else◌, IsTrue}
 use Rattle.noninterference.specs.Hidden.{Observer, Alike, Clear}
 use Rattle.noninterference.specs.Observers.{reader_at, who_trusts, exact}
-use Rattle.rules.specs.Prelude.{Groups, Bytes, Octets, Answer, accepted, rows, leq, groups_of, kind, r, ir, ic, encode}
-use Rattle.rules.specs.Prelude.{term, is_object, Ran, sheet, sheet_call, Packet, packet_call}
+use Rattle.calculus.specs.Groups.{Groups}
+use Rattle.rules.specs.Answer.{Bytes, Octets, Answer, accepted}
+use Rattle.rules.specs.Groups.{rows, leq, groups_of}
+use Rattle.rules.specs.Script.{kind, r, ir, ic, encode, term, is_object}
+use Rattle.rules.specs.Run.{Ran}
+use Rattle.rules.specs.Sheet.{sheet}
+use Rattle.rules.specs.Calls.{sheet_call}
+use Rattle.rules.specs.Packet.{Packet, packet_call}
 use Rattle.promises.specs.Closed.{AlikeOutside}
 use Rattle.promises.specs.Noninterference.{ScriptsAtPlace, BothEnd}
 

@@ -2,10 +2,13 @@
 -- end, and any script that no entry names first has none.
 use Rattle.std.specs.Prelude.{◌≡◌, true, if◌then◌else◌, ◌↔◌, List, [], ◌∷◌, ◌++◌, ℕ, zero, suc, ◌≤◌, ◌<◌, nat_eq}
 use Rattle.std.proofs.Math.Option.{Option, none, some}
-use Rattle.rules.specs.Prelude.{Bytes, Octets, accepted, ◌>>◌, ask, no_script, Comparison, script_count, type_of}
-use Rattle.rules.specs.Prelude.{entry_count, entry_first, entry_replaced, q40_lengths, q25_scripts, ok40, ok41, ok42}
-use Rattle.rules.specs.Prelude.{same_or_below, lists_check, script_in_force, in_force, LeadsTo, NamedFirst, InForceFrom}
-use Rattle.rules.specs.Prelude.{compare_call}
+use Rattle.rules.specs.Answer.{Bytes, Octets, accepted, ◌>>◌, ask}
+use Rattle.rules.specs.Limits.{no_script}
+use Rattle.rules.specs.Comparison.{Comparison}
+use Rattle.rules.specs.InForce.{script_count, type_of, entry_count, entry_first, entry_replaced, q40_lengths}
+use Rattle.rules.specs.InForce.{q25_scripts, ok40, ok41, ok42, same_or_below, lists_check, script_in_force, in_force}
+use Rattle.rules.specs.InForce.{LeadsTo, NamedFirst, InForceFrom}
+use Rattle.rules.specs.Calls.{compare_call}
 use Rattle.promises.specs.Questions.{Question, question, of_groups, of_types, QuestionsDecide}
 
 -- the questions of entry e

@@ -4,7 +4,6 @@ pub mod Runs
 pub mod Promises
 pub mod Comparison
 pub mod Closed
-pub mod EarlierForms
 pub mod Migration
 pub mod CommonTypes
 pub mod Profile
@@ -14,5 +13,3 @@ pub mod Packet
 pub mod InForce
 pub mod Office
 pub mod Exchange
-pub mod RelationExamples
-pub mod ExchangedExamples

@@ -1,16 +1,35 @@
 -- Migration (manual, 7.12 and 11): scripts of forms 1 and 2, rewritten with c and ic as group 0 and, from form 1, with
--- r of its type in each recursion, are checked and run as they were, and refused as they were where nothing in them is
--- of a later form. The rules of those forms stand here over widened bytes, of which they read neither c nor ic, and run
--- in buffers of as many records.
+-- r of its type in each recursion, are checked and run as they were. The rules of those forms stand here over widened
+-- bytes, of which they read neither c nor ic, and run in buffers of as many records.
 use Rattle.std.specs.Prelude.{◌≡◌, [], ◌↔◌, ℕ, ◌≤◌, ◌<◌, length, IsTrue}
-use Rattle.rules.specs.Prelude.{Property, Reader, Security, Ty, top, Term, Labels, relabel_t, relabel, called_as}
-use Rattle.rules.specs.Prelude.{as_written, as_typed, readers, rewriting_labels, Bytes, Octets, Answer, accepted, leq}
-use Rattle.rules.specs.Prelude.{meet, groups_of, type_count, type_at, encode, term, right, q21, End, Ran, write_callers}
-use Rattle.rules.specs.Prelude.{widen_types, widen_script, old_types_check, old_script_check, rewriting_types}
-use Rattle.rules.specs.Prelude.{rewriting_script, groups_check, types_check, script_check, check_call, check_call_by}
-use Rattle.rules.specs.Prelude.{step_call, step_call_by, step_report, run_call, run_call_by, run_report}
+use Rattle.calculus.specs.Security.{Property, Reader, Security}
+use Rattle.calculus.specs.Types.{Ty, top}
+use Rattle.calculus.specs.Terms.{Term}
+use Rattle.calculus.specs.Relabelling.{Labels, relabel_t, relabel}
+use Rattle.calculus.specs.Callers.{called_as, as_written, as_typed}
+use Rattle.calculus.specs.Creators.{readers, rewriting_labels}
+use Rattle.rules.specs.Answer.{Bytes, Octets, Answer, accepted}
+use Rattle.rules.specs.Groups.{leq, meet, groups_of}
+use Rattle.rules.specs.Types.{type_count, type_at}
+use Rattle.rules.specs.Script.{encode, term}
+use Rattle.rules.specs.Typing.{right, q21}
+use Rattle.rules.specs.Step.{End}
+use Rattle.rules.specs.Run.{Ran}
+use Rattle.rules.specs.Callers.{old_records, old_kind, old_r, write_callers}
+use Rattle.rules.specs.Rewriting.{widen_types, widen_script, old_script_check, rewriting_types, rewriting_script}
+use Rattle.rules.specs.Calls.{groups_check, types_check, script_check, check_call, check_call_by, step_call}
+use Rattle.rules.specs.Calls.{step_call_by, step_report, run_call, run_call_by, run_report}
 use Rattle.promises.specs.Runs.{Reaches, ReachesBy}
-use Rattle.promises.specs.EarlierForms.{Form, form_1, form_2, types_check_then, script_check_then, Uncalled, OfItsForm}
+
+-- The two earlier forms of records without creators: form 1, and form 2, in which a recursion carries the group of its
+-- calls.
+pub data Form : Type 0 where
+  form_1 form_2 : Form
+
+-- Question 14 of form 1 asks that byte 1 of a recursion is 0; in form 2 it holds a group.
+abbrev pub Existing : Form → Bytes → Type 0
+Existing form_1 s = (i : ℕ) → i < old_records s → old_kind s i ≡ 11 → old_r s i ≡ 0
+Existing form_2 s = Unit {0}
 
 -- who a recursive call is made as
 abbrev pub caller_in : Form → Property → Reader → Reader
@@ -42,7 +61,7 @@ new_term form t e = relabel (new_labels form t) e
 abbrev pub earlier_step : Form → Bytes → Bytes → ℕ → Bytes → Answer End
 earlier_step form g t room s = step_call_by (earlier form g) g (widen_types t) s room
 
--- What becomes of one script that is rewritten: typing, steps and runs are its form's, questions 2 to 19 are today's.
+-- What becomes of one script that is rewritten.
 pub record Migrated (form : Form) (g t s : Bytes) : Type 0 where
   -- questions 2 to 19 of the old bytes: the same answer with the callers put in
   pub asked : old_script_check g t (with_callers form t s) ≡ old_script_check g t s
@@ -74,23 +93,9 @@ pub record Migrated (form : Form) (g t s : Bytes) : Type 0 where
       → Reaches g (widen_types t) room budget (new_script form t s) u
       ↔ ((v : Bytes) × ReachesBy (earlier_step form g t room) budget (widen_script s) v × (u ≡ encode (new_term form t (term v))))
 
--- A script that goes as it went: its form's own questions, too, are answered as they were.
-pub record AsItWas (form : Form) (g t s : Bytes) : Type 0 where
-  -- by the same question at the same place, or yes
-  pub types_asked : old_types_check g t ≡ types_check_then g t
-  pub asked : old_script_check g t (with_callers form t s) ≡ script_check_then form g t s
-  pub migrated : Migrated form g t s
-
 -- What is promised of all files of these forms.
 pub record Migration : Type 0 where
-  -- files that have nothing of what came after their form, refused ones too
-  pub as_it_was : (form : Form) (g t s : Bytes) → Octets g → Octets t → Octets s → OfItsForm form t s → AsItWas form g t s
-  -- What a form didn't refuse is such a file.
-  pub accepted_then : (form : Form) (g t s : Bytes) → script_check_then form g t s ≡ accepted tt → OfItsForm form t s
-  -- Any others their form refused. Where byte 1 of form 1's recursions is 0, they are now what today's questions make
-  -- of them: if these are yes, they go by their form's typing and steps, and numbers in them by today's without
-  -- creators.
-  pub later : (form : Form) (g t s : Bytes) → Octets g → Octets t → Octets s → Uncalled form s → Migrated form g t s
+  pub migrated : (form : Form) (g t s : Bytes) → Octets g → Octets t → Octets s → Existing form s → Migrated form g t s
   -- Form 1 didn't put question 21 to a recursion: with its rules the answer is yes.
   pub unasked_21 : (g t : Bytes) → Octets g → types_check g t ≡ accepted tt → (i place : ℕ) (w : Reader) → i < type_count t
       → q21 (earlier form_1 g) place (type_at t i) ((earlier form_1 g).caller (top (type_at t i)) w) ≡ accepted tt

@@ -1,10 +1,18 @@
 -- Nothing is learned from what may not be seen (manual, 11). Of runs that end 0 nothing but their last terms is
 -- compared: how many steps they made, how long they took and whether they end may depend on what is not seen.
 use Rattle.std.specs.Prelude.{◌≡◌, false, ◌↔◌, ◌++◌, ℕ, ◌%◌, ◌<◌, length, IsTrue}
-use Rattle.rules.specs.Prelude.{Ty, top, Term, Bytes, Octets, accepted, script_width, leq, groups_of, records, kind}
-use Rattle.rules.specs.Prelude.{number, encode, term, Ran, sheet, run_call, first_after, sheet_call, Accepted}
+use Rattle.calculus.specs.Types.{Ty, top}
+use Rattle.calculus.specs.Terms.{Term}
 use Rattle.noninterference.specs.Places.{Place, put, type_within, made_within}
 use Rattle.noninterference.specs.Places as places
+use Rattle.rules.specs.Answer.{Bytes, Octets, accepted}
+use Rattle.rules.specs.Limits.{script_width}
+use Rattle.rules.specs.Groups.{leq, groups_of}
+use Rattle.rules.specs.Script.{records, kind, number, encode, term}
+use Rattle.rules.specs.Run.{Ran}
+use Rattle.rules.specs.Sheet.{sheet}
+use Rattle.rules.specs.Calls.{run_call, first_after, sheet_call}
+use Rattle.rules.specs.Reach.{Accepted}
 use Rattle.promises.specs.Promises.{Typed}
 
 -- The same place of otherwise equal scripts: a in w and b in w', with the same records before and after.

@@ -1,13 +1,17 @@
 -- What import and export of old office scripts promise, and the writing of their callers (manual, 7.10 to 7.12).
 use Rattle.std.specs.Prelude.{◌≡◌, [], ◌∷◌, ◌++◌, ◌↔◌, ℕ, ◌+◌, ◌*◌, ◌/◌, ◌≤◌, ◌<◌, length}
-use Rattle.rules.specs.Prelude.{Term, Bytes, byte, Octets, Answer, accepted, refused, type_width, script_width}
-use Rattle.rules.specs.Prelude.{office_width, records, encode, c, ic, write_callers_of, write_office_callers}
-use Rattle.rules.specs.Prelude.{form_check, script_check, q27, widen_types, widen_script, rewritten_after, Means}
-use Rattle.rules.specs.Prelude.{office_records, office_kind, nameless, named_term, q28, q30, import_of, import_call}
-use Rattle.rules.specs.Prelude.{export_of, q28_of_export, export_call}
+use Rattle.calculus.specs.Terms.{Term}
+use Rattle.rules.specs.Answer.{Bytes, byte, Octets, Answer, accepted, refused}
+use Rattle.rules.specs.Limits.{type_width, script_width, office_width}
+use Rattle.rules.specs.Script.{records, encode, c, ic}
+use Rattle.rules.specs.Callers.{write_callers_of, write_office_callers}
+use Rattle.rules.specs.Calls.{form_check, script_check, q27}
+use Rattle.rules.specs.Rewriting.{widen_types, widen_script, rewritten_after}
+use Rattle.rules.specs.Names.{Means}
+use Rattle.rules.specs.Office.{office_records, office_kind, nameless, named_term, q28, q30, import_of, import_call}
+use Rattle.rules.specs.Office.{export_of, q28_of_export, export_call}
 use Rattle.promises.specs.Questions.{question, of_groups, of_types, of_script, of_office, QuestionsDecide}
-use Rattle.promises.specs.EarlierForms.{form_1}
-use Rattle.promises.specs.Migration.{new_script, Migrated}
+use Rattle.promises.specs.Migration.{form_1, new_script, Migrated}
 
 -- What import promises.
 pub record Imports (g t s : Bytes) : Type 0 where
@@ -54,9 +58,9 @@ answer_with_callers t (refused q p) = refused q p
 abbrev pub ImportsCalled : Bytes → Bytes → Bytes → Type 0
 ImportsCalled g t s = (room : ℕ) → import_call g t (write_office_callers t s) room ≡ answer_with_callers t (import_call g t s room)
 
--- It is checked and run as form 1 does it: over a rewritten types table, what import gave without the callers is a
--- script of form 1, widened; so with them it is that script, rewritten.
-pub record AsBefore (g t b : Bytes) : Type 0 where
+-- It is checked and run as it was: over a rewritten types table, what import gave without the callers is a script of
+-- form 1, widened, and with them the rewritten one.
+pub record AsBefore (g t s : Bytes) (room : ℕ) (b : Bytes) : Type 0 where
   -- the script of form 1
   pub old : Bytes
   pub without : widen_script old ≡ b
@@ -75,4 +79,4 @@ ImportingCalled = (g t s : Bytes) → Octets s → OldOffice s → ImportsCalled
 unfoldable pub ImportedAsBefore : Type 0
 ImportedAsBefore =
     (g t s : Bytes) → Octets g → Octets t → Octets s → OldOffice s → (room : ℕ) (b : Bytes) → import_call g (widen_types t) s room ≡ accepted b
-    → AsBefore g t b
+    → AsBefore g t s room b

@@ -1,10 +1,20 @@
 -- What a packet promises: it is the sheet that is had by building the application by hand (manual, 7.8 and 11).
 use Rattle.std.specs.Prelude.{◌≡◌, true, ◌↔◌, if◌then◌else◌, List, [], ◌∷◌, ◌++◌, ℕ, ◌≤◌, min, nat_eq, length}
-use Rattle.rules.specs.Prelude.{Ty, is_value, Bytes, Octets, Answer, accepted, refused, ◌>>=◌, work_length, rows}
-use Rattle.rules.specs.Prelude.{properties_of, no_type, type_at, encode, term, q13, q21, typing, Ran, run, sheet, zeros}
-use Rattle.rules.specs.Prelude.{q25, q26, q27, run_call, first_after, scratch_after, sheet_call, Accepted, q39}
-use Rattle.rules.specs.Prelude.{AcceptedInProfile, application, q1_work, q39_if, q37, q38, q18_whole, before_typing}
-use Rattle.rules.specs.Prelude.{desk_check, desk_run, Packet, packet_call, desk_work_after, packet_page_after}
+use Rattle.calculus.specs.Types.{Ty}
+use Rattle.calculus.specs.Terms.{is_value}
+use Rattle.rules.specs.Answer.{Bytes, Octets, Answer, accepted, refused, ◌>>=◌}
+use Rattle.rules.specs.Limits.{work_length}
+use Rattle.rules.specs.Groups.{rows, properties_of}
+use Rattle.rules.specs.Types.{no_type, type_at}
+use Rattle.rules.specs.Script.{encode, term, q13}
+use Rattle.rules.specs.Typing.{q21, typing}
+use Rattle.rules.specs.Run.{Ran, run}
+use Rattle.rules.specs.Sheet.{sheet}
+use Rattle.rules.specs.Calls.{zeros, q25, q26, q27, run_call, first_after, scratch_after, sheet_call}
+use Rattle.rules.specs.Reach.{Accepted}
+use Rattle.rules.specs.Profile.{q39, AcceptedInProfile}
+use Rattle.rules.specs.Packet.{application, q1_work, q39_if, q37, q38, q18_whole, before_typing, desk_check, desk_run}
+use Rattle.rules.specs.Packet.{Packet, packet_call, desk_work_after, packet_page_after}
 use Rattle.promises.specs.Questions.{Question, question, of_groups, of_types, of_script, QuestionsDecide}
 use Rattle.promises.specs.Promises.{AcceptedRun}
 use Rattle.promises.specs.Profile.{Finishes}
@@ -133,9 +143,6 @@ pub record PacketByHand (g t script entry : Bytes) (group budget profile work : 
   -- where its questions are yes, the packet is that by hand
   pub equals : desk_check g t script entry group profile work (length first) (length scratch) ≡ accepted tt
       → AsByHand g t script entry group budget profile work first scratch room
-  -- and only there
-  pub only_there : AsByHand g t script entry group budget profile work first scratch room
-      → desk_check g t script entry group profile work (length first) (length scratch) ≡ accepted tt
   -- and they are yes just where the application can be run
   pub runs_when : (desk_check g t script entry group profile work (length first) (length scratch) ≡ accepted tt)
       ↔ Applicable g t script entry group profile work (length first) (length scratch)

@@ -1,7 +1,10 @@
 -- A preview followed by a move leaves what the single step leaves (manual, 6.6 and 11).
 use Rattle.std.specs.Prelude.{◌≡◌, ◌↔◌, if◌then◌else◌, ℕ, ◌+◌, min, nat_eq, length}
-use Rattle.rules.specs.Prelude.{Bytes, accepted, refused, records, End, end_number, end_count, step_call, written_after}
-use Rattle.rules.specs.Prelude.{Preview, preview_call, move_call, largest_steps, moved_steps}
+use Rattle.rules.specs.Answer.{Bytes, accepted, refused}
+use Rattle.rules.specs.Script.{records}
+use Rattle.rules.specs.Step.{End, end_number, end_count}
+use Rattle.rules.specs.Calls.{step_call, written_after}
+use Rattle.rules.specs.Preview.{Preview, preview_call, move_call, largest_steps, moved_steps}
 
 -- What a preview promises its move, for a written buffer with the content `old` and a number of steps so far.
 pub record PreviewThenMove (g t s old : Bytes) (steps : ℕ) : Type 0 where

@@ -1,8 +1,17 @@
 -- Scripts in the profile finish (manual, 7.6 and 11).
 use Rattle.std.specs.Prelude.{◌≡◌, true, ◌↔◌, ℕ, ◌≤◌, ◌<◌}
-use Rattle.rules.specs.Prelude.{Ty, Term, is_value, Runs, Bytes, Octets, accepted, properties_of, type_at, records}
-use Rattle.rules.specs.Prelude.{kind, term, Ran, run_call, Accepted, AcceptedInProfile}
+use Rattle.calculus.specs.Types.{Ty}
+use Rattle.calculus.specs.Terms.{Term, is_value}
+use Rattle.calculus.specs.Runs.{Runs}
 use Rattle.termination.specs.Profile.{recursion_free}
+use Rattle.rules.specs.Answer.{Bytes, Octets, accepted}
+use Rattle.rules.specs.Groups.{properties_of}
+use Rattle.rules.specs.Types.{type_at}
+use Rattle.rules.specs.Script.{records, kind, term}
+use Rattle.rules.specs.Run.{Ran}
+use Rattle.rules.specs.Calls.{run_call}
+use Rattle.rules.specs.Reach.{Accepted}
+use Rattle.rules.specs.Profile.{AcceptedInProfile}
 
 -- There is a number of steps of the rules, read without the limits of size and depth, after which a value stands.
 pub record Finishes (g t s : Bytes) : Type 0 where

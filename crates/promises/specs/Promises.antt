@@ -1,15 +1,28 @@
 -- The three promises of all calls (manual, 11): every call answers, accepted by the rules and least, and a run of an
 -- accepted script.
 use Rattle.std.specs.Prelude.{◌≡◌, true, false, ◌↔◌, [], ◌∷◌, ◌++◌, ℕ, suc, ◌-◌, ◌≤◌, ◌<◌, min, length}
-use Rattle.rules.specs.Prelude.{Ty, Subtype, Term, is_value, Reduces, StuckAt, DeniedAt, HasType, Bytes, Octets}
-use Rattle.rules.specs.Prelude.{accepted, refused, rows, properties_of, type_count, type_at, encode_type, records}
-use Rattle.rules.specs.Prelude.{encode, term, size, of_typing, typing, at_value, moves, may_not, wrong_kind, too_big}
-use Rattle.rules.specs.Prelude.{exceeds, step_in, Ran, strip_script, strip_types, one_group, sheet, zeros, q1, q25, q26}
-use Rattle.rules.specs.Prelude.{q27, groups_check, types_check, compare_call, script_check, check_call, type_bytes}
-use Rattle.rules.specs.Prelude.{answer_after, work_after, step_call, written_after, run_call, run_report, first_after}
-use Rattle.rules.specs.Prelude.{scratch_after, sheet_call, sheet_after, widen_types, widen_script, rewriting_types}
-use Rattle.rules.specs.Prelude.{rewriting_script, rewritten_after, verdict, Accepted, q39, profile_checking, Preview}
-use Rattle.rules.specs.Prelude.{q35, preview_call, move_call}
+use Rattle.calculus.specs.Types.{Ty}
+use Rattle.calculus.specs.Subtyping.{Subtype}
+use Rattle.calculus.specs.Terms.{Term, is_value}
+use Rattle.calculus.specs.Reduction.{Reduces}
+use Rattle.calculus.specs.Stuck.{StuckAt, DeniedAt}
+use Rattle.calculus.specs.Typing.{HasType}
+use Rattle.rules.specs.Answer.{Bytes, Octets, accepted, refused}
+use Rattle.rules.specs.Groups.{rows, properties_of}
+use Rattle.rules.specs.Types.{type_count, type_at, encode_type}
+use Rattle.rules.specs.Script.{records, encode, term, size}
+use Rattle.rules.specs.Typing.{of_typing, typing}
+use Rattle.rules.specs.Step.{at_value, moves, may_not, wrong_kind, too_big, exceeds, step_in}
+use Rattle.rules.specs.Run.{Ran}
+use Rattle.rules.specs.Strip.{strip_script, strip_types, one_group}
+use Rattle.rules.specs.Sheet.{sheet}
+use Rattle.rules.specs.Calls.{zeros, q1, q25, q26, q27, groups_check, types_check, compare_call, script_check}
+use Rattle.rules.specs.Calls.{check_call, type_bytes, answer_after, work_after, step_call, written_after, run_call}
+use Rattle.rules.specs.Calls.{run_report, first_after, scratch_after, sheet_call, sheet_after}
+use Rattle.rules.specs.Rewriting.{widen_types, widen_script, rewriting_types, rewriting_script, rewritten_after}
+use Rattle.rules.specs.Reach.{verdict, Accepted}
+use Rattle.rules.specs.Profile.{q39, profile_checking}
+use Rattle.rules.specs.Preview.{Preview, q35, preview_call, move_call}
 use Rattle.promises.specs.Runs.{MovesTo, Repeats, Reaches}
 use Rattle.promises.specs.Questions.{question, of_groups, of_types, of_script, of_old_types, of_old_script}
 use Rattle.promises.specs.Questions.{QuestionsDecide, Checks}

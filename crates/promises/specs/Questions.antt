@@ -1,8 +1,12 @@
 -- A call's questions as a list, and what its answer says of them: the first no gives its number and place.
 use Rattle.std.specs.Prelude.{◌≡◌, ◌↔◌, List, [], ◌∷◌, ◌++◌, ℕ}
-use Rattle.rules.specs.Prelude.{Bytes, Answer, accepted, refused, ◌>>◌, q2, q3, q4, q5, q6, q7, old_type_width}
-use Rattle.rules.specs.Prelude.{old_script_width, q8_of, q8, q9, q10, q36_types, q11, q12, q13_of, q13, q14, q15}
-use Rattle.rules.specs.Prelude.{q36_objects, q16, q17, q18, q19, widen_types, widen_script, nameless, q28, q29, q30}
+use Rattle.rules.specs.Answer.{Bytes, Answer, accepted, refused, ◌>>◌}
+use Rattle.rules.specs.Groups.{q2, q3, q4, q5, q6, q7}
+use Rattle.rules.specs.Limits.{old_type_width, old_script_width}
+use Rattle.rules.specs.Types.{q8_of, q8, q9, q10, q36_types, q11, q12}
+use Rattle.rules.specs.Script.{q13_of, q13, q14, q15, q36_objects, q16, q17, q18, q19}
+use Rattle.rules.specs.Rewriting.{widen_types, widen_script}
+use Rattle.rules.specs.Office.{nameless, q28, q29, q30}
 
 -- a question's number and its answer
 pub record Question : Type 0 where

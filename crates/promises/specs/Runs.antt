@@ -1,7 +1,10 @@
 -- A run as its steps: what it ends with, and what it reaches. `room` is the shorter of its two buffers.
 use Rattle.std.specs.Prelude.{◌≡◌, true, false, ℕ, suc}
-use Rattle.rules.specs.Prelude.{Term, is_value, Bytes, Answer, accepted, encode, term, End, moves, end_number}
-use Rattle.rules.specs.Prelude.{step_call}
+use Rattle.calculus.specs.Terms.{Term, is_value}
+use Rattle.rules.specs.Answer.{Bytes, Answer, accepted}
+use Rattle.rules.specs.Script.{encode, term}
+use Rattle.rules.specs.Step.{End, moves, end_number}
+use Rattle.rules.specs.Calls.{step_call}
 
 -- a step takes the script s to a term, and s' has its bytes
 pub data MovesBy (step : Bytes → Answer End) (s : Bytes) : Bytes → Type 0 where

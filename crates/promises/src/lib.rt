@@ -15,8 +15,6 @@ ghost use Rattle.promises.specs.Office.{Importing, Exporting, ImportingCalled, I
 ghost use Rattle.promises.specs.Packet.{PacketsByHand};
 ghost use Rattle.promises.specs.Migration.{Migration};
 ghost use Rattle.promises.specs.Noninterference.{Noninterference, OneMade};
-ghost use Rattle.promises.specs.RelationExamples.{SameOrBelowExamples, UncreatedExamples, OldOfficeExamples, AsBeforeExamples, OfItsFormExamples};
-ghost use Rattle.promises.specs.ExchangedExamples.{MetByTwo, UnseenExamples, MadeByOthersExamples, BothEndExamples};
 ghost use Rattle.promises.specs.Exchange.{SheetsTellNothing, PartUnread, SamePages, LastAlike, LastIsOne, reader_exactly, who_trusts_exactly, PartUnmade};
 
 /// Any groups table, types table or script, of any bytes and lengths, gets an answer from every call: yes, or the
@@ -107,23 +105,11 @@ pub fn packets_by_hand()
     ensures { PacketsByHand }
 {}
 
-/// Files of an earlier form that have nothing that came later, rewritten, are refused by the question and place by
-/// which the form refused them, or have the same type and go the same steps to the same end; the last term is the
-/// earlier one's, rewritten. What a form accepted are such files. Any others it refused; today's questions may let them
-/// pass.
+/// A script of an earlier form, rewritten, is refused with the same question and place or has the same type, and goes
+/// the same steps to the same end; its last term is the earlier one's, rewritten.
 #[tactic(auto, using(crate::proofs::Migration::migration))]
 pub fn earlier_scripts()
     ensures { Migration }
-{}
-
-/// Relations that the promises name, by examples: where each holds, and where it fails by one condition alone.
-#[tactic(auto, using(crate::proofs::RelationExamples::same_or_below_examples, crate::proofs::RelationExamples::uncreated_examples, crate::proofs::RelationExamples::old_office_examples, crate::proofs::RelationExamples::as_before_examples, crate::proofs::RelationExamples::of_its_form_examples))]
-pub fn relation_examples()
-    ensures same_or_below { SameOrBelowExamples }
-    ensures uncreated { UncreatedExamples }
-    ensures old_office { OldOfficeExamples }
-    ensures as_before { AsBeforeExamples }
-    ensures of_its_form { OfItsFormExamples }
 {}
 
 /// Secrecy. A reader at a group is shown the same sheet of two scripts that differ only in what has ir ⋢ the group, if
@@ -179,18 +165,4 @@ pub fn nothing_learned()
 #[tactic(auto, using(crate::proofs::Noninterference::one_made_of_scripts))]
 pub fn one_made()
     ensures { OneMade }
-{}
-
-/// What the two laws by types ask is met by two scripts that differ, with their runs.
-#[tactic(auto, using(crate::proofs::ExchangedExamples::met_by_two))]
-pub fn scripts_that_differ_unseen()
-    ensures { MetByTwo }
-{}
-
-/// Examples of what the two laws by types ask of two scripts and of two runs: where it is met, and where it isn't.
-#[tactic(auto, using(crate::proofs::ExchangedExamples::unseen_examples, crate::proofs::ExchangedExamples::made_by_others_examples, crate::proofs::ExchangedExamples::both_end_examples))]
-pub fn exchanged_examples()
-    ensures unseen { UnseenExamples }
-    ensures made_by_others { MadeByOthersExamples }
-    ensures both_end { BothEndExamples }
 {}

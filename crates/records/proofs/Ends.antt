@@ -2,8 +2,11 @@
 use Rattle.std.proofs.Common.{◌≡◌, sym, ◌∙◌, ℕ, zero, suc, ◌+◌, ◌-◌, ◌≤◌, ◌<◌, arith}
 use Rattle.std.proofs.Math.Decide.{dec_lt}
 use Rattle.std.proofs.Math.Option.{some}
-use Rattle.rules.specs.Prelude.{Bytes, end_after, records, kind, arity, term_end}
-use Rattle.rules.proofs.Prelude.{runs_out, some_inj, none≢some}
+use Rattle.rules.specs.Answer.{Bytes}
+use Rattle.rules.specs.Types.{end_after}
+use Rattle.rules.specs.Script.{records, kind, arity, term_end}
+use Rattle.rules.proofs.PrefixLaws.{runs_out}
+use Rattle.rules.proofs.Search.{some_inj, none≢some}
 
 bounds : (f : ℕ → ℕ) (left need i e : ℕ) → end_after f left need i ≡ some e → (i ≤ e) × (e ≤ i + left)
 unfolding end_after

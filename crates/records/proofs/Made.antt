@@ -1,9 +1,15 @@
 -- A term is made of its own record and its operands, so its kind alone tells its form.
 use Rattle.std.proofs.Common.{◌≡◌, refl, ap, sym, subst, ◌∙◌, ℕ}
-use Rattle.rules.specs.Prelude.{Property, Indirect, first, second, less, Term, var, lam, inj, proj, case, mu, literal}
-use Rattle.rules.specs.Prelude.{reckon, Bytes, script_width, r, ir, c, ic, number, make}
-use Rattle.rules.proofs.Prelude.{record_at, record_is, r_is, ir_is, number_is, c_is, ic_is, term_head, term_code}
-use Rattle.rules.proofs.Prelude.{two_bytes}
+use Rattle.calculus.specs.Security.{Property, Indirect}
+use Rattle.calculus.specs.Terms.{first, second, plus, less, Term, var, unit, lam, pair, inj, app, proj, case, protect}
+use Rattle.calculus.specs.Terms.{mu, literal, reckon}
+use Rattle.rules.specs.Answer.{Bytes}
+use Rattle.rules.specs.Limits.{script_width}
+use Rattle.rules.specs.Script.{r, ir, c, ic, number, make}
+use Rattle.rules.proofs.Prefix.{record_at}
+use Rattle.rules.proofs.PrefixLaws.{record_is}
+use Rattle.rules.proofs.RecordFields.{r_is, ir_is, number_is, c_is, ic_is}
+use Rattle.rules.proofs.TermCode.{term_head, term_code, two_bytes}
 use Rattle.records.specs.Place.{At}
 use Rattle.records.specs.Labels.{property_at, influence_at}
 use Rattle.records.specs.Operands.{first_operand, second_operand}

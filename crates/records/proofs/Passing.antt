@@ -1,8 +1,14 @@
 -- A walk over a term's operands, one after the other: which are passed, and where the next one stands.
 use Rattle.std.proofs.Common.{◌≡◌, refl, sym, ap, ◌∙◌, List, [], ◌∷◌, ◌++◌, append_assoc, append-nil, ℕ, suc, ◌+◌, ◌*◌}
 use Rattle.std.proofs.Common.{◌≤◌, ◌<◌, arith, length, drop, length-append}
-use Rattle.rules.specs.Prelude.{Term, Bytes, script_width, encode, size}
-use Rattle.rules.proofs.Prelude.{joined, total, total_append, operand_at, term_operands, term_code}
+use Rattle.calculus.specs.Terms.{Term}
+use Rattle.rules.specs.Answer.{Bytes}
+use Rattle.rules.specs.Limits.{script_width}
+use Rattle.rules.specs.Script.{encode, size}
+use Rattle.rules.proofs.Prefix.{joined, total}
+use Rattle.rules.proofs.Parts.{total_append}
+use Rattle.rules.proofs.Nodes.{operand_at}
+use Rattle.rules.proofs.TermCode.{term_operands, term_code}
 use Rattle.records.specs.Place.{At}
 
 -- the first j operands of e, which stands at record i, are passed

@@ -2,11 +2,17 @@
 use Rattle.std.proofs.Common.{◌≡◌, refl, ap, sym, ◌∙◌, List, [], ◌∷◌, ◌++◌, append_assoc, append-nil, ℕ, suc, ◌+◌, ◌*◌}
 use Rattle.std.proofs.Common.{◌-◌, ◌≤◌, ◌<◌, arith, length, take, drop, length-append, length-drop}
 use Rattle.std.proofs.Math.Option.{some}
-use Rattle.rules.specs.Prelude.{first, plus, Term, var, inj, proj, reckon, Bytes, byte, script_width, kind, records}
-use Rattle.rules.specs.Prelude.{encode, size, term, term_end, arity}
-use Rattle.rules.proofs.Prelude.{joined, first_byte, size_positive, encode_length, ops_at, tree_end, operand_at}
-use Rattle.rules.proofs.Prelude.{term_code, term_prefix, term_head, term_operands, term_head_length, term_encode_is}
-use Rattle.rules.proofs.Prelude.{records_encode}
+use Rattle.calculus.specs.Terms.{first, second, plus, less, Term, var, unit, lam, pair, inj, app, proj, case, protect}
+use Rattle.calculus.specs.Terms.{mu, literal, reckon}
+use Rattle.rules.specs.Answer.{Bytes, byte}
+use Rattle.rules.specs.Limits.{script_width}
+use Rattle.rules.specs.Script.{kind, records, encode, size, term, term_end, arity}
+use Rattle.rules.proofs.Prefix.{joined}
+use Rattle.rules.proofs.Parts.{first_byte}
+use Rattle.rules.proofs.PrefixLaws.{size_positive, encode_length, ops_at, tree_end}
+use Rattle.rules.proofs.Nodes.{operand_at}
+use Rattle.rules.proofs.TermCode.{term_code, term_prefix, term_head, term_operands, term_head_length, term_encode_is}
+use Rattle.rules.proofs.Scripts.{records_encode}
 use Rattle.records.specs.Kinds as kinds
 use Rattle.records.specs.Place.{At, Here}
 use Rattle.records.specs.Operands.{first_operand, second_operand}

@@ -3,7 +3,7 @@ use Rattle.std.proofs.Common.{◌≡◌, refl, Bool, true, false, ◌&&◌, List
 use Rattle.std.proofs.Common.{nat_le, length, get_or, IsTrue}
 use Rattle.std.proofs.Math.Bool.{and-eq-true_iff}
 use Rattle.std.proofs.Math.ListN.{get_or-eq_default}
-use Rattle.rules.specs.Prelude.{Signature, signatures, signature_of, arity, signature}
+use Rattle.rules.specs.Script.{Signature, signatures, signature_of, arity, signature}
 
 abbrev unnamed : Signature
 unnamed = signature 0 false false false false

@@ -1,6 +1,7 @@
 -- How many levels deeper a term's operands stand.
 use Rattle.std.proofs.Common.{ℕ}
-use Rattle.rules.specs.Prelude.{Term, case, weight}
+use Rattle.calculus.specs.Terms.{Term, case}
+use Rattle.rules.specs.Script.{weight}
 
 -- of a node
 abbrev pub weight_of : Term → ℕ

@@ -1,7 +1,11 @@
 -- The weight of a record is that of the node that it starts.
 use Rattle.std.proofs.Common.{◌≡◌, refl, Bool, true, false, cond, ◌&&◌, ℕ, ◌≤◌, arith, nat_eq}
-use Rattle.rules.specs.Prelude.{first, plus, Term, inj, proj, case, reckon, finds_own, Bytes, weight}
-use Rattle.rules.proofs.Prelude.{two_bytes}
+use Rattle.calculus.specs.Terms.{first, second, plus, less, Term, var, unit, lam, pair, inj, app, proj, case, protect}
+use Rattle.calculus.specs.Terms.{mu, literal, reckon}
+use Rattle.calculus.specs.Typing.{finds_own}
+use Rattle.rules.specs.Answer.{Bytes}
+use Rattle.rules.specs.Script.{weight}
+use Rattle.rules.proofs.TermCode.{two_bytes}
 use Rattle.records.specs.Place.{At}
 use Rattle.records.specs.Weight.{weight_at}
 use Rattle.records.proofs.Stands.{kind_of, stands_kind}

@@ -1,4 +1,5 @@
--- The binders over operands: a function and a recursion bind one in theirs, a case one in each branch.
+-- The binders over a record's operands: a function and a recursion bind one in their operand, a case one in each
+-- branch.
 use Rattle.std.specs.Prelude.{◌||◌, if◌then◌else◌, ℕ, zero, suc, nat_eq}
 use Rattle.records.specs.Kinds as kinds
 

@@ -1,6 +1,8 @@
 -- What the groups of a record are to the calculus: the property of an object, the influence of a protect.
 use Rattle.std.specs.Prelude.{ℕ}
-use Rattle.rules.specs.Prelude.{Property, Indirect, Bytes, r, ir, c, ic}
+use Rattle.calculus.specs.Security.{Property, Indirect}
+use Rattle.rules.specs.Answer.{Bytes}
+use Rattle.rules.specs.Script.{r, ir, c, ic}
 
 -- record i's property
 abbrev pub property_at : Bytes → ℕ → Property

@@ -1,6 +1,9 @@
 -- Where a term stands in a script.
 use Rattle.std.specs.Prelude.{◌≡◌, ◌++◌, ℕ, ◌*◌, drop}
-use Rattle.rules.specs.Prelude.{Term, Bytes, script_width, encode}
+use Rattle.calculus.specs.Terms.{Term}
+use Rattle.rules.specs.Answer.{Bytes}
+use Rattle.rules.specs.Limits.{script_width}
+use Rattle.rules.specs.Script.{encode}
 
 -- the records of e stand in s from record i on
 pub record At (s : Bytes) (i : ℕ) (e : Term) : Type 0 where

@@ -1,14 +1,21 @@
 -- The answers that are read off records: whether a type is a function, and the fate of a node.
-use Rattle.std.proofs.Common.{◌≡◌, sym, ap, ap₂, subst, ◌∙◌, Bool, cond, ◌∷◌, ℕ, ◌+◌, ◌*◌, ◌≤◌, ◌<◌}
-use Rattle.std.proofs.Common.{arith, nat_eq, nat_lt, ◌&&◌, length, get_or, drop, length-drop, get_or-drop}
-use Rattle.std.proofs.Common.{IsTrue}
-use Rattle.std.proofs.lemmas.Bool.Decides.{nat_tests}
-use Rattle.rules.specs.Prelude.{Property, Security, Ty, top, Term, Bytes, byte, type_width, leq, properties_of}
-use Rattle.rules.specs.Prelude.{type_count, type_kind, type_at, parse_types, make_type, no_type, kind, r, number}
+use Rattle.std.proofs.Common.{◌≡◌, refl, sym, ap, ap₂, subst, ◌∙◌, Bool, cond, ◌∷◌, ℕ, zero, suc, ◌+◌, ◌*◌, ◌≤◌, ◌<◌}
+use Rattle.std.proofs.Common.{arith, nat_eq, nat_lt, ◌&&◌, length, get_or, drop, length-drop, get_or-drop, ne_eqb}
+use Rattle.std.proofs.Common.{lt-ltb, le-ltb, IsTrue}
+use Rattle.std.proofs.lemmas.Bool.{false≢true}
+use Rattle.std.proofs.Math.Decide.{dec_lt}
+use Rattle.calculus.specs.Security.{Property, Security}
+use Rattle.calculus.specs.Types.{Ty, top}
+use Rattle.calculus.specs.Terms.{Term}
+use Rattle.rules.specs.Answer.{Bytes, byte}
+use Rattle.rules.specs.Limits.{type_width}
+use Rattle.rules.specs.Groups.{leq, properties_of}
+use Rattle.rules.specs.Types.{type_count, type_kind, type_at, parse_types, make_type, no_type}
+use Rattle.rules.specs.Script.{kind, r, number}
 use Rattle.records.specs.Kinds as kinds
 use Rattle.records.specs.Place.{At, Here}
 use Rattle.records.proofs.Stands.{kind_of, stands_kind, at_first, here}
-use Rattle.rules.proofs.Prelude.{type_at_outside}
+use Rattle.rules.proofs.TypePlaces.{type_at_outside}
 use Rattle.types.specs.Held.{type_property}
 use Rattle.redex.specs.Fates.{reduces, no_rule, is_function, reading_fate, fate}
 use Rattle.records.specs.Operands.{first_operand, second_operand}
@@ -19,7 +26,8 @@ use Rattle.redex.proofs.Forms.{recursion_fate, destructor_operand, reading_is, r
 
 -- a type is a function by its first byte
 made_function : (k : ℕ) (p : Property) (s t : Ty) → nat_eq k 3 ≡ is_function (make_type k p s t)
-made_function k p s t = grind arith
+made_function (suc (suc (suc (suc (suc k))))) p s t = ne_eqb (suc (suc (suc (suc (suc k))))) 3 (λ e. omega arith)
+made_function _ p s t = refl
 
 first_function : (b : Bytes) → type_width ≤ length b → nat_eq (byte b 0) 3 ≡ is_function (get_or (parse_types b) 0 no_type)
 unfolding parse_types
@@ -35,19 +43,32 @@ function_at t i l =
 
 -- as the code asks it: of any index
 pub function_of_kind : (t : Bytes) (i : ℕ) → (nat_lt i (type_count t) && nat_eq (type_kind t i) 3) ≡ is_function (type_at t i)
-function_of_kind t i = grind (arith, nat_tests, function_at, type_at_outside)
+function_of_kind t i = by (dec_lt i (type_count t))
+  where
+    by : Dec (i < type_count t) → (nat_lt i (type_count t) && nat_eq (type_kind t i) 3) ≡ is_function (type_at t i)
+    by (yes l) = ap (λ b. b && nat_eq (type_kind t i) 3) (lt-ltb i (type_count t) l) ∙ function_at t i l
+    by (no n) =
+        ap (λ b. b && nat_eq (type_kind t i) 3) (le-ltb i (type_count t) (omega arith))
+        ∙ sym (ap is_function (type_at_outside t i (omega arith)))
 
 -- A function type is in the table, and its first record has its groups.
 pub function_inside : (t : Bytes) (i : ℕ) → IsTrue (is_function (type_at t i)) → i < type_count t
-function_inside t i h = grind (arith, type_at_outside)
+function_inside t i h = by (dec_lt i (type_count t))
+  where
+    by : Dec (i < type_count t) → i < type_count t
+    by (yes l) = l
+    by (no n) = absurd (false≢true (sym (ap is_function (type_at_outside t i (omega arith))) ∙ h))
 
 made_top : (k : ℕ) (p : Property) (s t : Ty) → IsTrue (is_function (make_type k p s t)) → top (make_type k p s t) ≡ p
-made_top k p s t h = grind arith
+made_top (suc (suc (suc zero))) p s t h = refl
+made_top (suc (suc (suc (suc zero)))) p s t h = absurd (false≢true h)
+made_top _ p s t h = absurd (false≢true h)
 
 first_top : (b : Bytes) → IsTrue (is_function (get_or (parse_types b) 0 no_type))
     → top (get_or (parse_types b) 0 no_type) ≡ type_property b 0
 unfolding parse_types
-first_top b h = grind (arith, made_top)
+first_top (k ∷ r ∷ ir ∷ z ∷ c ∷ ic ∷ b) h = made_top k _ _ _ h
+first_top _ h = absurd (false≢true h)
 
 pub function_top : (t : Bytes) (i : ℕ) → IsTrue (is_function (type_at t i)) → top (type_at t i) ≡ type_property t i
 unfolding type_at
@@ -66,7 +87,10 @@ module _ {s : Bytes} {i : ℕ} {e : Term} (a : At s i e) where
   -- of a recursion, by the kind of the type that it names
   pub recursion_answer : (S : Security) (t : Bytes) (n d : ℕ) (b : Bool) → kind s i ≡ kinds.recursion → n ≡ number s i → is_function (type_at t n) ≡ b
       → answer (cond b reduces no_rule) i d ≡ answer (fate S (type_at t) e) i d
-  recursion_answer S t n d b h p q = grind (arith, number_at, recursion_fate, stands_kind)
+  recursion_answer S t n d b h p q =
+      ap (λ x. answer x i d)
+      (ap (λ x. cond x reduces no_rule) (sym q) ∙ ap (λ m. cond (is_function (type_at t m)) reduces no_rule) (p ∙ number_at a)
+      ∙ sym (recursion_fate S (type_at t) e (sym (stands_kind s i e a) ∙ h)))
 
   -- of a destructor, by its own record and that of the operand after it
   pub reading_answer : (g : Bytes) (tab : ℕ → Ty) (d : ℕ) (fits may : Bool) → IsTrue (is_destructor (kind s i))

@@ -1,6 +1,7 @@
 -- The step that a fate makes.
 use Rattle.redex.specs.Fates.{Fate, no_rule, not_permitted, reduces}
-use Rattle.rules.specs.Prelude.{Outcome, denied, moved, stuck, Term}
+use Rattle.calculus.specs.Reduction.{Outcome, denied, moved, stuck}
+use Rattle.calculus.specs.Terms.{Term}
 
 -- the step of a node whose own turn it is
 abbrev pub fate_outcome : Fate → Term → Outcome

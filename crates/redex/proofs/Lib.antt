@@ -5,4 +5,5 @@ pub mod Forms
 pub mod Searches
 pub mod Stages
 pub mod Answers
+pub mod Beside
 pub mod FateOutcome

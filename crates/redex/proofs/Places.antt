@@ -1,7 +1,14 @@
 -- What stands at a record: the fields of its term, the term's end, and what stands in an evaluation context.
-use Rattle.std.proofs.Common.{◌≡◌, ap, ◌∙◌, ◌++◌, append_assoc, ℕ, ◌+◌, ◌*◌, arith}
-use Rattle.rules.specs.Prelude.{Property, Security, Ty, Term, Context, plug, Bytes, script_width, r, encode}
-use Rattle.rules.proofs.Prelude.{past}
+use Rattle.std.proofs.Common.{◌≡◌, refl, ap, ◌∙◌, ◌++◌, append_assoc, ℕ, ◌+◌, ◌*◌, arith}
+use Rattle.calculus.specs.Security.{Property, Security}
+use Rattle.calculus.specs.Types.{Ty}
+use Rattle.calculus.specs.Terms.{plus, less, Term, var, unit, lam, pair, inj, app, proj, case, protect, mu, literal}
+use Rattle.calculus.specs.Terms.{reckon}
+use Rattle.calculus.specs.Reduction.{Context, plug}
+use Rattle.rules.specs.Answer.{Bytes}
+use Rattle.rules.specs.Limits.{script_width}
+use Rattle.rules.specs.Script.{r, encode}
+use Rattle.rules.proofs.Parts.{past}
 use Rattle.records.specs.Place.{At}
 use Rattle.records.specs.Labels.{property_at}
 use Rattle.records.proofs.Made.{property_stands, property_of as head_property}
@@ -12,7 +19,8 @@ use Rattle.redex.proofs.Plugs.{plug_bytes, before_length}
 
 -- the groups of a term's own record
 own_groups : (e : Term) → head_property e ≡ property_of e
-own_groups e = grind arith
+own_groups (reckon plus w a b) = refl
+own_groups _ = refl
 
 module _ {s : Bytes} {i : ℕ} {e : Term} (a : At s i e) where
   pub groups_at : property_at s i ≡ property_of e

@@ -1,15 +1,21 @@
 -- What the search reports of a term, from what it reports of the operand that is evaluated next.
 use Rattle.std.proofs.Common.{◌≡◌, refl, sym, ap, ◌∙◌, ℕ, ◌+◌, ◌≤◌, arith, IsTrue}
-use Rattle.rules.specs.Prelude.{Security, Ty, Term, is_value, hole, plug, value, moved, denied, stuck, step, Bytes}
-use Rattle.rules.specs.Prelude.{depth_limit, size, depth}
-use Rattle.rules.proofs.Prelude.{compose, plug_compose, plug_step, value_step}
+use Rattle.calculus.specs.Security.{Security}
+use Rattle.calculus.specs.Types.{Ty}
+use Rattle.calculus.specs.Terms.{Term, is_value}
+use Rattle.calculus.specs.Reduction.{hole, plug, value, moved, denied, stuck, step}
+use Rattle.calculus.proofs.Contexts.{compose, plug_compose, plug_step}
+use Rattle.calculus.proofs.Values.{value_step}
+use Rattle.rules.specs.Answer.{Bytes}
+use Rattle.rules.specs.Limits.{depth_limit}
+use Rattle.rules.specs.Script.{size, depth}
 use Rattle.records.specs.Place.{At}
 use Rattle.redex.specs.Contexts.{offset, level}
-use Rattle.redex.specs.Fates.{reduces, is_potential_redex, fate, contractum}
+use Rattle.redex.specs.Fates.{Fate, reduces, not_permitted, no_rule, is_potential_redex, fate, contractum}
 use Rattle.redex.specs.Found.{Site, Finds, finds_value, finds_redex, finds_denied, finds_stuck, answer}
 use Rattle.redex.specs.declared.Found.{Found}
 use Rattle.redex.specs.declared.Found.TheVariants.{Value, Redex, Denied, Stuck}
-use Rattle.redex.proofs.Plugs.{plug_depths, compose_sums}
+use Rattle.redex.proofs.Plugs.{plug_depth, compose_offset, compose_level}
 use Rattle.redex.proofs.Places.{hole_at}
 use Rattle.redex.proofs.Turns.{turn_step, site_moves}
 use Rattle.redex.proofs.Forms.{Position}
@@ -33,10 +39,12 @@ found_value (finds_value v n) = (v, n)
 
 -- an operand's place
 pub position_at : {s : Bytes} {i : ℕ} {e x : Term} {n m : ℕ} (j : ℕ) → Position e x n m → At s i e → j ≡ i + n → At s j x
-position_at {s} {i} {e} {x} j p a h = grind (arith, hole_at)
+position_at {s} {i} {e} {x} j p a h =
+    let q : i + offset p.context ≡ j = omega (arith, p.from) in
+    rw (← q) (hole_at p.context x a p.whole)
 
 pub position_shallow : {e x : Term} {n m : ℕ} (d : ℕ) → Position e x n m → d + depth e ≤ depth_limit → d + m + depth x ≤ depth_limit
-position_shallow {e} {x} d p h = omega (arith, p.under, ap depth p.whole, (plug_depths p.context x x).0)
+position_shallow {e} {x} d p h = omega (arith, p.under, ap depth p.whole, plug_depth p.context x)
 
 -- what is no value
 abbrev pub Other : Found → Type 0
@@ -49,8 +57,8 @@ module _ (S : Security) (tab : ℕ → Ty) (i d : ℕ) (e : Term) where
         context = compose p.context s.context;
         redex = s.redex;
         whole = p.whole ∙ ap (plug p.context) s.whole ∙ sym (plug_compose p.context s.context s.redex);
-        place_is = omega (arith, s.place_is, p.from, (compose_sums p.context s.context).0);
-        around_is = omega (arith, s.around_is, p.under, (compose_sums p.context s.context).1);
+        place_is = omega (arith, s.place_is, p.from, compose_offset p.context s.context);
+        around_is = omega (arith, s.around_is, p.under, compose_level p.context s.context);
         turn = s.turn;
         goes = s.goes;
       }
@@ -69,4 +77,9 @@ module _ (S : Security) (tab : ℕ → Ty) (i d : ℕ) (e : Term) where
 
   -- the answer of a node whose own turn it is
   pub fired : {a : Found} → IsTrue (is_potential_redex e) → a ≡ answer (fate S tab e) i d → Finds S tab i d e a
-  fired t h = grind (arith, finds_redex, finds_denied, finds_stuck, own_site, turn_step)
+  fired t h = rw h (by (fate S tab e) refl)
+    where
+      by : (x : Fate) → fate S tab e ≡ x → Finds S tab i d e (answer x i d)
+      by reduces g = finds_redex (own_site t g)
+      by not_permitted g = finds_denied (turn_step S tab e t ∙ rw g)
+      by no_rule g = finds_stuck (turn_step S tab e t ∙ rw g)

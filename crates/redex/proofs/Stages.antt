@@ -1,7 +1,11 @@
 -- What the search knows of the term e at record i, d levels down, as it goes on: its kind k is read and its first
 -- operand comes next; the first operand is a value that ends at `next`; so is the second, which ends at `end`.
-use Rattle.std.proofs.Common.{◌≡◌, refl, sym, ap, ◌∙◌, ℕ, ◌+◌, ◌⊎◌, inl, inr, arith, IsTrue}
-use Rattle.rules.specs.Prelude.{Security, Ty, Term, is_value, Bytes, kind, size}
+use Rattle.std.proofs.Common.{◌≡◌, refl, sym, ap, subst, ◌∙◌, ℕ, ◌+◌, ◌⊎◌, inl, inr, arith, IsTrue}
+use Rattle.calculus.specs.Security.{Security}
+use Rattle.calculus.specs.Types.{Ty}
+use Rattle.calculus.specs.Terms.{Term, is_value}
+use Rattle.rules.specs.Answer.{Bytes}
+use Rattle.rules.specs.Script.{kind, size}
 use Rattle.records.specs.Kinds as kinds
 use Rattle.records.specs.Place.{At}
 use Rattle.records.specs.Operands.{first_operand, second_operand}
@@ -23,7 +27,7 @@ use Rattle.redex.proofs.Searches.{found_value, position_at}
 
 -- an operand's answer, where it is a value
 pub value_found : {S : Security} {tab : ℕ → Ty} {j d n : ℕ} {x : Term} {a : Found} → Finds S tab j d x a → a ≡ Value n → IsTrue (is_value x) × (n ≡ j + size x)
-value_found f is = grind (arith, found_value)
+value_found {S} {tab} {j} {d} {n} {x} f is = found_value (subst (λ (a : Found). Finds S tab j d x a) is f)
 
 pub record Opened (s : Bytes) (i : ℕ) (k : Kind) (e : Term) : Type 0 where
   pub stands : At s i e
@@ -65,10 +69,14 @@ module _ {s : Bytes} {i : ℕ} {k : Kind} {e : Term} (o : Opened s i k e) where
 
   -- an injection, and what has one evaluated operand and is no value
   pub injects : (k ≡ FirstInjection) ⊎ (k ≡ SecondInjection) → IsTrue (kinds.is_injection (kind_of e))
-  injects h = grind (arith, is_kind)
+  injects (inl h) = rw (is_kind h)
+  injects (inr h) = rw (is_kind h)
 
   pub of_one : (k ≡ Protect) ⊎ ((k ≡ FirstProjection) ⊎ ((k ≡ SecondProjection) ⊎ (k ≡ Case))) → OfOne (kind_of e)
-  of_one h = grind (arith, is_kind)
+  of_one (inl h) = inl (is_kind h)
+  of_one (inr (inl h)) = inr (inl (is_kind h))
+  of_one (inr (inr (inl h))) = inr (inr (inl (is_kind h)))
+  of_one (inr (inr (inr h))) = inr (inr (inr (is_kind h)))
 
   pub first_at : At s (i + 1) (first_operand e)
   first_at = position_at _ (first_position e o.evaluates _ refl) o.stands refl
@@ -104,4 +112,4 @@ module _ {s : Bytes} {i : ℕ} {k : Kind} {next : ℕ} {e : Term} (f : FirstValu
 
   -- no pair, with two values as operands
   pub both_turn : Second e → (k ≡ Pair → ⊥) → IsTrue (is_value (second_operand e)) → IsTrue (is_potential_redex e)
-  both_turn x p = grind arith
+  both_turn x p = x.turns (λ h. p (same_kind k Pair (f.own.kind_is ∙ h)))

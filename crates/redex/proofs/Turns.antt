@@ -1,23 +1,34 @@
 -- Fate and contractum are the step function's: of a node whose own turn it is, and of a term around it.
-use Rattle.std.proofs.Common.{◌≡◌, refl, ap, ◌∙◌, Bool, true, false, cond, ◌&&◌, ℕ, zero, arith, IsTrue}
+use Rattle.std.proofs.Common.{◌≡◌, refl, ap, ◌∙◌, Bool, true, false, cond, ◌&&◌, ℕ, zero, IsTrue}
+use Rattle.std.proofs.Math.Option.{Option, none, some}
 use Rattle.std.proofs.lemmas.Bool.{false≢true}
-use Rattle.rules.specs.Prelude.{Reader, Security, Ty, top, Side, Operation, Term, var, app, proj, case, protect, mu}
-use Rattle.rules.specs.Prelude.{reckon, is_value, substitute, literal_of, unrolled_function, Context, plug, Outcome}
-use Rattle.rules.specs.Prelude.{moved, operand_first, if_permitted, apply, project, branch, unroll, calculate, step}
-use Rattle.rules.specs.Prelude.{built_by}
-use Rattle.rules.proofs.Prelude.{and_left, and_right, unfinished, value_step, plug_step}
-use Rattle.calculus.proofs.Prelude.{within}
-use Rattle.redex.specs.Fates.{Fate, reduces, no_rule, is_function, is_potential_redex, reading_fate}
+use Rattle.calculus.specs.Security.{Reader, Security}
+use Rattle.calculus.specs.Types.{sum, Ty, node, top}
+use Rattle.calculus.specs.Terms.{Side, Operation, Term, var, lam, pair, inj, app, proj, case, protect, mu, reckon}
+use Rattle.calculus.specs.Terms.{is_value, substitute}
+use Rattle.calculus.specs.Numbers.{Literal, literal_of}
+use Rattle.calculus.specs.Reduction.{unrolled_function, Context, plug, Outcome, moved, operand_first, if_permitted}
+use Rattle.calculus.specs.Reduction.{apply, project, branch, unroll, calculate, step}
+use Rattle.calculus.specs.Stuck.{built_by}
+use Rattle.calculus.proofs.Booleans.{and_left, and_right}
+use Rattle.calculus.proofs.Numbers.{literal_some}
+use Rattle.calculus.proofs.Outcomes.{unfinished, within}
+use Rattle.calculus.proofs.Values.{value_step}
+use Rattle.calculus.proofs.Contexts.{plug_step}
+use Rattle.redex.specs.Fates.{Fate, reduces, not_permitted, no_rule, is_function, is_potential_redex, reading_fate}
 use Rattle.redex.specs.Fates.{fate, contractum}
 use Rattle.redex.specs.Found.{Site}
 use Rattle.redex.proofs.FateOutcome.{fate_outcome}
 
 reading_is : (b : Bool) (e : Term) → if_permitted b e ≡ fate_outcome (reading_fate true b) e
 unfolding if_permitted
-reading_is b e = grind arith
+reading_is true e = refl
+reading_is false e = refl
 
 fated_unfinished : (x : Fate) (e : Term) → IsTrue (unfinished (fate_outcome x e))
-fated_unfinished x e = grind arith
+fated_unfinished reduces e = refl
+fated_unfinished not_permitted e = refl
+fated_unfinished no_rule e = refl
 
 module _ (S : Security) (tab : ℕ → Ty) where
   -- the step of e, if it is its turn
@@ -26,24 +37,36 @@ module _ (S : Security) (tab : ℕ → Ty) where
 
   apply_is : (w : Reader) (f v : Term) → apply S w f v ≡ fires (app w f v)
   unfolding apply fate contractum built_by
-  apply_is w f v = grind (arith, reading_is)
+  apply_is w (lam k i e) v = reading_is (S.permits k w) _
+  apply_is w _ v = refl
 
   project_is : (d : Side) (w : Reader) (v : Term) → project S d w v ≡ fires (proj d w v)
   unfolding project fate contractum built_by
-  project_is d w v = grind (arith, reading_is)
+  project_is d w (pair k a b) = reading_is (S.permits k w) _
+  project_is d w _ = refl
 
   branch_is : (w : Reader) (j : ℕ) (v a b : Term) → branch S w v a b ≡ fires (case w j v a b)
   unfolding branch fate contractum built_by
-  branch_is w j v a b = grind (arith, reading_is)
+  branch_is w j (inj d k i e) a b = reading_is (S.permits k w) _
+  branch_is w j _ a b = refl
 
   unroll_is : (w : Reader) (i : ℕ) (e : Term) (t : Ty)
       → unroll S w i e t ≡ fate_outcome (cond (is_function t) reduces no_rule) (substitute zero (unrolled_function S w i (top t) e) e)
   unfolding unroll
-  unroll_is w i e t = grind arith
+  unroll_is w i e (node sum k s t) = refl
+  unroll_is w i e _ = refl
 
   calculate_is : (o : Operation) (w : Reader) (a b : Term) → calculate S tab o w (literal_of a) (literal_of b) ≡ fires (reckon o w a b)
   unfolding calculate fate contractum literal_of
-  calculate_is o w a b = grind (arith, reading_is)
+  calculate_is o w a b = by (literal_of a) (literal_of b) refl refl
+    where
+      by : (x y : Option Literal) → literal_of a ≡ x → literal_of b ≡ y → calculate S tab o w (literal_of a) (literal_of b) ≡ fires (reckon o w a b)
+      by none y p q = rw p
+      by (some x) none p q = rw (p, q)
+      by (some x) (some y) p q =
+          literal_some a p λ a_is.
+          literal_some b q λ b_is.
+          rw (a_is, b_is) (reading_is (S.permits x.own w && S.permits y.own w) _)
 
   pub turn_step : (e : Term) → IsTrue (is_potential_redex e) → step S tab e ≡ fires e
   unfolding step is_potential_redex operand_first fate contractum

@@ -1,9 +1,12 @@
 -- What stands around the hole of an evaluation context: the bytes, the records and the depths are the same for every
 -- term in the hole.
-use Rattle.std.specs.Prelude.{[], ◌++◌, ℕ, ◌+◌}
-use Rattle.rules.specs.Prelude.{Reader, choose, Operation, plus, less, Context, hole, app_left, app_right, in_proj}
-use Rattle.rules.specs.Prelude.{in_inj, pair_left, pair_right, in_protect, in_case, reckon_left, reckon_right, Bytes}
-use Rattle.rules.specs.Prelude.{full_record, script_record, object_record, encode, size, weight}
+use Rattle.std.specs.Prelude.{[], ◌++◌, ℕ, ◌+◌, max}
+use Rattle.calculus.specs.Security.{Reader}
+use Rattle.calculus.specs.Terms.{choose, Operation, plus, less}
+use Rattle.calculus.specs.Reduction.{Context, hole, app_left, app_right, in_proj, in_inj, pair_left, pair_right}
+use Rattle.calculus.specs.Reduction.{in_protect, in_case, reckon_left, reckon_right}
+use Rattle.rules.specs.Answer.{Bytes}
+use Rattle.rules.specs.Script.{full_record, script_record, object_record, encode, size, weight, depth}
 use Rattle.records.specs.Kinds as kinds
 
 -- the record of a sum or of a comparison

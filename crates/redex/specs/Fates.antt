@@ -1,10 +1,13 @@
 -- What becomes of a node once its evaluated operands are values, apart from what it contracts to.
 use Rattle.std.specs.Prelude.{Bool, true, false, if◌then◌else◌, ◌&&◌, ℕ, zero}
 use Rattle.std.proofs.Math.Option.{Option, none, some}
-use Rattle.rules.specs.Prelude.{Property, Reader, Security, sum, product, function, Ty, leaf, node, equal_formers, top}
-use Rattle.rules.specs.Prelude.{exists, Side, first, choose, Term, var, unit, lam, pair, inj, app, proj, case, protect}
-use Rattle.rules.specs.Prelude.{mu, literal, reckon, is_value, substitute, raise_value, Literal, literal_of, of_both}
-use Rattle.rules.specs.Prelude.{reckon_result, unrolled_function, built_by}
+use Rattle.calculus.specs.Security.{Property, Reader, Security}
+use Rattle.calculus.specs.Types.{sum, product, function, Ty, leaf, node, equal_formers, top, exists}
+use Rattle.calculus.specs.Terms.{Side, first, choose, Term, var, unit, lam, pair, inj, app, proj, case, protect, mu}
+use Rattle.calculus.specs.Terms.{literal, reckon, is_value, substitute, raise_value}
+use Rattle.calculus.specs.Numbers.{Literal, literal_of, of_both, reckon_result}
+use Rattle.calculus.specs.Reduction.{unrolled_function, Outcome, moved, denied, stuck}
+use Rattle.calculus.specs.Stuck.{built_by}
 use Rattle.records.specs.Operands.{first_operand, second_operand}
 
 -- the groups of a record that names a reader only; unnamed fields are 0

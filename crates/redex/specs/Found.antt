@@ -1,7 +1,12 @@
 -- What the search for the redex of a term reports.
 use Rattle.std.specs.Prelude.{◌≡◌, Bool, false, if◌then◌else◌, ◌||◌, ℕ, ◌+◌, ◌≤◌, nat_eq, IsTrue}
-use Rattle.rules.specs.Prelude.{Security, Ty, Term, is_value, Context, plug, denied, stuck, step, Bytes, depth_limit}
-use Rattle.rules.specs.Prelude.{kind, size, depth}
+use Rattle.calculus.specs.Security.{Security}
+use Rattle.calculus.specs.Types.{Ty}
+use Rattle.calculus.specs.Terms.{Term, is_value}
+use Rattle.calculus.specs.Reduction.{Context, plug, denied, stuck, step}
+use Rattle.rules.specs.Answer.{Bytes}
+use Rattle.rules.specs.Limits.{depth_limit}
+use Rattle.rules.specs.Script.{kind, size, depth}
 use Rattle.records.specs.Kinds as kinds
 use Rattle.records.specs.Operands.{first_operand, second_operand}
 use Rattle.records.specs.Place.{At}

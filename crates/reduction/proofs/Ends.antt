@@ -1,15 +1,22 @@
 -- How a step ends, from what the search and the count say; and a step's answer to the questions.
-use Rattle.std.proofs.Common.{◌≡◌, ◌∙◌, Result, Ok, Err, ap, true, false, [], ℕ, arith}
-use Rattle.rules.specs.Prelude.{Security, Ty, Term, moved, step, Bytes, Answer, accepted, refused, ◌>>◌, properties_of}
-use Rattle.rules.specs.Prelude.{type_at, records, term, End, at_value, moves, may_not, wrong_kind, too_big, exceeds}
-use Rattle.rules.specs.Prelude.{end_of_outcome, step_in, step_report, script_check, step_call, written_after}
+use Rattle.std.proofs.Common.{◌≡◌, refl, sym, ◌∙◌, Result, Ok, Err, ap, true, false, [], ℕ, subst as transport, arith}
+use Rattle.calculus.specs.Security.{Security}
+use Rattle.calculus.specs.Types.{Ty}
+use Rattle.calculus.specs.Terms.{Term}
+use Rattle.calculus.specs.Reduction.{moved, step}
+use Rattle.rules.specs.Answer.{Bytes, Answer, accepted, refused, ◌>>◌}
+use Rattle.rules.specs.Groups.{properties_of}
+use Rattle.rules.specs.Types.{type_at}
+use Rattle.rules.specs.Script.{records, term}
+use Rattle.rules.specs.Step.{End, at_value, moves, may_not, wrong_kind, too_big, exceeds, end_of_outcome, step_in}
+use Rattle.rules.specs.Calls.{step_report, script_check, step_call, front_after, written_after}
 use Rattle.redex.specs.Found.{Site, Finds, finds_redex}
 use Rattle.redex.specs.declared.Found.TheVariants.{Value, Redex, Denied, Stuck}
 use Rattle.redex.proofs.Searches.{finds_step}
 use Rattle.answer.specs.Numbers.{question_number}
 use Rattle.answer.specs.declared.Refusal.{Refusal}
-use Rattle.reduction.specs.Steps.{step_records}
-use Rattle.reduction.specs.Steps.{report_of_step, said_step}
+use Rattle.reduction.specs.Steps.{step_records, Foresees, foresees_step, foresees_stop, next_step_records, report_of_step, said_step}
+use Rattle.reduction.specs.declared.NextStep.{NextStep}
 use Rattle.reduction.specs.declared.Stop.{Stop}
 
 module _ {S : Security} {tab : ℕ → Ty} {e : Term} where
@@ -46,7 +53,8 @@ Keeps s old e o = (said_step (Err e) ≡ step_report s o) × (old ≡ written_af
 
 pub refused_keeps : (g t s old : Bytes) (room : ℕ) (e : Refusal) → refused (question_number e.question) e.place ≡ script_check [] g t s → Keeps s old e (step_call g t s room)
 unfolding step_call
-refused_keeps g t s old room e h = grind arith
+refused_keeps g t s old room e h =
+    transport (λ (c : Answer (Unit {0})). Keeps s old e (◌>>◌ c (accepted (step_in (properties_of g) (type_at t) room (term s))))) h (refl, refl)
 
 pub passed_step : (g t s : Bytes) (room : ℕ) → script_check [] g t s ≡ accepted tt
     → step_call g t s room ≡ accepted (step_in (properties_of g) (type_at t) room (term s))

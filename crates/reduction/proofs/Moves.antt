@@ -1,10 +1,14 @@
 -- A preview's answer and a move's: to the questions, 35 among them, and of the planned step.
 use Rattle.std.proofs.Common.{◌≡◌, refl, sym, ap, ◌∙◌, cond, [], ℕ, ◌+◌, min, nat_eq, length, Result, Ok, Err}
 use Rattle.std.proofs.Common.{subst as transport, arith}
-use Rattle.rules.specs.Prelude.{Bytes, Answer, accepted, refused, ◌>>=◌, ◌>>◌, properties_of, type_at, records, term}
-use Rattle.rules.specs.Prelude.{End, at_value, end_count, step_in, StepReport, script_check, step_call, step_report}
-use Rattle.rules.specs.Prelude.{written_after, Preview, preview_call, move_call, largest_steps, steps_with, moved_steps}
+use Rattle.rules.specs.Answer.{Bytes, Answer, accepted, refused, ◌>>=◌, ◌>>◌}
+use Rattle.rules.specs.Groups.{properties_of}
+use Rattle.rules.specs.Types.{type_at}
+use Rattle.rules.specs.Script.{records, term}
 use Rattle.rules.specs.Step as rules
+use Rattle.rules.specs.Step.{End, at_value, end_count, step_in}
+use Rattle.rules.specs.Calls.{StepReport, script_check, step_call, step_report, written_after}
+use Rattle.rules.specs.Preview.{Preview, q35, preview_call, move_call, largest_steps, steps_with, moved_steps}
 use Rattle.promises.proofs.Answers.{accepted_inj}
 use Rattle.promises.proofs.Preview.{preview_then_move}
 use Rattle.answer.specs.Numbers.{question_number}
@@ -16,6 +20,7 @@ use Rattle.reduction.specs.Previews.{preview_of, said_preview, said_move, said_s
 use Rattle.reduction.specs.declared.StepReport.{StepReport as Reported}
 use Rattle.reduction.specs.declared.Previewed.{Previewed}
 use Rattle.reduction.specs.declared.Moved.{Moved}
+use Rattle.reduction.proofs.Ends.{made_report, passed_step}
 use Rattle.std.proofs.Common.{arith}
 
 -- a reports the step that ended x, in a script of `own` records
@@ -62,7 +67,9 @@ module _ (g t s : Bytes) where
   pub move_refused : (old : Bytes) (v : Preview) (e : Refusal) → refused (question_number e.question) e.place ≡ script_check [] g t s
       → Says s v old (move_call g t s (length old) v) (Err e) old
   unfolding move_call moved_steps step_call
-  move_refused old v e h = grind arith
+  move_refused old v e h =
+      transport (λ (c : Answer (Unit {0})). Says s v old (◌>>=◌ (◌>>◌ c (accepted (ended (length old)))) (λ x. ◌>>◌ (q35 v (records s) x) (accepted x))) (Err e) old)
+      h (refl, refl, refl)
 
   module _ (passed : script_check [] g t s ≡ accepted tt) where
     -- a preview of the reported step

@@ -3,8 +3,12 @@ use Rattle.std.proofs.Common.{◌≡◌, refl, sym, ◌∙◌, subst, true, ℕ,
 use Rattle.std.proofs.Math.Bool.{false≢true}
 use Rattle.std.proofs.Math.Decide.{dec_lt}
 use Rattle.std.proofs.Math.Option.{Option, none, some}
-use Rattle.rules.specs.Prelude.{Lattice, Bytes, first_below, group_limit, leq, in_both_rows, join, or_zero, groups_of}
-use Rattle.rules.proofs.Prelude.{and_right, found}
+use Rattle.calculus.specs.Groups.{Lattice}
+use Rattle.calculus.proofs.Booleans.{and_right}
+use Rattle.rules.specs.Answer.{Bytes, first_below}
+use Rattle.rules.specs.Limits.{group_limit}
+use Rattle.rules.specs.Groups.{leq, in_both_rows, join, or_zero, groups_of}
+use Rattle.rules.proofs.Search.{found}
 use Rattle.contraction.specs.Order.{InOrder}
 
 -- no common bit is before the join

@@ -1,10 +1,20 @@
 -- What a script that can be stepped is: one whole term within the limits, formed over tables that have passed.
 use Rattle.std.proofs.Common.{◌≡◌, sym, ap, ◌∙◌, List, [], ℕ, suc, ◌+◌, ◌≤◌, ◌<◌, arith, subst as transport, IsTrue}
-use Rattle.rules.specs.Prelude.{Property, Reader, one, sum, leaf, top, size_t, first, second, less, Term, reckon, side}
-use Rattle.rules.specs.Prelude.{Bytes, Octets, accepted, table_limit, type_count, type_at, q8, records, sum_of_units}
-use Rattle.rules.specs.Prelude.{ok16, q16, encode, term, types_check, groups_check, own_check, script_check}
-use Rattle.rules.proofs.Prelude.{and_then, few_types, Standing, left_side, right_side, r_at, ir_at, c_at, ic_at}
-use Rattle.rules.proofs.Prelude.{UnitSum, each_all, ok16_record, Named, named}
+use Rattle.calculus.specs.Security.{Property, Reader}
+use Rattle.calculus.specs.Types.{one, sum, leaf, top, size_t}
+use Rattle.calculus.specs.Terms.{first, second, less, Term, reckon}
+use Rattle.calculus.specs.Numbers.{side}
+use Rattle.rules.specs.Answer.{Bytes, Octets, accepted}
+use Rattle.rules.specs.Limits.{table_limit}
+use Rattle.rules.specs.Types.{type_count, type_at, q8}
+use Rattle.rules.specs.Script.{records, sum_of_units, ok16, q16, encode, term}
+use Rattle.rules.specs.Calls.{types_check, groups_check, own_check, script_check}
+use Rattle.rules.proofs.Asked.{and_then, few_types}
+use Rattle.rules.proofs.TypePlaces.{Standing, left_side, right_side, r_at, ir_at, c_at, ic_at}
+use Rattle.rules.proofs.UnitSums.{UnitSum}
+use Rattle.rules.proofs.Search.{each_all}
+use Rattle.rules.proofs.RecordFields.{ok16_record}
+use Rattle.rules.proofs.NodeFacts.{Named, named}
 use Rattle.promises.proofs.Tables.{Tables}
 use Rattle.promises.proofs.TypesTable.{tables}
 use Rattle.promises.proofs.Checked.{Fit, script_passed}
@@ -60,7 +70,9 @@ formed_startable {g} {t} s p o types X e F h =
     record { groups = p; script = o; passed = ap (script_check [] g t) (sym h) ∙ fit_passes g t types X e F }
 
 pub startable : (rooms : List ℕ) (g t s : Bytes) → Octets g → Octets s → script_check rooms g t s ≡ accepted tt → Startable g t s
-startable rooms g t s p o h = grind (arith, passed_started, formed_startable, tables)
+startable rooms g t s p o h =
+    let q = passed_started rooms g t s p o h in
+    formed_startable s p o q.types q.tables (term s) q.fit q.encoded
 
 -- the groups of a type are those of its record
 groups_of_type : (t : Bytes) (i : ℕ) → Standing t i → type_property t i ≡ top (type_at t i)

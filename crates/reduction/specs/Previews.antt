@@ -1,7 +1,9 @@
 -- A preview and the move that takes it back, in the words of the rules.
 use Rattle.std.specs.Prelude.{◌≡◌, if◌then◌else◌, ◌&&◌, ℕ, ◌+◌, min, nat_eq, length, Result, Ok, Err}
-use Rattle.rules.specs.Prelude.{Bytes, Answer, accepted, refused, ask, End, StepReport, step_call, step_report}
-use Rattle.rules.specs.Prelude.{written_after, Preview, preview_call, largest_steps, moved_steps}
+use Rattle.rules.specs.Answer.{Bytes, Answer, accepted, refused, ask}
+use Rattle.rules.specs.Step.{End}
+use Rattle.rules.specs.Calls.{StepReport, step_call, step_report, written_after}
+use Rattle.rules.specs.Preview.{Preview, preview_call, largest_steps, moved_steps}
 use Rattle.promises.specs.Preview.{PreviewThenMove}
 use Rattle.answer.specs.Numbers.{question_number}
 use Rattle.answer.specs.declared.Refusal.{Refusal}

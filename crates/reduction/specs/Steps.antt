@@ -1,8 +1,14 @@
 -- One step: what it is given, and what it reports.
 use Rattle.std.specs.Prelude.{◌≡◌, [], ℕ, ◌+◌, ◌*◌, ◌≤◌, Option, None, Some, Result, Ok, Err}
-use Rattle.rules.specs.Prelude.{Term, plug, Bytes, Octets, Answer, accepted, refused, script_width, properties_of}
-use Rattle.rules.specs.Prelude.{type_at, term, size, End, at_value, moves, may_not, wrong_kind, too_big, step_in}
-use Rattle.rules.specs.Prelude.{StepReport, script_check}
+use Rattle.calculus.specs.Terms.{Term}
+use Rattle.calculus.specs.Reduction.{plug}
+use Rattle.rules.specs.Answer.{Bytes, Octets, Answer, accepted, refused}
+use Rattle.rules.specs.Limits.{script_width}
+use Rattle.rules.specs.Groups.{properties_of}
+use Rattle.rules.specs.Types.{type_at}
+use Rattle.rules.specs.Script.{term, size}
+use Rattle.rules.specs.Step.{End, at_value, moves, may_not, wrong_kind, too_big, step_in}
+use Rattle.rules.specs.Calls.{StepReport, script_check}
 use Rattle.answer.specs.Numbers.{question_number}
 use Rattle.answer.specs.declared.Refusal.{Refusal}
 use Rattle.redex.specs.Fates.{contractum}

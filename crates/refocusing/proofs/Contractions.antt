@@ -1,9 +1,15 @@
 -- The contractum in the place of its redex: what stands on both sides of the gap, and where evaluation goes on.
 use Rattle.std.proofs.Common.{◌≡◌, sym, ap, ap₂, ◌∙◌, [], ◌++◌, append-nil, ℕ, ◌+◌, ◌*◌, ◌≤◌, ◌<◌, arith, length, Some}
 use Rattle.std.proofs.Common.{subst as transport, IsTrue}
-use Rattle.rules.specs.Prelude.{Security, Term, protect, is_value, raise_value, Context, plug, Bytes, Octets}
-use Rattle.rules.specs.Prelude.{script_width, properties_of, type_at, encode, size, depth}
-use Rattle.rules.proofs.Prelude.{raised_stands, octets_append, octets_drop, octets_take}
+use Rattle.calculus.specs.Security.{Security}
+use Rattle.calculus.specs.Terms.{Term, protect, is_value, raise_value}
+use Rattle.calculus.specs.Reduction.{Context, plug}
+use Rattle.calculus.proofs.Values.{raised_stands}
+use Rattle.rules.specs.Answer.{Bytes, Octets}
+use Rattle.rules.specs.Limits.{script_width}
+use Rattle.rules.specs.Groups.{properties_of}
+use Rattle.rules.specs.Types.{type_at}
+use Rattle.rules.specs.Script.{encode, size, depth}
 use Rattle.records.specs.Place.{At}
 use Rattle.records.specs.Labels.{influence_at}
 use Rattle.records.proofs.Made.{influence_stands}
@@ -11,7 +17,8 @@ use Rattle.records.proofs.Stands.{at_first}
 use Rattle.redex.specs.Contexts.{before, after, offset, level}
 use Rattle.redex.specs.Fates.{reduces, is_potential_redex, fate, contractum}
 use Rattle.redex.proofs.Places.{groups_at, reader_at}
-use Rattle.redex.proofs.Plugs.{plug_bytes, plug_size, plug_depths, before_is}
+use Rattle.redex.proofs.Plugs.{plug_bytes, plug_size, plug_depth, before_is}
+use Rattle.rules.proofs.Octets.{octets_append, octets_drop, octets_take}
 use Rattle.memory.specs.Splice.{splice}
 use Rattle.substitution.proofs.Reading.{term_length}
 use Rattle.contraction.specs.Plans.{Fires, Planned, protection}
@@ -65,7 +72,7 @@ module _ {g t : Bytes} {room budget : ℕ} {whole : Term} {E : Context} {e : Ter
         let z = ap size is in
         let y = ap depth is in
         let n : size (plug E new) ≤ size (plug E e) = omega (arith, z, s, plug_size E new, plug_size E e) in
-        let m : depth (plug E new) ≤ depth (plug E e) = omega (arith, y, d, (plug_depths E e new).1, (plug_depths E e e).0) in
+        let m : depth (plug E new) ≤ depth (plug E e) = omega (arith, y, d, plug_depth E new, plug_depth E e) in
         let put : a' ≡ splice (script_width * offset E) (encode new) a =
         w ∙ ap (λ (i : ℕ). splice (script_width * i) (encode c) a) at_is ∙ ap (λ (c : Term). splice (script_width * offset E) (encode c) a) (sym is) in
         let g' = put_back q.gap new (omega (arith, left, at_is, z)) (omega (arith, left, ends_at_gap, s)) right put in

@@ -2,8 +2,12 @@
 -- moves.
 use Rattle.std.proofs.Common.{◌≡◌, ap, [], ◌++◌, append_assoc, append-nil, ℕ, ◌+◌, ◌*◌, ◌≤◌, arith, length, take, drop}
 use Rattle.std.proofs.Common.{length-append, length-drop, length-take-le, take-append-drop, take_at, drop_at, take-take}
-use Rattle.rules.specs.Prelude.{Term, Context, plug, Bytes, Octets, script_width, encode, size}
-use Rattle.rules.proofs.Prelude.{octets_append, octets_drop, octets_take}
+use Rattle.calculus.specs.Terms.{Term}
+use Rattle.calculus.specs.Reduction.{Context, plug}
+use Rattle.rules.specs.Answer.{Bytes, Octets}
+use Rattle.rules.specs.Limits.{script_width}
+use Rattle.rules.specs.Script.{encode, size}
+use Rattle.rules.proofs.Octets.{octets_append, octets_drop, octets_take}
 use Rattle.memory.specs.Splice.{splice}
 use Rattle.memory.proofs.Laws.{length_splice}
 use Rattle.records.specs.Place.{At}
@@ -30,10 +34,11 @@ module _ {E : Context} {x y : Bytes} {p : Point} {a b : Bytes} (g : Gap E x y p 
 
   -- the bytes on both sides are those of the whole term
   pub whole_bytes : (e : Term) → x ++ y ≡ encode e → take (script_width * p.left) a ++ drop (script_width * p.right) b ≡ encode (plug E e)
-  whole_bytes e h = grind (arith, plug_bytes, append_assoc, g.front, g.back)
+  whole_bytes e h = rw (g.front, g.back, plug_bytes E e, ← h) (simp append_assoc)
 
   pub whole_octets : (e : Term) → x ++ y ≡ encode e → Octets a → Octets b → Octets (encode (plug E e))
-  whole_octets e h oa ob = grind (arith, whole_bytes, octets_append, octets_take, octets_drop)
+  whole_octets e h oa ob =
+      rw (← whole_bytes e h) (octets_append (take (script_width * p.left) a) (drop (script_width * p.right) b) (octets_take (script_width * p.left) a oa) (octets_drop (script_width * p.right) b ob))
 
   -- what is passed stands at the record after those before the hole
   pub at_left : (e : Term) (rest : Bytes) → x ≡ encode e ++ rest → At a (offset E) e

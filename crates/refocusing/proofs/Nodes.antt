@@ -4,8 +4,14 @@
 use Rattle.std.proofs.Common.{◌≡◌, refl, sym, ap, subst, ◌∙◌, [], ◌++◌, append_assoc, append-nil, ℕ, ◌+◌, ◌*◌, ◌≤◌}
 use Rattle.std.proofs.Common.{arith, take, drop, length-drop, take_at, drop_at, take-append-drop, IsTrue}
 use Rattle.std.proofs.Math.Seq.{drop-append-le, take-append-le}
-use Rattle.rules.specs.Prelude.{Term, is_value, Context, plug, Bytes, script_width, encode, size}
-use Rattle.rules.proofs.Prelude.{compose, encode_length, unique, term_code, term_prefix, term_head}
+use Rattle.calculus.specs.Terms.{Term, is_value}
+use Rattle.calculus.specs.Reduction.{Context, plug}
+use Rattle.calculus.proofs.Contexts.{compose}
+use Rattle.rules.specs.Answer.{Bytes}
+use Rattle.rules.specs.Limits.{script_width}
+use Rattle.rules.specs.Script.{encode, size}
+use Rattle.rules.proofs.PrefixLaws.{encode_length, unique}
+use Rattle.rules.proofs.TermCode.{term_code, term_prefix, term_head}
 use Rattle.records.specs.declared.Kind.{Kind}
 use Rattle.records.specs.declared.Kind.TheVariants.{FirstInjection, SecondInjection, FirstProjection, SecondProjection}
 use Rattle.records.specs.declared.Kind.TheVariants.{Case, Protect}
@@ -80,7 +86,14 @@ Twofolds k =
     (k ≡ FirstInjection → ⊥) × (k ≡ SecondInjection → ⊥) × (k ≡ FirstProjection → ⊥) × (k ≡ SecondProjection → ⊥) × (k ≡ Case → ⊥) × (k ≡ Protect → ⊥)
 
 pub twofold : {k : Kind} (e : Term) → Twofolds k → kind_number k ≡ kind_of e → Twofold e
-twofold {k} e t is = grind (arith, same_kind)
+twofold {k} e t is = (
+  λ h. t.0 (same_kind k FirstInjection (is ∙ h)),
+  λ h. t.1 (same_kind k SecondInjection (is ∙ h)),
+  λ h. t.2 (same_kind k FirstProjection (is ∙ h)),
+  λ h. t.3 (same_kind k SecondProjection (is ∙ h)),
+  λ h. t.4 (same_kind k Case (is ∙ h)),
+  λ h. t.5 (same_kind k Protect (is ∙ h)),
+)
 
 pub two : {s : Bytes} {i next : ℕ} {k : Kind} {e : Term} → Twofolds k → FirstValue s i k e next → Second e
 two {e = e} t f = second_position e f.own.evaluates (twofold e t f.own.kind_is) f.value

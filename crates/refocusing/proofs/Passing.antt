@@ -3,11 +3,19 @@
 use Rattle.std.proofs.Common.{◌≡◌, sym, ap, subst, ◌∙◌, ◌++◌, append_assoc, ℕ, ◌+◌, ◌-◌, ◌*◌, ◌≤◌, arith, length, take}
 use Rattle.std.proofs.Common.{drop, length-append, length-take, length-drop, length-take-le, take_at, drop_at}
 use Rattle.std.proofs.Common.{drop-drop, take-append-drop}
-use Rattle.rules.specs.Prelude.{Term, Context, plug, Bytes, script_width, depth_limit, encode, size, depth}
-use Rattle.rules.proofs.Prelude.{compose, plug_compose, encode_length, term_encode, term_code}
+use Rattle.calculus.specs.Terms.{Term}
+use Rattle.calculus.specs.Reduction.{Context, plug}
+use Rattle.calculus.proofs.Contexts.{compose, plug_compose}
+use Rattle.rules.specs.Answer.{Bytes}
+use Rattle.rules.specs.Limits.{script_width, depth_limit}
+use Rattle.rules.specs.Script.{encode, size, depth}
+use Rattle.rules.proofs.PrefixLaws.{encode_length}
+use Rattle.rules.proofs.Scripts.{term_encode}
+use Rattle.rules.proofs.TermCode.{term_code}
 use Rattle.records.specs.Place.{At}
+use Rattle.memory.specs.Splice.{splice}
 use Rattle.redex.specs.Contexts.{before, after, offset, level}
-use Rattle.redex.proofs.Plugs.{plug_bytes, plug_size, plug_depths, before_length, compose_sums}
+use Rattle.redex.proofs.Plugs.{plug_bytes, plug_size, plug_depth, before_length, after_length, compose_offset}
 use Rattle.redex.proofs.Forms.{Position}
 use Rattle.reduction.proofs.Starts.{started}
 use Rattle.refocusing.specs.Focus.{RunReaches, Stands}
@@ -57,8 +65,8 @@ module _ {g t : Bytes} {room budget : ℕ} {whole : Term} {E : Context} {e : Ter
   roomy q k l =
       let m : script_width * p.left + (length b - script_width * p.right) ≡ script_width * size (plug E e) =
       omega (arith, simp (length-append, length-take, length-drop) at (ap length q.holds), q.inside_a, encode_length term_code (plug E e)) in (
-        omega (arith, m, q.left_is, q.inside_b, plug_size E e),
-        omega (arith, q.left_is, plug_size E e, q.reached.fits),
+        omega (arith, m, q.left_is, q.inside_b, plug_size E e, after_length E),
+        omega (arith, q.left_is, plug_size E e, after_length E, q.reached.fits),
       )
 
   -- the term that comes next
@@ -94,7 +102,7 @@ module _ {g t : Bytes} {room budget : ℕ} {whole : Term} {E : Context} {e : Ter
       record {
         reached = subst (λ x. RunReaches g t room budget whole x p.steps) w s.reached;
         holds = s.holds ∙ ap encode w;
-        left_is = omega (arith, s.left_is, q.from, (compose_sums E q.context).0);
+        left_is = omega (arith, s.left_is, q.from, compose_offset E q.context);
         inside_a = s.inside_a;
         inside_b = s.inside_b;
       }
@@ -107,11 +115,11 @@ module _ {g t : Bytes} {room budget : ℕ} {whole : Term} {E : Context} {e : Ter
       record {
         reached = subst (λ x. RunReaches g t room budget whole x p.steps) w s.reached;
         holds = s.holds ∙ ap encode w;
-        left_is = omega (arith, s.left_is, q.from, (compose_sums E q.context).0);
+        left_is = omega (arith, s.left_is, q.from, compose_offset E q.context);
         inside_a = s.inside_a;
         inside_b = s.inside_b;
       }
 
   -- the term in focus is not too deep
   pub shallow : {n : ℕ} → Passed g t room budget whole E e n p a b → level E + depth e ≤ depth_limit
-  shallow q = omega (arith, (started q.reached.start).fit.shallow, ap depth (term_encode (plug E e)), (plug_depths E e e).0)
+  shallow q = omega (arith, (started q.reached.start).fit.shallow, ap depth (term_encode (plug E e)), plug_depth E e)

@@ -1,15 +1,21 @@
 -- A redex that lies left, in its whole term: what its contractum is counted and written by.
 use Rattle.std.proofs.Common.{◌≡◌, sym, ap, ◌∙◌, false, ◌||◌, [], append-nil, ℕ, ◌+◌, ◌-◌, ◌/◌, ◌≤◌, arith, nat_lt}
 use Rattle.std.proofs.Common.{length, subst as transport}
-use Rattle.rules.specs.Prelude.{Term, Context, plug, Bytes, script_width, script_limit, depth_limit, properties_of}
-use Rattle.rules.specs.Prelude.{type_at, encode, term, size, records, exceeds}
-use Rattle.rules.proofs.Prelude.{term_encode}
+use Rattle.calculus.specs.Terms.{Term}
+use Rattle.calculus.specs.Reduction.{Context, plug}
+use Rattle.rules.specs.Answer.{Bytes}
+use Rattle.rules.specs.Limits.{script_width, script_limit, depth_limit}
+use Rattle.rules.specs.Groups.{properties_of}
+use Rattle.rules.specs.Types.{type_at}
+use Rattle.rules.specs.Script.{encode, term, size, records}
+use Rattle.rules.specs.Step.{exceeds}
+use Rattle.rules.proofs.Scripts.{term_encode}
 use Rattle.promises.proofs.Steps.{within_limits}
 use Rattle.records.specs.Place.{At}
 use Rattle.redex.specs.Contexts.{offset, level}
 use Rattle.redex.specs.Fates.{contractum}
 use Rattle.redex.specs.Found.{Site}
-use Rattle.redex.proofs.Plugs.{plug_size}
+use Rattle.redex.proofs.Plugs.{plug_size, after_length}
 use Rattle.memory.specs.Written.{Room}
 use Rattle.memory.specs.declared.Writer.{Writer}
 use Rattle.substitution.specs.declared.Size.{Size}
@@ -79,20 +85,22 @@ module _ {g t : Bytes} {at around : ℕ} {plan : Plan} {p : Point} {a b : Bytes}
   few m = omega (arith, m.records, contractum_few (properties_of g) (type_at t) plan (ready q.contracts))
 
   total : {m : Size} {n : ℕ} → Measures new m → n ≡ records b → at + m.records + (n - p.right) ≡ size (plug E new)
-  total m n = omega (arith, m.records, n, q.at_is, right_size q.gap, plug_size E new)
+  total m n = omega (arith, m.records, n, q.at_is, right_size q.gap, after_length E, plug_size E new)
 
   -- what stands beside the redex
   pub few_beside : {n : ℕ} → n ≡ records b → at + (n - p.right) ≤ script_limit
   few_beside n =
       let w : size (plug E e) ≤ script_limit = omega (arith, (starts q.contracts).fit.small, ap size (term_encode (plug E e))) in
-      omega (arith, n, q.at_is, right_size q.gap, plug_size E e, w)
+      omega (arith, n, q.at_is, right_size q.gap, after_length E, plug_size E e, w)
 
   -- as the code asks it
   pub too_big_is : {m : Size} {n : ℕ} → Measures new m → n ≡ records b
       → (nat_lt script_limit (at + m.records + (n - p.right)) || (nat_lt (length b / script_width) (at + m.records + (n - p.right)) || nat_lt depth_limit (around + m.depth)))
       ≡ exceeds (length b) (plug E new)
-  too_big_is {m} {n} k h = rw q.around_is (exceeds_is (starts q.contracts) (site q.contracts) (length b) _ _ new (total k h) k.deep)
+  too_big_is {m} {n} k h =
+      ap (λ (d : ℕ). nat_lt script_limit (at + m.records + (n - p.right)) || (nat_lt (length b / script_width) (at + m.records + (n - p.right)) || nat_lt depth_limit (d + m.depth))) q.around_is
+      ∙ exceeds_is (starts q.contracts) (site q.contracts) (length b) _ _ new (total k h) k.deep
 
   -- What isn't too big fits between what stands before the redex and what comes next.
   pub makes_room : exceeds (length b) (plug E new) ≡ false → at + size new ≤ p.right
-  makes_room h = grind (arith, common_steps, within_limits, right_size, plug_size)
+  makes_room h = grind (arith, common_steps, within_limits, right_size, after_length, plug_size)

@@ -1,8 +1,14 @@
 -- The theorem of refocusing, from the step of a term in an evaluation context.
-use Rattle.std.proofs.Common.{◌≡◌, ◌∙◌, false, ℕ, suc, IsTrue, arith}
-use Rattle.rules.specs.Prelude.{Security, Ty, Term, is_value, Context, plug, Outcome, operand_first, step, moves}
-use Rattle.rules.specs.Prelude.{exceeds, step_in, one_step_more, run}
-use Rattle.rules.proofs.Prelude.{plug_step, step_value}
+use Rattle.std.proofs.Common.{◌≡◌, refl, sym, ◌∙◌, false, ℕ, suc, IsTrue, arith}
+use Rattle.std.proofs.lemmas.Bool.{false≢true}
+use Rattle.calculus.specs.Security.{Security}
+use Rattle.calculus.specs.Types.{Ty}
+use Rattle.calculus.specs.Terms.{Term, is_value}
+use Rattle.calculus.specs.Reduction.{Context, plug, Outcome, operand_first, step}
+use Rattle.calculus.proofs.Contexts.{plug_step}
+use Rattle.calculus.proofs.Reduction.{step_value}
+use Rattle.rules.specs.Step.{moves, exceeds, step_in}
+use Rattle.rules.specs.Run.{one_step_more, run}
 use Rattle.redex.specs.Fates.{reduces, is_potential_redex, fate, contractum}
 use Rattle.redex.proofs.Turns.{plug_moves}
 use Rattle.reduction.proofs.Ends.{ends_moved}

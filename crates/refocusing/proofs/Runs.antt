@@ -1,17 +1,28 @@
 -- A run goes on: what a step of the term in a context does to the run that is left of it, and how the run ends.
-use Rattle.std.proofs.Common.{◌≡◌, refl, sym, ap, ◌∙◌, true, false, cond, ◌++◌, ℕ, suc, ◌+◌, ◌-◌, ◌*◌, ◌≤◌, ◌<◌}
+use Rattle.std.proofs.Common.{◌≡◌, refl, sym, ap, ◌∙◌, Bool, true, false, cond, ◌++◌, ℕ, suc, ◌+◌, ◌-◌, ◌*◌, ◌≤◌, ◌<◌}
 use Rattle.std.proofs.Common.{arith, nat_lt, Option, Some, None, Err, subst as transport, lt-ltb, le-ltb, IsTrue}
 use Rattle.std.proofs.Math.Decide.{dec_lt}
-use Rattle.rules.specs.Prelude.{Security, Ty, Term, is_value, Context, plug, step, Bytes, Octets, script_width}
-use Rattle.rules.specs.Prelude.{properties_of, type_at, encode, size, depth, moves, exceeds, step_in, Ran, ends}
-use Rattle.rules.specs.Prelude.{one_step_more, run}
-use Rattle.rules.proofs.Prelude.{value_step, term_encode}
+use Rattle.calculus.specs.Security.{Security}
+use Rattle.calculus.specs.Types.{Ty}
+use Rattle.calculus.specs.Terms.{Term, is_value}
+use Rattle.calculus.specs.Reduction.{Context, plug, value, step}
+use Rattle.calculus.proofs.Outcomes.{within}
+use Rattle.calculus.proofs.Values.{value_step}
+use Rattle.rules.specs.Answer.{Bytes, Octets}
+use Rattle.rules.specs.Limits.{script_width}
+use Rattle.rules.specs.Groups.{properties_of}
+use Rattle.rules.specs.Types.{type_at}
+use Rattle.rules.specs.Script.{encode, size, depth}
+use Rattle.rules.specs.Step.{moves, exceeds, end_of_outcome, step_in, End}
+use Rattle.rules.specs.Run.{Ran, ends, one_step_more, run}
+use Rattle.rules.proofs.Scripts.{term_encode}
 use Rattle.promises.proofs.Checked.{Fit}
 use Rattle.promises.proofs.Steps.{limited_moves, within_limits, fit_moves}
-use Rattle.redex.specs.Fates.{reduces, is_potential_redex, fate}
+use Rattle.redex.specs.Fates.{Fate, reduces, not_permitted, no_rule as of_wrong_kind, is_potential_redex, fate}
 use Rattle.redex.specs.Fates.{contractum}
 use Rattle.redex.specs.Found.{answer}
 use Rattle.redex.proofs.Turns.{plug_turn, plug_moves}
+use Rattle.redex.proofs.FateOutcome.{fate_outcome}
 use Rattle.reduction.specs.declared.Stop.{Stop}
 use Rattle.reduction.specs.declared.Stop.TheVariants.{Value, TooBig}
 use Rattle.reduction.specs.Steps.{Startable, step_records, stop_number, reported_end}
@@ -81,10 +92,12 @@ module _ {g t : Bytes} {room budget : ℕ} {whole e : Term} {k : ℕ} (q : RunRe
   pub run_stopped : (stop : Stop) → k < budget → step_records (step_in S tab room e) ≡ Err stop → run S tab room budget whole ≡ later k (ends (reported_end (Some stop)) e)
   run_stopped stop l h =
       let z : budget - k ≡ suc (budget - (k + 1)) = omega arith in
-      rw (q.is, z, run_stops S tab room (budget - (k + 1)) e stop h)
+      q.is ∙ ap (λ (m : ℕ). later k (run S tab room m e)) z ∙ ap (later k) (run_stops S tab room (budget - (k + 1)) e stop h)
 
   pub run_at_budget : k ≡ budget → is_value e ≡ false → run S tab room budget whole ≡ later k (ends (reported_end None) e)
-  run_at_budget l h = let z : budget - k ≡ 0 = omega arith in rw (q.is, z, run_spent S tab room e h)
+  run_at_budget l h =
+      let z : budget - k ≡ 0 = omega arith in
+      q.is ∙ ap (λ (m : ℕ). later k (run S tab room m e)) z ∙ ap (later k) (run_spent S tab room e h)
 
   -- What is no larger and no deeper than a term that has room has room.
   pub smaller_fits : (e' : Term) → size e' ≤ size e → depth e' ≤ depth e → exceeds room e' ≡ false
@@ -93,13 +106,30 @@ module _ {g t : Bytes} {room budget : ℕ} {whole e : Term} {k : ℕ} (q : RunRe
 
 -- A node whose turn it is, in a context.
 module _ (S : Security) (tab : ℕ → Ty) (room : ℕ) (E : Context) (e : Term) (h : IsTrue (is_potential_redex e)) where
+  step_of : (x : Fate) → fate S tab e ≡ x → step S tab (plug E e) ≡ within (plug E) (fate_outcome x (contractum S tab e))
+  step_of x f = plug_turn S tab E e h ∙ ap (λ (x : Fate). within (plug E) (fate_outcome x (contractum S tab e))) f
+
   pub no_value : is_value (plug E e) ≡ false
-  no_value = grind (arith, value_step S tab (plug E e), plug_turn S tab E e h)
+  no_value = by (is_value (plug E e)) refl
+    where
+      moving : (x : Fate) → value ≡ within (plug E) (fate_outcome x (contractum S tab e)) → ⊥
+      moving reduces k = let z : ◌≡◌ {A = ℕ} 0 1 = cc in absurd (omega arith)
+      moving not_permitted k = let z : ◌≡◌ {A = ℕ} 0 1 = cc in absurd (omega arith)
+      moving of_wrong_kind k = let z : ◌≡◌ {A = ℕ} 0 1 = cc in absurd (omega arith)
+
+      by : (b : Bool) → is_value (plug E e) ≡ b → b ≡ false
+      by false v = refl
+      by true v = absurd (moving (fate S tab e) (sym (value_step S tab (plug E e) v) ∙ step_of (fate S tab e) refl))
 
   -- what is said of the node is said of the step
   pub turn_told : {stop : Stop} (i d : ℕ) → why_not (answer (fate S tab e) i d) ≡ Some stop → step_records (step_in S tab room (plug E e)) ≡ Err stop
   unfolding step_in
-  turn_told i d k = grind (arith, plug_turn S tab E e h)
+  turn_told {stop} i d k = by (fate S tab e) refl k
+    where
+      by : (x : Fate) → fate S tab e ≡ x → why_not (answer x i d) ≡ Some stop → step_records (end_of_outcome room (step S tab (plug E e))) ≡ Err stop
+      by reduces f k = absurd cc
+      by not_permitted f k = ap (λ o. step_records (end_of_outcome room o)) (step_of not_permitted f) ∙ cc
+      by of_wrong_kind f k = ap (λ o. step_records (end_of_outcome room o)) (step_of of_wrong_kind f) ∙ cc
 
   pub turn_goes : (i d : ℕ) → why_not (answer (fate S tab e) i d) ≡ None → fate S tab e ≡ reduces
   turn_goes i d k = grind arith

@@ -1,10 +1,12 @@
 -- A turn of the loop: what the focus tells, and what comes of it.
-use Rattle.std.proofs.Common.{◌≡◌, sym, subst, ◌∙◌, [], ℕ, ◌≤◌, ◌<◌, length, Result, Ok, Err, IsTrue, arith}
-use Rattle.rules.specs.Prelude.{Term, Context, Bytes, encode}
+use Rattle.std.proofs.Common.{◌≡◌, sym, ap, subst, ◌∙◌, [], ℕ, ◌≤◌, ◌<◌, length, Result, Ok, Err, IsTrue, arith}
+use Rattle.calculus.specs.Terms.{Term}
+use Rattle.calculus.specs.Reduction.{Context}
+use Rattle.rules.specs.Answer.{Bytes}
+use Rattle.rules.specs.Script.{encode}
 use Rattle.redex.specs.Contexts.{offset, level}
 use Rattle.redex.specs.Fates.{is_potential_redex}
-use Rattle.refocusing.specs.Focus.{Stands, Standing, FocusTurn, Focused, focus_ahead, focus_turn, left_to_do, Advances}
-use Rattle.refocusing.specs.Focus.{Settled, settled_at_value, run_ended}
+use Rattle.refocusing.specs.Focus.{Stands, Standing, FocusTurn, Focused, focus_ahead, focus_turn, left_to_do, Advances, still_running, has_ended, Settled, settled_at_value, run_ended}
 use Rattle.refocusing.specs.declared.Point.{Point}
 use Rattle.refocusing.specs.declared.Focus.{Focus}
 use Rattle.refocusing.specs.declared.Focus.TheVariants.{Ahead, Turn, Value}
@@ -46,7 +48,10 @@ module _ {g t : Bytes} {room budget : ℕ} {whole : Term} {E : Context} {at m ar
 
   pub operates : {p : Point} {a' b' : Bytes} {r : Result Focus Ended} → f ≡ Ahead p → Operates g t budget around p a b a' b' r
       → Advances g t room budget whole E (left_to_do budget f) a' b' r
-  operates {p} {a'} {b'} {r} is h = grind (arith, back, focus_is)
+  operates {p} {a'} {b'} {r} is h = back is (by (focus_is is))
+    where
+      by : Focused g t (length b) budget whole E a b (Ahead p) → Advances g t (length b) budget whole E (left_to_do budget (Ahead p)) a' b' r
+      by (focus_ahead e s) = h whole E e s deep
 
   pub stands_turn : {p : Point} → f ≡ Turn p → length a ≡ length b → FocusTurn g t budget at around p a b
   stands_turn {p} is l = by (focus_is is)
@@ -56,7 +61,10 @@ module _ {g t : Bytes} {room budget : ℕ} {whole : Term} {E : Context} {at m ar
 
   pub contracts : {p : Point} {a' b' : Bytes} {r : Result Focus Ended} → f ≡ Turn p → Contracts g t budget at around p a b a' b' r
       → Advances g t room budget whole E (left_to_do budget f) a' b' r
-  contracts {p} {a'} {b'} {r} is h = grind (arith, back, focus_is)
+  contracts {p} {a'} {b'} {r} is h = back is (by (focus_is is))
+    where
+      by : Focused g t (length b) budget whole E a b (Turn p) → Advances g t (length b) budget whole E (left_to_do budget (Turn p)) a' b' r
+      by (focus_turn e y s) = h whole E e y s q.at_is deep
 
 module _ {g t : Bytes} {room budget : ℕ} {whole : Term} {E : Context} {m : ℕ} {a b : Bytes} {r : Result Focus Ended}
     (x : Advances g t room budget whole E m a b r) where
@@ -64,9 +72,12 @@ module _ {g t : Bytes} {room budget : ℕ} {whole : Term} {E : Context} {m : ℕ
   advanced {f} is = grind arith
 
   pub advanced_end : {n : ℕ} {s : Result Point Ended} {y z : Ended} → r ≡ Err z → s ≡ Err y → y ≡ z → Settled g t room budget whole E n a b s
-  advanced_end is p q = grind (arith, run_ended)
+  advanced_end {n} {s} {y} {z} is p q = subst (λ s. Settled g t room budget whole E n a b s) (sym (p ∙ ap Err q)) (by (subst (λ r. Advances g t room budget whole E m a b r) is x))
+    where
+      by : Advances g t room budget whole E m a b (Err z) → Settled g t room budget whole E n a b (Err z)
+      by (has_ended h) = run_ended h
 
 -- the loop ends at a value
 pub settled : {g t : Bytes} {room budget : ℕ} {whole : Term} {E : Context} {at m : ℕ} {a b : Bytes} {f : Focus} {p : Point}
     → Going g t room budget whole E at m a b f → f ≡ Value p → left_to_do budget (Value p) < m → Settled g t room budget whole E m a b (Ok p)
-settled q is l = grind (arith, settled_at_value, q.focused)
+settled {g} {t} {room} {budget} {whole} {E} {a = a} {b = b} q is l = settled_at_value (subst (λ f. Focused g t room budget whole E a b f) is q.focused) l

@@ -2,7 +2,11 @@
 use Rattle.std.proofs.Common.{◌≡◌, refl, ◌++◌, ℕ, ◌+◌, ◌*◌, ◌≤◌, arith, length, take, drop, length-take-le, take_at}
 use Rattle.std.proofs.Common.{drop_at, drop-drop}
 use Rattle.std.proofs.Math.Seq.{drop-append-le}
-use Rattle.rules.specs.Prelude.{Indirect, Term, protect, Bytes, script_width, encode, size}
+use Rattle.calculus.specs.Security.{Indirect}
+use Rattle.calculus.specs.Terms.{Term, protect}
+use Rattle.rules.specs.Answer.{Bytes}
+use Rattle.rules.specs.Limits.{script_width}
+use Rattle.rules.specs.Script.{encode, size}
 use Rattle.memory.specs.Splice.{splice}
 use Rattle.memory.proofs.Laws.{take_before, join_before}
 use Rattle.records.specs.Place.{At}

@@ -1,26 +1,31 @@
 -- What is known of the term in focus at each stage of its passing, and what comes of it: its operands are settled in
 -- turn, a branch is passed as it is, and then it is a value or it is its turn.
-use Rattle.records.proofs.Stands.{stands_kind}
-use Rattle.std.proofs.Common.{◌≡◌, refl, sym, ap, subst, ◌∙◌, [], append-nil, ℕ, ◌+◌, ◌*◌, ◌≤◌, ◌<◌, ◌⊎◌}
+use Rattle.std.proofs.Common.{◌≡◌, refl, sym, ap, subst, ◌∙◌, [], append-nil, ℕ, ◌+◌, ◌*◌, ◌≤◌, ◌<◌, ◌⊎◌, inl, inr}
 use Rattle.std.proofs.Common.{arith, length, Result, Ok, Err, IsTrue}
-use Rattle.rules.specs.Prelude.{Term, is_value, Context, plug, Bytes, script_width, kind, encode, size}
-use Rattle.rules.proofs.Prelude.{compose, encode_length, term_code}
+use Rattle.calculus.specs.Terms.{Term, is_value}
+use Rattle.calculus.specs.Reduction.{Context, plug}
+use Rattle.calculus.proofs.Contexts.{compose}
+use Rattle.rules.specs.Answer.{Bytes}
+use Rattle.rules.specs.Limits.{script_width}
+use Rattle.rules.specs.Script.{kind, encode, size}
+use Rattle.rules.proofs.PrefixLaws.{encode_length}
+use Rattle.rules.proofs.TermCode.{term_code}
 use Rattle.records.specs.Kinds as kinds
 use Rattle.records.specs.Place.{At}
 use Rattle.records.specs.Operands.{first_operand, second_operand}
+use Rattle.records.proofs.Made.{by_kind}
 use Rattle.records.proofs.Stands.{kind_of, operands, at_second, at_third}
 use Rattle.memory.specs.Splice.{splice}
 use Rattle.redex.specs.Contexts.{after, level}
 use Rattle.redex.specs.Fates.{is_potential_redex}
-use Rattle.redex.proofs.Plugs.{compose_sums}
+use Rattle.redex.proofs.Plugs.{compose_level}
 use Rattle.redex.proofs.Forms.{Position, alone_value, function_value, OfOne}
-use Rattle.redex.proofs.Stages.{Opened, is_kind}
+use Rattle.redex.proofs.Stages.{kind_read, Opened, is_kind}
 use Rattle.records.specs.Numbers.{kind_number}
 use Rattle.records.specs.declared.Kind.{Kind}
 use Rattle.records.specs.declared.Kind.TheVariants.{Unit, Function, Literal, Protect, FirstProjection, SecondProjection}
 use Rattle.records.proofs.ThirdOperand.{third_operand}
-use Rattle.refocusing.specs.Focus.{Stands, Standing, Focused, focus_value, focus_turn, left_to_do, EndedRun, Advances}
-use Rattle.refocusing.specs.Focus.{still_running, has_ended, Settled}
+use Rattle.refocusing.specs.Focus.{Stands, Standing, Focused, focus_value, focus_turn, left_to_do, EndedRun, Advances, still_running, has_ended, Settled, settled_at_value, run_ended}
 use Rattle.refocusing.specs.declared.Point.{Point}
 use Rattle.refocusing.specs.declared.Focus.{Focus}
 use Rattle.refocusing.specs.declared.Focus.TheVariants.{Ahead, Turn, Value}
@@ -63,7 +68,7 @@ module _ {g t : Bytes} {room budget : ℕ} {whole : Term} {E : Context} {e : Ter
     here = stands [] (encode z) (entered (subst (λ r. Passed g t r budget whole E e n p a b) (sym same) s) q) refl refl
 
     deeper : around ≡ level (compose E q.context)
-    deeper = omega (arith, deep, q.under, (compose_sums E q.context).1)
+    deeper = omega (arith, deep, q.under, compose_level E q.context)
 
     -- an operand that comes next, and is evaluated
     pub operand_stands : length a ≡ room → Standing g t budget around p a b
@@ -78,7 +83,9 @@ module _ {g t : Bytes} {room budget : ℕ} {whole : Term} {E : Context} {e : Ter
 
     pub operand_settles : {a' b' : Bytes} {r : Result Point Ended} → Settles g t budget around p a b a' b' r
         → Settled g t room budget whole (compose E q.context) (left_to_do budget (Ahead p)) a' b' r
-    operand_settles {a'} {b'} {r} f = grind (arith, compose, here, deeper)
+    operand_settles {a'} {b'} {r} f =
+        subst (λ n. Settled g t n budget whole (compose E q.context) (left_to_do budget (Ahead p)) a' b' r) same
+        (f whole (compose E q.context) z here deeper)
 
   -- a term that is passed
   pub comes_to_value : {m : ℕ} → n ≡ size e → IsTrue (is_value e) → left_to_do budget (Value p) < m → Advances g t room budget whole E m a b (Ok (Value p))
@@ -94,11 +101,15 @@ module _ {g t : Bytes} {room budget : ℕ} {whole : Term} {E : Context} {m : ℕ
   settled_value {p = p} s h = grind arith
 
   pub settled_end : {r : Result Point Ended} {x : Ended} → Settled g t room budget whole E m a b r → r ≡ Err x → EndedRun g t room budget whole a b x
-  settled_end s h = grind arith
+  settled_end {x = x} s h = by (subst (λ r. Settled g t room budget whole E m a b r) h s)
+    where
+      by : Settled g t room budget whole E m a b (Err x) → EndedRun g t room budget whole a b x
+      by (run_ended z) = z
 
 pub ends_so : {g t : Bytes} {room budget : ℕ} {whole : Term} {E : Context} {m : ℕ} {a b : Bytes} {r : Result Focus Ended} {x y : Ended} → r ≡ Err x → x ≡ y
     → EndedRun g t room budget whole a b y → Advances g t room budget whole E m a b r
-ends_so p q h = grind (arith, has_ended)
+ends_so {g} {t} {room} {budget} {whole} {E} {m} {a} {b} p q h =
+    subst (λ r. Advances g t room budget whole E m a b r) (sym (p ∙ ap Err q)) (has_ended h)
 
 -- a node of one operand, and a case
 abbrev pub Unary : ℕ → Type 0
@@ -109,7 +120,9 @@ unfolding size
 unary_size e n = grind arith
 
 pub unary_of_one : {n : ℕ} → Unary n → OfOne n
-unary_of_one h = grind arith
+unary_of_one (inl h) = inl h
+unary_of_one (inr (inl h)) = inr (inl h)
+unary_of_one (inr (inr h)) = inr (inr (inl h))
 
 case_operands : (e : Term) → kind_of e ≡ kinds.case
     → (3 ≤ operands e) × (size e ≡ 1 + size (first_operand e) + size (second_operand e) + size (third_operand e))
@@ -118,10 +131,14 @@ case_operands e h = grind arith
 
 -- the kinds that are values as they stand
 pub lone_value : {s : Bytes} {i : ℕ} {k : Kind} {e : Term} → kind_number k ≡ kind s i → At s i e → (k ≡ Unit) ⊎ ((k ≡ Literal) ⊎ (k ≡ Function)) → IsTrue (is_value e)
-lone_value {s} {i} {k} {e} is a h = grind (arith, stands_kind s i e a, alone_value, function_value)
+lone_value is a (inl h) = (alone_value _ (inl (kind_read is a h))).0
+lone_value is a (inr (inl h)) = (alone_value _ (inr (kind_read is a h))).0
+lone_value is a (inr (inr h)) = function_value _ (kind_read is a h)
 
 pub unary_read : {s : Bytes} {i : ℕ} {k : Kind} {e : Term} → Opened s i k e → (k ≡ Protect) ⊎ ((k ≡ FirstProjection) ⊎ (k ≡ SecondProjection)) → Unary (kind_of e)
-unary_read o h = grind (arith, is_kind)
+unary_read o (inl h) = inl (is_kind o h)
+unary_read o (inr (inl h)) = inr (inl (is_kind o h))
+unary_read o (inr (inr h)) = inr (inr (is_kind o h))
 
 -- the branches of a case
 pub record Branches (s : Bytes) (next : ℕ) (e : Term) : Type 0 where

@@ -1,6 +1,13 @@
 -- The step of a node that lies left: what its pieces are given, and what they leave.
 use Rattle.std.specs.Prelude.{◌≡◌, true, false, [], ℕ, ◌+◌, ◌*◌, length, Option, Some, None, IsTrue}
-use Rattle.rules.specs.Prelude.{Term, Context, plug, Bytes, script_width, properties_of, type_at, encode, size, exceeds}
+use Rattle.calculus.specs.Terms.{Term}
+use Rattle.calculus.specs.Reduction.{Context, plug}
+use Rattle.rules.specs.Answer.{Bytes}
+use Rattle.rules.specs.Limits.{script_width}
+use Rattle.rules.specs.Groups.{properties_of}
+use Rattle.rules.specs.Types.{type_at}
+use Rattle.rules.specs.Script.{encode, size}
+use Rattle.rules.specs.Step.{exceeds}
 use Rattle.memory.specs.Splice.{splice}
 use Rattle.records.specs.Place.{At}
 use Rattle.redex.specs.Contexts.{offset, level}

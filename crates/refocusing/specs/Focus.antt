@@ -1,7 +1,13 @@
 -- A run that goes on from the term in focus: how far it has come, and what stands where.
 use Rattle.std.specs.Prelude.{◌≡◌, [], ◌++◌, ℕ, ◌+◌, ◌-◌, ◌*◌, ◌≤◌, ◌<◌, length, take, drop, Result, Ok, Err, IsTrue}
-use Rattle.rules.specs.Prelude.{Term, is_value, Context, plug, Bytes, script_width, properties_of, type_at, encode}
-use Rattle.rules.specs.Prelude.{size, Ran, ends, run}
+use Rattle.calculus.specs.Terms.{Term, is_value}
+use Rattle.calculus.specs.Reduction.{Context, plug}
+use Rattle.rules.specs.Answer.{Bytes}
+use Rattle.rules.specs.Limits.{script_width}
+use Rattle.rules.specs.Groups.{properties_of}
+use Rattle.rules.specs.Types.{type_at}
+use Rattle.rules.specs.Script.{encode, size}
+use Rattle.rules.specs.Run.{Ran, ends, run}
 use Rattle.redex.specs.Contexts.{offset, level}
 use Rattle.redex.specs.Fates.{is_potential_redex}
 use Rattle.reduction.specs.Steps.{Startable, reported_end}

@@ -1,6 +1,8 @@
 -- A term in two buffers: what stands before the gap is the front of a, what stands after it the end of b.
 use Rattle.std.specs.Prelude.{◌≡◌, ◌++◌, ◌*◌, ◌≤◌, length, take, drop}
-use Rattle.rules.specs.Prelude.{Context, Bytes, script_width}
+use Rattle.calculus.specs.Reduction.{Context}
+use Rattle.rules.specs.Answer.{Bytes}
+use Rattle.rules.specs.Limits.{script_width}
 use Rattle.redex.specs.Contexts.{before, after}
 use Rattle.refocusing.specs.declared.Point.{Point}
 

@@ -1,7 +1,12 @@
 -- How the gap moves, and how a step is made in place: what these are given, and what they leave.
 use Rattle.std.specs.Prelude.{◌≡◌, ℕ, ◌+◌, ◌*◌, ◌≤◌, length, IsTrue}
-use Rattle.rules.specs.Prelude.{Term, is_value, Context, Bytes, script_width, properties_of, type_at, size}
-use Rattle.rules.specs.Script.{records as record_count}
+use Rattle.calculus.specs.Terms.{Term, is_value}
+use Rattle.calculus.specs.Reduction.{Context}
+use Rattle.rules.specs.Answer.{Bytes}
+use Rattle.rules.specs.Limits.{script_width}
+use Rattle.rules.specs.Groups.{properties_of}
+use Rattle.rules.specs.Types.{type_at}
+use Rattle.rules.specs.Script.{records as record_count, size}
 use Rattle.memory.specs.Splice.{splice}
 use Rattle.records.specs.Place.{At}
 use Rattle.redex.specs.Fates.{contractum}

@@ -1,7 +1,11 @@
 -- Refocusing: evaluation continues from the contractum, and that is the step from the root.
 use Rattle.std.specs.Prelude.{◌≡◌, false, ℕ, suc, IsTrue}
-use Rattle.rules.specs.Prelude.{Security, Ty, Term, is_value, Context, plug, Outcome, operand_first, step, moves}
-use Rattle.rules.specs.Prelude.{exceeds, step_in, one_step_more, run}
+use Rattle.calculus.specs.Security.{Security}
+use Rattle.calculus.specs.Types.{Ty}
+use Rattle.calculus.specs.Terms.{Term, is_value}
+use Rattle.calculus.specs.Reduction.{Context, plug, Outcome, operand_first, step}
+use Rattle.rules.specs.Step.{moves, exceeds, step_in}
+use Rattle.rules.specs.Run.{one_step_more, run}
 use Rattle.redex.specs.Fates.{reduces, is_potential_redex, fate, contractum}
 
 -- That the step may be made where evaluation stands.

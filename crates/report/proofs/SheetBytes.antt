@@ -1,11 +1,22 @@
 -- A sheet's bytes are below 256, if the table's and the script's are.
 use Rattle.std.proofs.Common.{◌≡◌, ℕ, zero, suc, ◌≤◌, ◌<◌, Bool, true, false, cond, min, subst, ltb-true, refl, sym, []}
 use Rattle.std.proofs.Common.{◌∷◌, arith}
-use Rattle.rules.specs.Prelude.{Property, first, second, Term, unit, lam, pair, inj, literal, Bytes, Octets, accepted}
-use Rattle.rules.specs.Prelude.{group_limit, rows, leq, properties_of, q2, type_at, encode, term, shown_record}
-use Rattle.rules.specs.Prelude.{sheet_record, sheet, End, moves, step_in, Ran, run, q25, q26, q27, groups_check}
-use Rattle.rules.specs.Prelude.{types_check, script_check, run_call, sheet_call}
-use Rattle.rules.proofs.Prelude.{and_left, and_then, few_rows, octets_append, term_encode}
+use Rattle.calculus.specs.Security.{Property}
+use Rattle.calculus.specs.Terms.{first, second, Term, var, unit, lam, pair, inj, app, proj, case, protect, mu, literal}
+use Rattle.calculus.specs.Terms.{reckon}
+use Rattle.calculus.proofs.Booleans.{and_left}
+use Rattle.rules.specs.Answer.{Bytes, Octets, accepted}
+use Rattle.rules.specs.Limits.{group_limit}
+use Rattle.rules.specs.Groups.{rows, leq, properties_of, q2}
+use Rattle.rules.specs.Types.{type_at}
+use Rattle.rules.specs.Script.{encode, term}
+use Rattle.rules.specs.Sheet.{shown_record, sheet_record, sheet}
+use Rattle.rules.specs.Step.{End, at_value, moves, may_not, wrong_kind, too_big, step_in}
+use Rattle.rules.specs.Run.{Ran, run}
+use Rattle.rules.specs.Calls.{q25, q26, q27, groups_check, types_check, script_check, run_call, sheet_call}
+use Rattle.rules.proofs.Asked.{and_then, few_rows}
+use Rattle.rules.proofs.Octets.{octets_append}
+use Rattle.rules.proofs.Scripts.{term_encode}
 use Rattle.promises.proofs.Answers.{accepted_inj}
 use Rattle.promises.proofs.Formed.{Secure, Formed}
 use Rattle.promises.proofs.Tables.{Tables}

@@ -4,15 +4,22 @@ use Rattle.std.proofs.Common.{take, drop, refl, sym, ap, ◌∙◌, arith, lengt
 use Rattle.std.proofs.Math.Option.{Option, none, some}
 use Rattle.std.proofs.lemmas.Bool.{leb-true, ne_eqb}
 use Rattle.std.proofs.lemmas.List.{take_at}
-use Rattle.rules.specs.Prelude.{Ty, size_t, Bytes, Octets, Answer, accepted, refused, script_width, sheet_width}
-use Rattle.rules.specs.Prelude.{script_limit, report_budget, report_buffer, report_sheet, rows, encode, term, size}
-use Rattle.rules.specs.Prelude.{sheet, Ran, zeros, q25, q26, q27, script_check, type_records, run_call, Report}
-use Rattle.rules.specs.Prelude.{run_report, first_after, sheet_call, sheet_records, sheet_after, verdict, refusal_line}
-use Rattle.rules.specs.Prelude.{accepted_line, run_line, sheet_line, sheet_lines, sheet_text, value_text, run_text}
-use Rattle.rules.specs.Prelude.{checked_text, script_text, after_words, our_words, report, words_check}
+use Rattle.calculus.specs.Types.{Ty, size_t}
+use Rattle.rules.specs.Answer.{Bytes, Octets, Answer, accepted, refused}
+use Rattle.rules.specs.Limits.{script_width, sheet_width, script_limit, report_budget, report_buffer, report_sheet}
+use Rattle.rules.specs.Groups.{rows}
+use Rattle.rules.specs.Script.{encode, term, size}
+use Rattle.rules.specs.Sheet.{sheet}
+use Rattle.rules.specs.Run.{Ran}
+use Rattle.rules.specs.Calls.{zeros, q25, q26, q27, script_check, type_records, run_call, Report, run_report}
+use Rattle.rules.specs.Calls.{first_after, sheet_call, sheet_records, sheet_after}
+use Rattle.rules.specs.Reach.{verdict}
+use Rattle.rules.specs.Report.{refusal_line, accepted_line, run_line, sheet_line, sheet_lines, sheet_text, value_text}
+use Rattle.rules.specs.Report.{run_text, checked_text, script_text, after_words, our_words, report}
+use Rattle.rules.specs.Words.{words_check}
 use Rattle.promises.proofs.Answers.{accepted_inj}
 use Rattle.promises.proofs.Checked.{Fit}
-use Rattle.rules.proofs.Prelude.{ask_true, and_then}
+use Rattle.rules.proofs.Asked.{ask_true, and_then}
 use Rattle.substitution.proofs.Reading.{term_length}
 use Rattle.packing.proofs.Exported.{run_ends}
 use Rattle.memory.specs.Written.{Written}

@@ -2,7 +2,7 @@
 use Rattle.std.specs.Prelude.{Option, Some, None}
 use Rattle.std.specs.Borrow.{Bor}
 use Rattle.std.proofs.Math.Option as math
-use Rattle.rules.specs.Prelude.{Bytes}
+use Rattle.rules.specs.Answer.{Bytes}
 
 -- the bytes of a file, or none
 abbrev pub file : Option (Bor Bytes) → math.Option Bytes

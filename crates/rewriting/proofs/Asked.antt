@@ -2,11 +2,15 @@
 use Rattle.std.proofs.Common.{◌≡◌, refl, sym, ap, ◌∙◌, Bool, true, ◌&&◌, [], ℕ, ◌*◌, ◌/◌, ◌%◌, ◌≤◌, leb-true, nat_eq}
 use Rattle.std.proofs.Common.{nat_le, length, take, drop, take_at, arith}
 use Rattle.std.proofs.Math.Bool.{and-eq-true_iff}
-use Rattle.rules.specs.Prelude.{Bytes, Answer, accepted, refused, ◌>>◌, ask, old_records, type_width, script_width}
-use Rattle.rules.specs.Prelude.{old_type_width, old_script_width, table_limit, script_limit, q13_of, widen_types}
-use Rattle.rules.specs.Prelude.{widen_script, old_types_check, old_script_check, rewriting_types, rewriting_script}
-use Rattle.rules.specs.Prelude.{rewritten_records, rewritten_after}
-use Rattle.rules.proofs.Prelude.{widen_types_length, widen_script_length, ask_true, and_then, old_type_count}
+use Rattle.rules.specs.Answer.{Bytes, Answer, accepted, refused, ◌>>◌, ask}
+use Rattle.rules.proofs.Widening.{widen_types_length, widen_script_length}
+use Rattle.rules.specs.Callers.{old_records}
+use Rattle.rules.specs.Limits.{type_width, script_width, old_type_width, old_script_width, table_limit, script_limit}
+use Rattle.rules.specs.Script.{q13_of}
+use Rattle.rules.specs.Rewriting.{widen_types, widen_script, old_types_check, old_script_check, rewriting_types}
+use Rattle.rules.specs.Rewriting.{rewriting_script, rewritten_records, rewritten_after}
+use Rattle.rules.proofs.Asked.{ask_true, and_then}
+use Rattle.rules.proofs.OldTables.{old_type_count}
 use Rattle.memory.specs.Splice.{splice}
 use Rattle.memory.proofs.Laws.{splice_front}
 use Rattle.rewriting.specs.HandsOver.{HandsOver}

@@ -4,9 +4,10 @@ use Rattle.std.proofs.Common.{suc, ◌+◌, ◌*◌, ◌-◌, ◌/◌, ◌≤◌
 use Rattle.std.proofs.Common.{set, take-append-drop}
 use mir.Val.{bool_byte}
 use Rattle.std.proofs.Math.Seq.{set-get_or, get_or-drop}
-use Rattle.rules.specs.Prelude.{Bytes, byte, recursion_of_type, caller, first_number, put_callers, count_callers}
-use Rattle.rules.specs.Prelude.{write_callers_of, callers_written_of}
-use Rattle.rules.proofs.Prelude.{record_at}
+use Rattle.rules.specs.Answer.{Bytes, byte}
+use Rattle.rules.specs.Callers.{recursion_of_type, caller, first_number, put_callers, count_callers, write_callers_of}
+use Rattle.rules.specs.Callers.{callers_written_of}
+use Rattle.rules.proofs.Prefix.{record_at}
 use Rattle.rewriting.specs.Caller.{record_number_at, recursion_at, caller_at, WrittenAt}
 use Rattle.rewriting.proofs.SetByte.{set_up_to, set_past}
 

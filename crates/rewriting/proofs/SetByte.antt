@@ -1,8 +1,9 @@
 -- A byte set in record i of a list of records, whatever their width.
-use Rattle.std.proofs.Common.{◌≡◌, ◌∙◌, ◌++◌, ℕ, ◌+◌, ◌*◌, ◌<◌, arith, take, drop, set, take-add}
+use Rattle.std.proofs.Common.{◌≡◌, ap, ◌∙◌, ◌++◌, ℕ, ◌+◌, ◌*◌, ◌<◌, arith, take, drop, set, take-add}
+use Rattle.std.proofs.Math.Nat.{mul-add, mul-one}
 use Rattle.std.proofs.Math.Seq.{take-set-le, take-set-lt, drop-set-add}
-use Rattle.rules.specs.Prelude.{Bytes}
-use Rattle.rules.proofs.Prelude.{record_at}
+use Rattle.rules.specs.Answer.{Bytes}
+use Rattle.rules.proofs.Prefix.{record_at}
 use Rattle.std.proofs.lemmas.Grind.{common_steps}
 
 module _ (width : ℕ) (s : Bytes) (i j v : ℕ) (within : j < width) where

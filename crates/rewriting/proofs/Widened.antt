@@ -2,9 +2,13 @@
 use Rattle.std.proofs.Common.{◌≡◌, refl, sym, ap, ap₂, ◌∙◌, [], ◌∷◌, ◌++◌, append_assoc, ℕ, zero, suc, ◌+◌, ◌*◌, ◌-◌}
 use Rattle.std.proofs.Common.{◌≤◌, ◌<◌, arith, length, take, drop, length-append, length-drop, drop-drop}
 use Rattle.std.proofs.Common.{length-take-le, take_at, drop_at}
-use Rattle.rules.specs.Prelude.{Bytes, old_type_width, old_script_width, office_width, office_records, first_six}
-use Rattle.rules.specs.Prelude.{nameless, old_records, widen_types, widen_script}
-use Rattle.rules.proofs.Prelude.{widen_script_first, old_type_count}
+use Rattle.rules.specs.Answer.{Bytes}
+use Rattle.rules.specs.Limits.{old_type_width, old_script_width, office_width}
+use Rattle.rules.specs.Office.{office_records, first_six, nameless}
+use Rattle.rules.proofs.Widening.{widen_script_first}
+use Rattle.rules.specs.Callers.{old_records}
+use Rattle.rules.specs.Rewriting.{widen_types, widen_script}
+use Rattle.rules.proofs.OldTables.{old_type_count}
 use Rattle.memory.specs.Splice.{splice}
 use Rattle.memory.proofs.Laws.{length_splice, join_after, splice_none}
 use Rattle.rewriting.specs.Widened.{widened_records}

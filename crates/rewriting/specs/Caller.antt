@@ -1,6 +1,7 @@
 -- One record of a script, as the callers are written: records of any width, over types of any width.
 use Rattle.std.specs.Prelude.{◌≡◌, Bool, ℕ, ◌+◌, ◌*◌, set}
-use Rattle.rules.specs.Prelude.{Bytes, byte, recursion_of_type, caller}
+use Rattle.rules.specs.Answer.{Bytes, byte}
+use Rattle.rules.specs.Callers.{recursion_of_type, caller}
 
 -- the number of record i, where records have this width
 abbrev pub record_number_at : ℕ → Bytes → ℕ → ℕ

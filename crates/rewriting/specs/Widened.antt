@@ -1,6 +1,7 @@
 -- Records of an earlier form, whatever their width: the first bytes of each, with group 0 as c and ic after them.
 use Rattle.std.specs.Prelude.{[], ◌∷◌, ◌++◌, ℕ, zero, suc, take, drop}
-use Rattle.rules.specs.Prelude.{Bytes, Answer, accepted, ◌>>◌, q27}
+use Rattle.rules.specs.Answer.{Bytes, Answer, accepted, ◌>>◌}
+use Rattle.rules.specs.Calls.{q27}
 
 -- the first n of them, of `width` bytes each, of which `kept` are in the present form
 unfoldable pub widened_records : ℕ → ℕ → ℕ → Bytes → Bytes

@@ -1,8 +1,14 @@
 -- What an accepted question says, and when a question is accepted.
-use Rattle.std.proofs.Common.{◌≡◌, Bool, true, ℕ, ◌≤◌, arith}
-use Rattle.std.proofs.Math.Option.{some, Option}
-use Rattle.rules.specs.Prelude.{Bytes, Answer, accepted, ask, ◌>>◌, ◌⇒◌, group_limit, table_limit, rows, q2, type_count}
-use Rattle.rules.specs.Prelude.{q8, exactly}
+use Rattle.std.proofs.Common.{◌≡◌, refl, ap, Bool, true, false, ◌&&◌, ℕ, ◌%◌, ◌≤◌, arith, eqb-true, leb-true, nat_eq}
+use Rattle.std.proofs.Common.{nat_le, length}
+use Rattle.std.proofs.Math.Option.{none, some, Option}
+use Rattle.std.proofs.Math.Bool.{false≢true}
+use Rattle.calculus.proofs.Booleans.{and_right}
+use Rattle.rules.specs.Answer.{Bytes, Answer, accepted, ask, ◌>>◌, ◌⇒◌}
+use Rattle.rules.specs.Limits.{group_limit, table_limit}
+use Rattle.rules.specs.Groups.{rows, q2}
+use Rattle.rules.specs.Types.{type_count, q8}
+use Rattle.rules.specs.Script.{exactly}
 
 pub ask_true : (q p : ℕ) (b : Bool) → ask q p b ≡ accepted tt → b ≡ true
 ask_true q p b e = grind arith

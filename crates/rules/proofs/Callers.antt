@@ -1,12 +1,14 @@
 -- What writing the callers does to each byte of a script: byte 1 of a recursion of a type is r of that type, and every
 -- other byte stays.
-use Rattle.std.proofs.Common.{◌≡◌, refl, ◌∙◌, Bool, cond, [], ◌∷◌, ℕ, zero, suc, ◌+◌, ◌*◌, ◌≤◌}
-use Rattle.std.proofs.Common.{◌<◌, arith, zero-add, length, take, drop, set, length-append, length-drop}
+use Rattle.std.proofs.Common.{◌≡◌, refl, ap, sym, ◌∙◌, Bool, true, false, cond, [], ◌∷◌, ℕ, zero, suc, ◌+◌, ◌*◌, ◌≤◌}
+use Rattle.std.proofs.Common.{◌<◌, arith, zero-add, length, take, drop, set, length-append, length-drop, get_or-drop}
 use Rattle.std.proofs.Common.{get_or-take, length-take-le}
 use Rattle.std.proofs.Math.ListN.{get_or-append}
-use Rattle.std.proofs.lemmas.List.{get_or-set_same, get_or-set_other, length-set}
-use Rattle.rules.specs.Prelude.{Bytes, byte, Octets, old_type_width, old_script_width, old_records, old_r}
-use Rattle.rules.specs.Prelude.{recursion_of_type, caller, first_number, put_callers, write_callers}
+use Rattle.std.proofs.lemmas.List.{get_or-append-add, get_or-set_same, get_or-set_other, length-set}
+use Rattle.std.proofs.Math.Nat.{mul-add, mul-one}
+use Rattle.rules.specs.Answer.{Bytes, byte, Octets}
+use Rattle.rules.specs.Limits.{old_type_width, old_script_width}
+use Rattle.rules.specs.Callers.{old_records, old_r, recursion_of_type, caller, first_number, put_callers, write_callers}
 use Rattle.rules.proofs.Octets.{octets_append, octets_take, octets_drop}
 use Rattle.std.proofs.lemmas.Grind.{common_steps}
 
@@ -35,7 +37,9 @@ module _ (type_bytes width : ℕ) (wide : 6 ≤ width) (t : Bytes) where
   pub put_length : (n : ℕ) (s : Bytes) → width * n ≤ length s → length (put n s) ≡ length s
   unfolding put_callers
   put_length zero s l = refl
-  put_length (suc n) s l = grind (arith, common_steps, length-append, front_length, later, length-drop, next_record, put_length n (drop width s) (later n s l))
+  put_length (suc n) s l =
+      length-append (front s) (put n (drop width s))
+      ∙ omega (arith, front_length n s l, put_length n (drop width s) (later n s l), length-drop width s, next_record width n)
 
   -- a byte of a later record
   put_later : (n : ℕ) (s : Bytes) (i m : ℕ) → width * suc n ≤ length s → byte (put (suc n) s) (width * suc i + m) ≡ byte (put n (drop width s)) (width * i + m)
@@ -62,7 +66,8 @@ module _ (type_bytes width : ℕ) (wide : 6 ≤ width) (t : Bytes) where
   -- byte 1
   pub put_r : (n : ℕ) (s : Bytes) (i : ℕ) → width * n ≤ length s → i < n → byte (put n s) (width * i + 1) ≡ caller_of type_bytes width t s i
   put_r zero s i l a = absurd (omega arith)
-  put_r (suc n) s (suc i) l a = grind (arith, common_steps, put_later, later, was_first, was_later, put_r n (drop width s) i (later n s l) (omega arith))
+  put_r (suc n) s (suc i) l a =
+      put_later n s i 1 l ∙ put_r n (drop width s) i (later n s l) (omega arith) ∙ rw (was_first s i, was_later s i 1, was_later s i 4, was_later s i 5) refl
   put_r (suc n) s zero l a = grind (arith, at_front, get_or-set_same, length-take-le, next_record, zero-add)
 
 -- The same of a whole script.

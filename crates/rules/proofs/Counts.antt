@@ -1,15 +1,17 @@
 -- The numbers that questions 18 and 19 give to records, depths and counts of binders, are a code of their own: a term
 -- together with its number is a tree, whose records are one number wide. So each record's number is that of its node.
-use Rattle.std.proofs.lemmas.Grind.{common_steps}
 use Rattle.std.proofs.Common.{◌≡◌, refl, ap, sym, ◌∙◌, List, [], ◌∷◌, ◌++◌, append-nil, ℕ, suc, ◌+◌, ◌*◌, ◌<◌, arith}
-use Rattle.std.proofs.Common.{length, get_or, if◌then◌else◌}
-use Rattle.rules.specs.Prelude.{Term, lam, pair, inj, app, proj, case, protect, mu, reckon, finds_own, Bytes}
-use Rattle.rules.specs.Prelude.{script_width, encode, size, weight, depths_from, binders_from}
+use Rattle.std.proofs.Common.{length, get_or, Bool, true, false, cond, if◌then◌else◌}
+use Rattle.calculus.specs.Terms.{Term, var, unit, lam, pair, inj, app, proj, case, protect, mu, literal, reckon}
+use Rattle.rules.specs.Answer.{Bytes, byte}
+use Rattle.rules.specs.Limits.{script_width}
+use Rattle.calculus.specs.Typing.{finds_own}
+use Rattle.rules.specs.Script.{encode, size, weight, depths_from, binders_from}
 use Rattle.rules.proofs.Prefix.{All, joined, total, Shape, Code, record_at}
 use Rattle.rules.proofs.Parts.{record_first}
 use Rattle.rules.proofs.PrefixLaws.{encode_length, alone}
 use Rattle.rules.proofs.Nodes.{NodeAt, Every, node_at, at_size, at_record}
-use Rattle.rules.proofs.TermCode.{term_shape, term_code, term_operands, term_head, term_induction}
+use Rattle.rules.proofs.TermCode.{term_shape, term_code, term_operands, term_head}
 
 -- the numbers of depths and of binders: one more, and the same
 abbrev pub up : ℕ → ℕ
@@ -42,22 +44,28 @@ abbrev pub unwidened : ℕ → ℕ → ℕ
 unwidened i n = n
 
 abbrev pub zip : {T : Type 0} → List ℕ → List T → List (ℕ × T)
+zip [] [] = []
+zip [] (e ∷ es) = []
+zip (m ∷ ms) [] = []
 zip (m ∷ ms) (e ∷ es) = (m, e) ∷ zip ms es
-zip _ _ = []
 
 zip_total : {T : Type 0} (f : T → ℕ) (ms : List ℕ) (es : List T) → length ms ≡ length es → total (λ p. f p.1) (zip ms es) ≡ total f es
 zip_total f [] [] h = refl
+zip_total f [] (e ∷ es) h = absurd (omega arith)
+zip_total f (m ∷ ms) [] h = absurd (omega arith)
 zip_total f (m ∷ ms) (e ∷ es) h = ap (λ n. f e + n) (zip_total f ms es (omega arith))
-zip_total f _ _ h = absurd (omega arith)
 
 zip_joined : {T : Type 0} (f : T → Bytes) (ms : List ℕ) (es : List T) → length ms ≡ length es → joined (λ p. f p.1) (zip ms es) ≡ joined f es
 zip_joined f [] [] h = refl
+zip_joined f [] (e ∷ es) h = absurd (omega arith)
+zip_joined f (m ∷ ms) [] h = absurd (omega arith)
 zip_joined f (m ∷ ms) (e ∷ es) h = ap (λ b. f e ++ b) (zip_joined f ms es (omega arith))
-zip_joined f _ _ h = absurd (omega arith)
 
 zip_all : {T : Type 0} (P : ℕ × T → Type 0) (ms : List ℕ) (es : List T) → All (λ e. (n : ℕ) → P (n, e)) es → All P (zip ms es)
+zip_all P [] [] h = tt
+zip_all P [] (e ∷ es) h = tt
+zip_all P (m ∷ ms) [] h = tt
 zip_all P (m ∷ ms) (e ∷ es) h = (h.0 m, zip_all P ms es h.1)
-zip_all P _ _ h = tt
 
 module _ (wide : ℕ → ℕ → ℕ) (deeper bound : ℕ → ℕ) where
   -- the operands' numbers
@@ -91,7 +99,16 @@ module _ (wide : ℕ → ℕ → ℕ) (deeper bound : ℕ → ℕ) where
 
   pub counts_is : (n : ℕ) (e : Term) → counts wide deeper bound n e ≡ n ∷ joined (λ (q : ℕ × Term). counts wide deeper bound q.0 q.1) (numbered (n, e))
   unfolding counts
-  counts_is n e = grind (arith, common_steps, append-nil)
+  counts_is n (lam k i e) = rw (append-nil (counts wide deeper bound (bound n) e))
+  counts_is n (pair k a b) = rw (append-nil (counts wide deeper bound (deeper n) b))
+  counts_is n (inj d k i e) = rw (append-nil (counts wide deeper bound (deeper n) e))
+  counts_is n (app w f a) = rw (append-nil (counts wide deeper bound (deeper n) a))
+  counts_is n (proj d w e) = rw (append-nil (counts wide deeper bound (deeper n) e))
+  counts_is n (case w i e a b) = rw (append-nil (counts wide deeper bound (bound (wide i n)) b))
+  counts_is n (protect m e) = rw (append-nil (counts wide deeper bound (deeper n) e))
+  counts_is n (mu w i e) = rw (append-nil (counts wide deeper bound (bound n) e))
+  counts_is n (reckon o w a b) = rw (append-nil (counts wide deeper bound (deeper n) b))
+  counts_is n _ = refl
 
   abbrev pub count_code : Code counted
   count_code =
@@ -148,15 +165,40 @@ module _ (wide : ℕ → ℕ → ℕ) (deeper bound : ℕ → ℕ) where
 
 -- what a case adds to its operands' depth
 pub wide_weight : (i n : ℕ) → suc (widened i n) ≡ n + weight i
-wide_weight i n = grind (arith, common_steps)
+wide_weight i n = go (finds_own i)
+  where
+    go : (b : Bool) → suc (cond b (suc n) n) ≡ n + cond b 2 1
+    go true = omega arith
+    go false = omega arith
 
 pub depths_counts : (n : ℕ) (e : Term) → depths_from n e ≡ counts widened up up n e
 unfolding depths_from counts
-depths_counts n e = term_induction (λ d. (m : ℕ) → depths_from m d ≡ counts widened up up m d) (λ d h m. grind (arith, wide_weight)) e n
+depths_counts n (lam k i e) = rw (depths_counts (suc n) e)
+depths_counts n (pair k a b) = rw (depths_counts (suc n) a, depths_counts (suc n) b)
+depths_counts n (inj d k i e) = rw (depths_counts (suc n) e)
+depths_counts n (app w f a) = rw (depths_counts (suc n) f, depths_counts (suc n) a)
+depths_counts n (proj d w e) = rw (depths_counts (suc n) e)
+depths_counts n (case w i e a b) =
+    let m = suc (widened i n) in
+    ap (λ j. n ∷ (depths_from j e ++ (depths_from j a ++ depths_from j b))) (sym (wide_weight i n))
+    ∙ rw (depths_counts m e, depths_counts m a, depths_counts m b)
+depths_counts n (protect m e) = rw (depths_counts (suc n) e)
+depths_counts n (mu w i e) = rw (depths_counts (suc n) e)
+depths_counts n (reckon o w a b) = rw (depths_counts (suc n) a, depths_counts (suc n) b)
+depths_counts n _ = refl
 
 pub binders_counts : (n : ℕ) (e : Term) → binders_from n e ≡ counts unwidened stay up n e
 unfolding binders_from counts
-binders_counts n e = term_induction (λ d. (m : ℕ) → binders_from m d ≡ counts unwidened stay up m d) (λ d h m. grind arith) e n
+binders_counts n (lam k i e) = rw (binders_counts (suc n) e)
+binders_counts n (pair k a b) = rw (binders_counts n a, binders_counts n b)
+binders_counts n (inj d k i e) = rw (binders_counts n e)
+binders_counts n (app w f a) = rw (binders_counts n f, binders_counts n a)
+binders_counts n (proj d w e) = rw (binders_counts n e)
+binders_counts n (case w i e a b) = rw (binders_counts n e, binders_counts (suc n) a, binders_counts (suc n) b)
+binders_counts n (protect m e) = rw (binders_counts n e)
+binders_counts n (mu w i e) = rw (binders_counts (suc n) e)
+binders_counts n (reckon o w a b) = rw (binders_counts n a, binders_counts n b)
+binders_counts n _ = refl
 
 pub depths_length : (n : ℕ) (e : Term) → length (depths_from n e) ≡ size e
 depths_length n e = ap length (depths_counts n e) ∙ counts_length widened up up n e

@@ -1,9 +1,9 @@
 -- Question 18 of an encoding: a term's depth is that of its deepest record.
-use Rattle.rules.proofs.TermCode.{term_induction}
-use Rattle.std.proofs.Common.{◌≡◌, ap, sym, subst, ◌∙◌, ℕ, suc, ◌+◌, ◌≤◌, ◌<◌, arith, leb-true}
-use Rattle.std.proofs.Common.{le-leb, get_or}
-use Rattle.rules.specs.Prelude.{Term, Bytes, accepted, depth_limit, weight, encode, size, records, term, depth, depths}
-use Rattle.rules.specs.Prelude.{ok18, q18}
+use Rattle.std.proofs.Common.{◌≡◌, ap, sym, subst, ◌∙◌, Bool, true, false, cond, ℕ, suc, ◌+◌, ◌≤◌, ◌<◌, arith, leb-true, le-leb, get_or}
+use Rattle.calculus.specs.Terms.{Term, var, unit, lam, pair, inj, app, proj, case, protect, mu, literal, reckon}
+use Rattle.rules.specs.Answer.{Bytes, accepted}
+use Rattle.rules.specs.Limits.{depth_limit}
+use Rattle.rules.specs.Script.{weight, encode, size, records, term, depth, depths, ok18, q18}
 use Rattle.rules.proofs.Search.{each_all, each_accepted}
 use Rattle.rules.proofs.Nodes.{Every, every_here, every_below, every_node}
 use Rattle.rules.proofs.Scripts.{records_encode, term_encode}
@@ -23,12 +23,40 @@ module _ (limit : ℕ) where
 
   lows_depth : (e : Term) (n : ℕ) → Lows n e → n + depth e ≤ suc limit
   unfolding depth
-  lows_depth = term_induction (λ e. (n : ℕ) → Lows n e → n + depth e ≤ suc limit) (λ e t n h. grind (arith, wide_weight, every_here, every_below))
+  lows_depth (var m) n h = omega (arith, every_here h)
+  lows_depth (unit k) n h = omega (arith, every_here h)
+  lows_depth (lam k i e) n h = omega (arith, lows_depth e (suc n) (every_below h).0)
+  lows_depth (pair k a b) n h = omega (arith, lows_depth a (suc n) (every_below h).0, lows_depth b (suc n) (every_below h).1.0)
+  lows_depth (inj d k i e) n h = omega (arith, lows_depth e (suc n) (every_below h).0)
+  lows_depth (app w f a) n h = omega (arith, lows_depth f (suc n) (every_below h).0, lows_depth a (suc n) (every_below h).1.0)
+  lows_depth (proj d w e) n h = omega (arith, lows_depth e (suc n) (every_below h).0)
+  lows_depth (case w i e a b) n h =
+      let m = suc (widened i n) in
+      omega
+      (arith, wide_weight i n, lows_depth e m (every_below h).0, lows_depth a m (every_below h).1.0, lows_depth b m (every_below h).1.1.0)
+  lows_depth (protect m e) n h = omega (arith, lows_depth e (suc n) (every_below h).0)
+  lows_depth (mu w i e) n h = omega (arith, lows_depth e (suc n) (every_below h).0)
+  lows_depth (literal k m) n h = omega (arith, every_here h)
+  lows_depth (reckon o w a b) n h = omega (arith, lows_depth a (suc n) (every_below h).0, lows_depth b (suc n) (every_below h).1.0)
 
   depth_lows : (e : Term) (n : ℕ) → n + depth e ≤ suc limit → Lows n e
   unfolding depth
-  depth_lows =
-      term_induction (λ e. (n : ℕ) → n + depth e ≤ suc limit → Lows n e) (λ e t n h. every_node (grind arith) (grind (arith, wide_weight, weighs)))
+  depth_lows (var m) n h = every_node (omega arith) tt
+  depth_lows (unit k) n h = every_node (omega arith) tt
+  depth_lows (lam k i e) n h = every_node (omega arith) (depth_lows e (suc n) (omega arith), tt)
+  depth_lows (pair k a b) n h = every_node (omega arith) (depth_lows a (suc n) (omega arith), (depth_lows b (suc n) (omega arith), tt))
+  depth_lows (inj d k i e) n h = every_node (omega arith) (depth_lows e (suc n) (omega arith), tt)
+  depth_lows (app w f a) n h = every_node (omega arith) (depth_lows f (suc n) (omega arith), (depth_lows a (suc n) (omega arith), tt))
+  depth_lows (proj d w e) n h = every_node (omega arith) (depth_lows e (suc n) (omega arith), tt)
+  depth_lows (case w i e a b) n h =
+      let m = suc (widened i n) in
+      let x = wide_weight i n in
+      let y = weighs i in
+      every_node (omega arith) (depth_lows e m (omega arith), (depth_lows a m (omega arith), (depth_lows b m (omega arith), tt)))
+  depth_lows (protect m e) n h = every_node (omega arith) (depth_lows e (suc n) (omega arith), tt)
+  depth_lows (mu w i e) n h = every_node (omega arith) (depth_lows e (suc n) (omega arith), tt)
+  depth_lows (literal k m) n h = every_node (omega arith) tt
+  depth_lows (reckon o w a b) n h = every_node (omega arith) (depth_lows a (suc n) (omega arith), (depth_lows b (suc n) (omega arith), tt))
 
   -- every entry of the depths against the depth
   pub depths_depth : (e : Term) → ((j : ℕ) → j < size e → get_or (depths e) j 0 ≤ limit) → depth e ≤ limit

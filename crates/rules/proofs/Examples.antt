@@ -1,8 +1,9 @@
 -- Every statement holds by computation.
 use Rattle.std.proofs.Common.{refl}
 use Rattle.rules.specs.Examples.{Examples}
-use Rattle.rules.specs.Prelude.{first_from, term, depths_from, binders_from, ok18, groups_check, types_check}
-use Rattle.rules.specs.Prelude.{compare_call, check_call, type_bytes, run_call, run_report}
+use Rattle.rules.specs.Answer.{first_from}
+use Rattle.rules.specs.Script.{term, depths_from, binders_from, ok18}
+use Rattle.rules.specs.Calls.{groups_check, types_check, compare_call, check_call, type_bytes, run_call, run_report}
 
 pub examples : Examples
 unfolding first_from term depths_from binders_from ok18 groups_check types_check compare_call check_call type_bytes run_call run_report

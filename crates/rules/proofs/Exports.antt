@@ -2,11 +2,16 @@
 -- variables' numbers 0, and their names are those of the naming.
 use Rattle.std.proofs.Common.{◌≡◌, refl, ap, ap₂, sym, subst, ◌∙◌, true, [], ◌++◌, append_assoc, append-nil, ℕ, suc}
 use Rattle.std.proofs.Common.{◌+◌, ◌*◌, ◌-◌, ◌/◌, ◌%◌, ◌<◌, arith, length}
-use Rattle.rules.specs.Prelude.{Property, first, second, choose, plus, less, Term, var, unit, lam, pair, inj, app, proj}
-use Rattle.rules.specs.Prelude.{case, protect, mu, literal, reckon, Bytes, byte, accepted, office_width, widen_script}
-use Rattle.rules.specs.Prelude.{full_record, script_record, object_record, encode, size, c, ic, level_names}
-use Rattle.rules.specs.Prelude.{office_records, first_name, second_name, first_six, nameless, with_names, ok29, q29}
-use Rattle.rules.specs.Prelude.{office_record, office}
+use Rattle.calculus.specs.Security.{Property}
+use Rattle.calculus.specs.Terms.{first, second, choose, plus, less, Term, var, unit, lam, pair, inj, app, proj, case}
+use Rattle.calculus.specs.Terms.{protect, mu, literal, reckon}
+use Rattle.rules.specs.Answer.{Bytes, byte, accepted}
+use Rattle.rules.specs.Limits.{office_width}
+use Rattle.rules.specs.Rewriting.{widen_script}
+use Rattle.rules.specs.Script.{full_record, script_record, object_record, encode, size, c, ic}
+use Rattle.rules.specs.Names.{level_names}
+use Rattle.rules.specs.Office.{office_records, first_name, second_name, first_six, nameless, with_names, ok29, q29}
+use Rattle.rules.specs.Office.{office_record, office}
 use Rattle.rules.proofs.Search.{each_accepted}
 use Rattle.rules.proofs.Prefix.{joined, Shape, Code, record_at}
 use Rattle.rules.proofs.Parts.{record_byte, record_first}
@@ -68,14 +73,20 @@ comes_record k r ir n x y = record {
 }
 
 comes_then : {m n : ℕ} {b b' a a' : Bytes} → Comes m b a → Comes n b' a' → Comes (m + n) (b ++ b') (a ++ a')
-comes_then {m} {n} {b} {b'} {a} {a'} h g = grind (arith, common_steps, append_assoc)
+comes_then {m} {n} {b} {b'} {a} {a'} h g = record {
+  comes = λ j rest.
+      let p : m + n + j ≡ m + (n + j) = omega arith in
+      ap₂ present p (append_assoc b b' rest) ∙ h.comes (n + j) (b' ++ rest) ∙ ap (λ z. a ++ z) (g.comes j rest) ∙ sym (append_assoc a a' (present j rest));
+}
 
 -- c and ic of a record
 abbrev pub Plain : Term → Type 0
 Plain e = (c (term_head e) 0 ≡ 0) × (ic (term_head e) 0 ≡ 0)
 
 comes_object : (kind : ℕ) (k : Property) (n x y : ℕ) → (k.c ≡ 0) × (k.ic ≡ 0) → Comes 1 (office_record kind k.r k.ir n x y) (object_record kind k n)
-comes_object kind k n x y h = grind (arith, common_steps, comes_record)
+comes_object kind k n x y h =
+    let p : script_record kind k.r k.ir n ≡ object_record kind k n = rw (h.0, h.1) refl in
+    subst (Comes 1 (office_record kind k.r k.ir n x y)) p (comes_record kind k.r k.ir n x y)
 
 pub export_comes : (n : ℕ) (e : Term) → Every term_shape Plain e → Comes (size e) (office (level_names n e)) (encode (blank e))
 unfolding size office level_names encode blank
@@ -135,9 +146,11 @@ module _ (o : Bytes) where
   export_names n (var m) i at = rw (first_is at (n - suc m) refl refl) refl
   export_names n (unit k) i at = refl
   export_names n (lam k t e) i at = rw (first_is at n refl refl, export_names (suc n) e (1 + i) (operand_1 office_code at refl)) refl
-  export_names n (pair k a b) i at = grind (arith, common_steps, blank_size, operand_1, operand_2, export_names n a (1 + i) (operand_1 office_code at refl), export_names n b (1 + i + size a) (operand_2 office_code at refl))
+  export_names n (pair k a b) i at =
+      rw (blank_size a, export_names n a (1 + i) (operand_1 office_code at refl), export_names n b (1 + i + size a) (operand_2 office_code at refl)) refl
   export_names n (inj d k t e) i at = rw (export_names n e (1 + i) (operand_1 office_code at refl)) refl
-  export_names n (app w a b) i at = grind (arith, common_steps, blank_size, operand_1, operand_2, export_names n a (1 + i) (operand_1 office_code at refl), export_names n b (1 + i + size a) (operand_2 office_code at refl))
+  export_names n (app w a b) i at =
+      rw (blank_size a, export_names n a (1 + i) (operand_1 office_code at refl), export_names n b (1 + i + size a) (operand_2 office_code at refl)) refl
   export_names n (proj d w e) i at = rw (export_names n e (1 + i) (operand_1 office_code at refl)) refl
   export_names n (case w t e a b) i at =
       rw (
@@ -153,7 +166,8 @@ module _ (o : Bytes) where
   export_names n (protect m e) i at = rw (export_names n e (1 + i) (operand_1 office_code at refl)) refl
   export_names n (mu w t e) i at = rw (first_is at n refl refl, export_names (suc n) e (1 + i) (operand_1 office_code at refl)) refl
   export_names n (literal k m) i at = refl
-  export_names n (reckon o' w a b) i at = grind (arith, common_steps, blank_size, operand_1, operand_2, export_names n a (1 + i) (operand_1 office_code at refl), export_names n b (1 + i + size a) (operand_2 office_code at refl))
+  export_names n (reckon o' w a b) i at =
+      rw (blank_size a, export_names n a (1 + i) (operand_1 office_code at refl), export_names n b (1 + i + size a) (operand_2 office_code at refl)) refl
 
 -- Question 29 of an export: what isn't used is 0.
 head_ok29 : (p : ℕ × Term) → ok29 (office_head p) 0 ≡ true

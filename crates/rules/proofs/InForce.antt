@@ -1,15 +1,18 @@
 -- Lists of scripts and of amendments: what the entries that pass say, and how many there can be.
-use Rattle.std.proofs.lemmas.Grind.{common_steps}
 use Rattle.std.proofs.Common.{◌≡◌, refl, sym, ap, ◌∙◌, Bool, true, false, not, ◌&&◌, ◌||◌, ℕ, zero, suc, ◌+◌, ◌≤◌, ◌<◌}
-use Rattle.std.proofs.Common.{arith, add-one, nat_eq, eqb-true, eq-eqb, ne_eqb, ltb-true, List, [], ◌∷◌, length}
+use Rattle.std.proofs.Common.{arith, add-one, nat_eq, nat_lt, eqb-true, eq-eqb, ne_eqb, ltb-true, List, [], ◌∷◌, length}
 use Rattle.std.proofs.Math.Bool.{false≢true}
 use Rattle.std.proofs.Math.Decide.{ℕ_discrete}
 use Rattle.std.specs.List.{AllByRecursion, IsDistinct, list_any}
 use Rattle.std.proofs.lemmas.Map.Steps.{length-le_from_distinct_below}
-use Rattle.rules.specs.Prelude.{Security, Ty, subtype, Bytes, accepted, refused, no_script, comparison, script_count}
-use Rattle.rules.specs.Prelude.{entry_first, entry_replaced, among, is_listed, is_replaced, ok40, ok41, ok42}
-use Rattle.rules.specs.Prelude.{same_or_below, scripts_compared, entry_check, entries_check}
+use Rattle.calculus.specs.Security.{Security}
+use Rattle.calculus.specs.Types.{Ty}
+use Rattle.calculus.specs.Subtyping.{subtype}
 use Rattle.calculus.specs.Subtyping as directions
+use Rattle.rules.specs.Answer.{Bytes, accepted, refused, ◌>>◌, ask}
+use Rattle.rules.specs.Limits.{no_script}
+use Rattle.rules.specs.Comparison.{same, strictly_below, neither, equal_types, comparison}
+use Rattle.rules.specs.InForce.{script_count, entry_first, entry_replaced, among, is_listed, is_replaced, ok40, ok41, ok42, same_or_below, scripts_compared, entry_check, entries_check}
 use Rattle.rules.proofs.Asked.{ask_true, and_then}
 
 or_true : (b : Bool) {c : Bool} → c ≡ true → b || c ≡ true
@@ -105,7 +108,18 @@ pub record Ordered (l a : Bytes) (e : ℕ) : Type 0 where
 
 pub ordered : (l a : Bytes) (e : ℕ) → ok40 l a e ≡ true → Ordered l a e
 unfolding ok40
-ordered l a e h = grind (arith, common_steps, both, ltb-true, not_true, replacing)
+ordered l a e h =
+    let first = entry_first a e in
+    let old = entry_replaced a e in
+    let p = both (nat_lt first (script_count l)) (not (is_listed a e first) && (nat_eq old no_script || nat_lt old (script_count l) && is_listed a e old)) h in
+    let q = both (not (is_listed a e first)) (nat_eq old no_script || nat_lt old (script_count l) && is_listed a e old) p.1 in
+    record {
+      inside = ltb-true first (script_count l) p.0;
+      new = not_true (is_listed a e first) q.0;
+      older = λ d.
+          let x = both (nat_lt old (script_count l)) (is_listed a e old) (replacing old (nat_lt old (script_count l) && is_listed a e old) q.1 d) in
+          (ltb-true old (script_count l) x.0, x.1);
+    }
 
 -- and one that passes 41 and 42 too
 pub record EntryPasses (g t l a : Bytes) (e : ℕ) : Type 0 where
@@ -116,7 +130,15 @@ pub record EntryPasses (g t l a : Bytes) (e : ℕ) : Type 0 where
 module _ (g t l a : Bytes) where
   pub entry_passes : (e : ℕ) → entry_check g t l a e ≡ accepted tt → EntryPasses g t l a e
   unfolding entry_check ok41 ok42
-  entry_passes e h = grind (arith, common_steps, and_then, ordered, ask_true, not_true, replacing)
+  entry_passes e h =
+      let old = entry_replaced a e in
+      let p = and_then (ask 40 e (ok40 l a e)) (◌>>◌ (ask 41 e (ok41 a e)) (ask 42 e (ok42 g t l a e))) h in
+      let q = and_then (ask 41 e (ok41 a e)) (ask 42 e (ok42 g t l a e)) p.1 in
+      record {
+        in_order = ordered l a e (ask_true 40 e (ok40 l a e) p.0);
+        once = λ d. not_true (is_replaced a e old) (replacing old (not (is_replaced a e old)) (ask_true 41 e (ok41 a e) q.0) d);
+        lower = λ d. replacing old (same_or_below (scripts_compared g t l (entry_first a e) old)) (ask_true 42 e (ok42 g t l a e) q.1) d;
+      }
 
   -- all of the first n pass
   pub all_pass : (n e : ℕ) → entries_check g t l a n ≡ accepted tt → e < n → EntryPasses g t l a e

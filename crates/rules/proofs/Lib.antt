@@ -44,4 +44,3 @@ pub mod InForce
 pub mod OfficeExamples
 pub mod Examples
 pub mod OldTables
-pub mod Prelude

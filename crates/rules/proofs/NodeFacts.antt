@@ -1,12 +1,16 @@
 -- Questions 15 and 16 of a node, in the words of the tree: its labels are groups with ir ⊑ r, and the types that it
 -- names exist.
-use Rattle.std.proofs.lemmas.Grind.{common_steps}
-use Rattle.std.proofs.Common.{◌≡◌, subst, Bool, true, ◌&&◌, ◌||◌, ℕ, ◌+◌, ◌*◌, ◌/◌, ◌%◌, ◌<◌, ltb-true}
-use Rattle.std.proofs.Common.{eqb-true, nat_eq, nat_lt, IsTrue, arith}
+use Rattle.std.proofs.Common.{◌≡◌, refl, sym, subst, Bool, true, ◌&&◌, ◌||◌, ℕ, ◌+◌, ◌*◌, ◌/◌, ◌%◌, ◌<◌, ltb-true}
+use Rattle.std.proofs.Common.{lt-ltb, eqb-true, eq-eqb, nat_eq, nat_lt, IsTrue, arith}
 use Rattle.std.proofs.Math.Bool.{and-eq-true_iff}
-use Rattle.rules.specs.Prelude.{Property, Indirect, first, second, plus, less, Term, var, unit, lam, pair, inj, app}
-use Rattle.rules.specs.Prelude.{proj, case, protect, mu, literal, reckon, finds_own, Bytes, rows, leq, type_count}
-use Rattle.rules.specs.Prelude.{type_kind, sum_of_units, ok15, ok16}
+use Rattle.calculus.specs.Security.{Property, Indirect}
+use Rattle.calculus.specs.Terms.{first, second, plus, less, Term, var, unit, lam, pair, inj, app, proj, case, protect}
+use Rattle.calculus.specs.Terms.{mu, literal, reckon}
+use Rattle.calculus.specs.Typing.{finds_own}
+use Rattle.rules.specs.Answer.{Bytes}
+use Rattle.rules.specs.Groups.{rows, leq}
+use Rattle.rules.specs.Types.{type_count, type_kind}
+use Rattle.rules.specs.Script.{sum_of_units, ok15, ok16}
 use Rattle.rules.proofs.TermCode.{term_head, two_bytes}
 
 module _ (g : Bytes) where
@@ -31,7 +35,12 @@ module _ (g : Bytes) where
   Asked k = nat_lt k.r (rows g) && (nat_lt k.ir (rows g) && (nat_lt k.c (rows g) && (nat_lt k.ic (rows g) && leq g k.ir k.r)))
 
   label : (k : Property) → Asked k ≡ true → Label k
-  label k h = grind (arith, common_steps, and-eq-true_iff, ltb-true)
+  label k h =
+      let a = (and-eq-true_iff _ _).0 h in
+      let b = (and-eq-true_iff _ _).0 a.1 in
+      let c = (and-eq-true_iff _ _).0 b.1 in
+      let d = (and-eq-true_iff _ _).0 c.1 in
+      (ltb-true k.r (rows g) a.0, ltb-true k.ir (rows g) b.0, ltb-true k.c (rows g) c.0, ltb-true k.ic (rows g) d.0, d.1)
 
   two_groups : (m : Indirect) → (nat_lt m.ir (rows g) && (nat_lt m.ic (rows g) && true)) ≡ true → (m.ir < rows g) × (m.ic < rows g)
   two_groups m h = grind arith
@@ -104,10 +113,14 @@ module _ (t : Bytes) where
   existing i h = ltb-true i (type_count t) ((and-eq-true_iff _ _).0 (stored exists i h)).0
 
   of_kind : (k i : ℕ) → Stored (is_kind k) i → OfKind k i
-  of_kind k i h = grind (arith, common_steps, and-eq-true_iff, stored, ltb-true, eqb-true)
+  of_kind k i h =
+      let a = (and-eq-true_iff _ _).0 (stored (is_kind k) i h) in
+      (ltb-true i (type_count t) a.0, eqb-true (type_kind t i) k ((and-eq-true_iff _ _).0 a.1).0)
 
   of_units : (i : ℕ) → Stored is_of_units i → OfUnits i
-  of_units i h = grind (arith, common_steps, and-eq-true_iff, stored, ltb-true)
+  of_units i h =
+      let a = (and-eq-true_iff (nat_lt i (type_count t)) (sum_of_units t i)).0 (stored is_of_units i h) in
+      (ltb-true i (type_count t) a.0, a.1)
 
   pub named : (c : Term) → ok16 t (term_head c) 0 ≡ true → Named c
   unfolding ok16

@@ -1,7 +1,9 @@
 -- Questions 14, 15 and 16 of an encoding, as facts about every node of its tree.
 use Rattle.std.proofs.Common.{◌≡◌, ap, sym, ◌∙◌, Bool, true, [], ℕ, ◌+◌, arith, zero-add}
-use Rattle.rules.specs.Prelude.{Term, Bytes, accepted, each, script_width, encode, records, ok14, ok15, ok16, q14, q15}
-use Rattle.rules.specs.Prelude.{q16}
+use Rattle.calculus.specs.Terms.{Term}
+use Rattle.rules.specs.Answer.{Bytes, accepted, each}
+use Rattle.rules.specs.Limits.{script_width}
+use Rattle.rules.specs.Script.{encode, records, ok14, ok15, ok16, q14, q15, q16}
 use Rattle.rules.proofs.Search.{each_all, each_accepted}
 use Rattle.rules.proofs.Prefix.{record_at}
 use Rattle.rules.proofs.PrefixLaws.{alone}

@@ -1,9 +1,8 @@
 -- Records and nodes: record j of a tree's encoding is the record of one of its nodes, whose encoding starts there.
-use Rattle.std.proofs.lemmas.Grind.{common_steps}
 use Rattle.std.proofs.Common.{◌≡◌, refl, ap, sym, subst, ◌∙◌, List, [], ◌∷◌, ◌++◌, append_assoc, ℕ, zero, suc, ◌+◌, ◌*◌}
 use Rattle.std.proofs.Common.{◌-◌, ◌≤◌, ◌<◌, arith, drop}
 use Rattle.std.proofs.Math.Decide.{dec_lt}
-use Rattle.rules.specs.Prelude.{Bytes}
+use Rattle.rules.specs.Answer.{Bytes}
 use Rattle.rules.proofs.Prefix.{All, joined, total, Shape, Code, record_at}
 use Rattle.rules.proofs.Parts.{all_at, joined_append, total_append}
 use Rattle.rules.proofs.PrefixLaws.{after_head, past_trees, record_is}
@@ -67,7 +66,8 @@ module _ {T : Type 0} (S : Shape T) where
   -- a node's records are among its tree's
   pub at_size : {e c : T} {j : ℕ} → NodeAt S e j c → j + S.size c ≤ S.size e
   at_size here = omega arith
-  at_size {e} (below {d} {c} {j} before after is h) = grind (arith, common_steps, total_append, at_size h)
+  at_size {e} (below {d} {c} {j} before after is h) =
+      omega (arith, at_size h, S.size_is e, ap (total S.size) is, total_append S.size before (d ∷ after))
 
 -- Q holds at every node of e.
 pub record Every {T : Type 0} (S : Shape T) (Q : T → Type 0) (e : T) : Type 0 where
@@ -88,7 +88,11 @@ module _ {T : Type 0} {S : Shape T} {Q : T → Type 0} where
   every_below {e} h = belows e h [] (S.operands e) refl
 
   pub every_node : {e : T} → Q e → All (Every S Q) (S.operands e) → Every S Q e
-  every_node {e} q h = grind (arith, common_steps, all_at)
+  every_node {e} q h = record { at = λ j c a. go a q h }
+    where
+      go : {d c : T} {j : ℕ} → NodeAt S d j c → Q d → All (Every S Q) (S.operands d) → Q c
+      go here p g = p
+      go (below {d = d'} {c = c} {j = j} before after is a) p g = (all_at (Every S Q) before d' after (subst (All (Every S Q)) is g)).at j c a
 
   pub every_of : ((e : T) → Q e) → (e : T) → Every S Q e
   every_of f e = record { at = λ j c a. f c }

@@ -1,6 +1,6 @@
 -- Bytes are below 256, also in parts.
 use Rattle.std.proofs.Common.{[], ◌∷◌, ◌++◌, ℕ, zero, suc, arith, take, drop}
-use Rattle.rules.specs.Prelude.{Bytes, Octets}
+use Rattle.rules.specs.Answer.{Bytes, Octets}
 
 pub octets_append : (a b : Bytes) → Octets a → Octets b → Octets (a ++ b)
 octets_append [] b p q i = q i

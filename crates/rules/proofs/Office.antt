@@ -6,17 +6,21 @@ use Rattle.std.proofs.Common.{length-take-le}
 use Rattle.std.proofs.Math.Bool.{and-eq-true_iff}
 use Rattle.std.proofs.Math.ListN.{get_or-append}
 use Rattle.std.proofs.lemmas.List.{get_or-append-add}
-use Rattle.rules.specs.Prelude.{first, second, plus, less, Term, var, unit, lam, pair, inj, app, proj, case, protect}
-use Rattle.rules.specs.Prelude.{mu, literal, reckon, Bytes, byte, Octets, accepted, ◌⇒◌, script_width, old_script_width}
-use Rattle.rules.specs.Prelude.{office_width, office_limit, old_records, encode, size, kind, records, term, q13}
-use Rattle.rules.specs.Prelude.{nearest, meant, scopes, office_records, office_kind, first_name, second_name, first_six}
-use Rattle.rules.specs.Prelude.{nameless, with_names, named_term, q28, ok30, q30}
+use Rattle.calculus.specs.Terms.{first, second, plus, less, Term, var, unit, lam, pair, inj, app, proj, case, protect}
+use Rattle.calculus.specs.Terms.{mu, literal, reckon}
+use Rattle.rules.specs.Answer.{Bytes, byte, Octets, accepted, ◌⇒◌}
+use Rattle.rules.specs.Limits.{script_width, old_script_width, office_width, office_limit}
+use Rattle.rules.specs.Callers.{old_records}
+use Rattle.rules.specs.Script.{encode, size, kind, records, term, q13}
+use Rattle.rules.specs.Names.{nearest, meant, scopes}
+use Rattle.rules.specs.Office.{office_records, office_kind, first_name, second_name, first_six, nameless, with_names}
+use Rattle.rules.specs.Office.{named_term, q28, ok30, q30}
 use Rattle.rules.proofs.Search.{each_all, each_accepted}
 use Rattle.rules.proofs.Prefix.{Shape, Code}
 use Rattle.rules.proofs.Parts.{record_byte}
 use Rattle.rules.proofs.PrefixLaws.{size_positive, encode_length, alone, record_is}
 use Rattle.rules.proofs.Nodes.{operand_at}
-use Rattle.rules.proofs.TermCode.{term_induction, term_code, term_head}
+use Rattle.rules.proofs.TermCode.{term_code, term_head}
 use Rattle.rules.proofs.Scope.{Scoped}
 use Rattle.rules.proofs.Asked.{ask_true}
 use Rattle.rules.proofs.ScriptLength.{fitting_q13}
@@ -59,7 +63,9 @@ stands_length {s} {i} {e} at =
 first_six_length : (n : ℕ) (s : Bytes) → office_width * n ≤ length s → length (first_six n s) ≡ old_script_width * n
 unfolding first_six
 first_six_length zero s l = refl
-first_six_length (suc n) s l = grind (arith, common_steps, length-append, length-take-le, length-drop, first_six_length n (drop 10 s) (omega (arith, length-drop 10 s)))
+first_six_length (suc n) s l =
+    length-append (take 6 s) (first_six n (drop 10 s))
+    ∙ omega (arith, length-take-le 6 s (omega arith), first_six_length n (drop 10 s) (omega (arith, length-drop 10 s)))
 
 first_six_byte : (n : ℕ) (s : Bytes) (i m : ℕ) → office_width * n ≤ length s → i < n → m < old_script_width
     → byte (first_six n s) (old_script_width * i + m) ≡ byte s (office_width * i + m)
@@ -118,7 +124,14 @@ pub record Measured (s : Bytes) : Type 0 where
   pub limited : office_records s ≤ office_limit
 
 pub q28_measured : (s : Bytes) → q28 s ≡ accepted tt → Measured s
-q28_measured s q = grind (arith, common_steps, and-eq-true_iff, ask_true, whole, eqb-true, leb-true)
+q28_measured s q =
+    let a = (and-eq-true_iff _ _).0 (ask_true 28 0 _ q) in
+    let b = (and-eq-true_iff _ _).0 a.1 in
+    record {
+      whole = eqb-true (length s % office_width) 0 a.0;
+      some_record = leb-true 1 (office_records s) b.0;
+      limited = leb-true (office_records s) office_limit b.1;
+    }
 
 pub nameless_13 : (s : Bytes) → q28 s ≡ accepted tt → q13 [] (nameless s) ≡ accepted tt
 nameless_13 s q = grind (arith, q28_measured, fitting_q13, nameless_length, nameless_records)
@@ -143,7 +156,9 @@ module _ (ok : ℕ → List ℕ → Bool) where
   pub passing_all : (ns : List (List ℕ)) (i k : ℕ) → Passing ok i ns → k < length ns → ok (i + k) (get_or ns k []) ≡ true
   passing_all [] i k h l = absurd (omega arith)
   passing_all (n ∷ ns) i zero h l = let p : i + 0 ≡ i = omega arith in ap (λ x. ok x n) p ∙ h.0
-  passing_all (n ∷ ns) i (suc k) h l = grind (arith, common_steps, passing_all ns (suc i) k h.1 (omega arith))
+  passing_all (n ∷ ns) i (suc k) h l =
+      let p : i + suc k ≡ suc i + k = omega arith in
+      ap (λ x. ok x (get_or ns k [])) p ∙ passing_all ns (suc i) k h.1 (omega arith)
 
   pub all_passing : (ns : List (List ℕ)) (i : ℕ) → ((k : ℕ) → k < length ns → ok (i + k) (get_or ns k []) ≡ true) → Passing ok i ns
   all_passing [] i h = tt
@@ -161,8 +176,30 @@ bound s i ns = nat_eq (office_kind s i) 0 ⇒ nat_lt (nearest (first_name s i) n
 module _ (s : Bytes) where
   pub scopes_length : (i : ℕ) (ns : List ℕ) (e : Term) → length (scopes ns (with_names s i e)) ≡ size e
   unfolding scopes with_names size
-  scopes_length i ns e =
-      term_induction (λ e. (i : ℕ) (ns : List ℕ) → length (scopes ns (with_names s i e)) ≡ size e) (λ e t i ns. grind (arith, common_steps)) e i ns
+  scopes_length i ns (lam k t e) = omega (arith, scopes_length (1 + i) (first_name s i ∷ ns) e)
+  scopes_length i ns (pair k a b) =
+      omega (arith, length-append (scopes ns (with_names s (1 + i) a)) (scopes ns (with_names s (1 + i + size a) b)), scopes_length (1 + i) ns a, scopes_length (1 + i + size a) ns b)
+  scopes_length i ns (inj d k t e) = omega (arith, scopes_length (1 + i) ns e)
+  scopes_length i ns (app w a b) =
+      omega (arith, length-append (scopes ns (with_names s (1 + i) a)) (scopes ns (with_names s (1 + i + size a) b)), scopes_length (1 + i) ns a, scopes_length (1 + i + size a) ns b)
+  scopes_length i ns (proj d w e) = omega (arith, scopes_length (1 + i) ns e)
+  scopes_length i ns (case w t e a b) =
+      let x = first_name s i ∷ ns in
+      let y = second_name s i ∷ ns in
+      let p = 1 + i + size e in
+      omega (
+        arith,
+        length-append (scopes ns (with_names s (1 + i) e)) (scopes x (with_names s p a) ++ scopes y (with_names s (p + size a) b)),
+        length-append (scopes x (with_names s p a)) (scopes y (with_names s (p + size a) b)),
+        scopes_length (1 + i) ns e,
+        scopes_length p x a,
+        scopes_length (p + size a) y b,
+      )
+  scopes_length i ns (protect m e) = omega (arith, scopes_length (1 + i) ns e)
+  scopes_length i ns (mu w t e) = omega (arith, scopes_length (1 + i) (first_name s i ∷ ns) e)
+  scopes_length i ns (reckon o w a b) =
+      omega (arith, length-append (scopes ns (with_names s (1 + i) a)) (scopes ns (with_names s (1 + i + size a) b)), scopes_length (1 + i) ns a, scopes_length (1 + i + size a) ns b)
+  scopes_length i ns _ = refl
 
   -- a record that is no variable's
   other : {i : ℕ} {e : Term} (ns : List ℕ) → Stands term_code (nameless s) i e → (k : ℕ) → byte (term_head e) 0 ≡ suc k → bound s i ns ≡ true
@@ -171,12 +208,18 @@ module _ (s : Bytes) where
   -- two operands one after the other
   split_2 : (ns : List ℕ) (i : ℕ) (a b : Term) → Passing (bound s) (suc i) (scopes ns (with_names s (1 + i) a) ++ scopes ns (with_names s (1 + i + size a) b))
       → Passing (bound s) (1 + i) (scopes ns (with_names s (1 + i) a)) × Passing (bound s) (1 + i + size a) (scopes ns (with_names s (1 + i + size a) b))
-  split_2 ns i a b h = grind (arith, common_steps, apart, scopes_length, moved_by)
+  split_2 ns i a b h =
+      let z : suc i ≡ 1 + i = omega arith in
+      let p = apart (bound s) (scopes ns (with_names s (1 + i) a)) (scopes ns (with_names s (1 + i + size a) b)) (suc i) (1 + i + size a) (omega (arith, scopes_length (1 + i) ns a)) h in
+      (moved_by (bound s) (scopes ns (with_names s (1 + i) a)) z p.0, p.1)
 
   join_2 : (ns : List ℕ) (i : ℕ) (a b : Term) → Passing (bound s) (1 + i) (scopes ns (with_names s (1 + i) a))
       → Passing (bound s) (1 + i + size a) (scopes ns (with_names s (1 + i + size a) b))
       → Passing (bound s) (suc i) (scopes ns (with_names s (1 + i) a) ++ scopes ns (with_names s (1 + i + size a) b))
-  join_2 ns i a b h g = grind (arith, common_steps, both, scopes_length, moved_by)
+  join_2 ns i a b h g =
+      let z : 1 + i ≡ suc i = omega arith in
+      both (bound s) (scopes ns (with_names s (1 + i) a)) (scopes ns (with_names s (1 + i + size a) b)) (suc i) (1 + i + size a) (omega (arith, scopes_length (1 + i) ns a))
+      (moved_by (bound s) (scopes ns (with_names s (1 + i) a)) z h) g
 
   one : (ns : List ℕ) (i : ℕ) (e : Term) → Passing (bound s) (1 + i) (scopes ns (with_names s (1 + i) e)) → Passing (bound s) (suc i) (scopes ns (with_names s (1 + i) e))
   one ns i e = let z : 1 + i ≡ suc i = omega arith in moved_by (bound s) (scopes ns (with_names s (1 + i) e)) z
@@ -190,7 +233,8 @@ module _ (s : Bytes) where
   unfolding scopes meant with_names
   passing_scoped (var n) i ns at h = ltb-true _ (length ns) (rw (kind_here s at) at h.0)
   passing_scoped (unit k) i ns at h = tt
-  passing_scoped (lam k t e) i ns at h = grind (arith, common_steps, operand_1, term_code, one_of, passing_scoped e (1 + i) (first_name s i ∷ ns) (operand_1 term_code at refl) (one_of (first_name s i ∷ ns) i e h.1))
+  passing_scoped (lam k t e) i ns at h =
+      passing_scoped e (1 + i) (first_name s i ∷ ns) (operand_1 term_code at refl) (one_of (first_name s i ∷ ns) i e h.1)
   passing_scoped (pair k a b) i ns at h =
       let p = split_2 ns i a b h.1 in
       (passing_scoped a (1 + i) ns (operand_1 term_code at refl) p.0, passing_scoped b (1 + i + size a) ns (operand_2 term_code at refl) p.1)
@@ -211,7 +255,8 @@ module _ (s : Bytes) where
         passing_scoped b (j + size a) y (operand_3 term_code at refl) q.1,
       )
   passing_scoped (protect m e) i ns at h = passing_scoped e (1 + i) ns (operand_1 term_code at refl) (one_of ns i e h.1)
-  passing_scoped (mu w t e) i ns at h = grind (arith, common_steps, operand_1, term_code, one_of, passing_scoped e (1 + i) (first_name s i ∷ ns) (operand_1 term_code at refl) (one_of (first_name s i ∷ ns) i e h.1))
+  passing_scoped (mu w t e) i ns at h =
+      passing_scoped e (1 + i) (first_name s i ∷ ns) (operand_1 term_code at refl) (one_of (first_name s i ∷ ns) i e h.1)
   passing_scoped (literal k n) i ns at h = tt
   passing_scoped (reckon o w a b) i ns at h =
       let p = split_2 ns i a b h.1 in

@@ -1,15 +1,19 @@
 -- Callers in old office scripts: brought to the present form they are those that are put into the present form, and on
 -- terms they are the labels of its recursions.
-use Rattle.std.proofs.lemmas.Grind.{common_steps}
 use Rattle.std.proofs.Common.{◌≡◌, refl, ap, ap₂, sym, ◌∙◌, [], ◌∷◌, ◌++◌, append_assoc, append-nil, ℕ, zero, suc, ◌+◌}
 use Rattle.std.proofs.Common.{◌*◌, ◌≤◌, arith, length}
-use Rattle.rules.specs.Prelude.{first, second, plus, less, Term, var, unit, lam, pair, inj, app, proj, case, protect}
-use Rattle.rules.specs.Prelude.{mu, literal, reckon, Labels, relabel, Bytes, type_width, script_width, office_width}
-use Rattle.rules.specs.Prelude.{full_record, encode, size, records, caller, put_callers, write_callers_of}
-use Rattle.rules.specs.Prelude.{write_office_callers, widen_script, office_records, first_six, nameless}
+use Rattle.calculus.specs.Terms.{first, second, plus, less, Term, var, unit, lam, pair, inj, app, proj, case, protect}
+use Rattle.calculus.specs.Terms.{mu, literal, reckon}
+use Rattle.calculus.specs.Relabelling.{Labels, relabel}
+use Rattle.rules.specs.Answer.{Bytes, Octets}
+use Rattle.rules.specs.Limits.{type_width, script_width, office_width}
+use Rattle.rules.specs.Script.{full_record, encode, size, records}
+use Rattle.rules.specs.Callers.{caller, put_callers, write_callers_of, write_office_callers}
+use Rattle.rules.specs.Rewriting.{widen_script}
+use Rattle.rules.specs.Office.{office_records, first_six, nameless}
 use Rattle.rules.proofs.TermCode.{two_bytes}
 use Rattle.rules.proofs.Scripts.{records_encode}
-use Rattle.rules.proofs.Callers.{put_length}
+use Rattle.rules.proofs.Callers.{put_length, put_octets}
 use Rattle.rules.proofs.Office.{nameless_records}
 use Rattle.rules.proofs.Exports.{present}
 
@@ -18,8 +22,17 @@ module _ (type_bytes : ℕ) (t : Bytes) where
       → present n (put_callers type_bytes office_width t n s) ≡ put_callers type_bytes script_width t n (present n s)
   unfolding first_six widen_script put_callers
   put_present zero s l = refl
+  put_present (suc n) [] l = absurd (omega arith)
+  put_present (suc n) (a ∷ []) l = absurd (omega arith)
+  put_present (suc n) (a ∷ b ∷ []) l = absurd (omega arith)
+  put_present (suc n) (a ∷ b ∷ c ∷ []) l = absurd (omega arith)
+  put_present (suc n) (a ∷ b ∷ c ∷ d ∷ []) l = absurd (omega arith)
+  put_present (suc n) (a ∷ b ∷ c ∷ d ∷ e ∷ []) l = absurd (omega arith)
+  put_present (suc n) (a ∷ b ∷ c ∷ d ∷ e ∷ f ∷ []) l = absurd (omega arith)
+  put_present (suc n) (a ∷ b ∷ c ∷ d ∷ e ∷ f ∷ g ∷ []) l = absurd (omega arith)
+  put_present (suc n) (a ∷ b ∷ c ∷ d ∷ e ∷ f ∷ g ∷ h ∷ []) l = absurd (omega arith)
+  put_present (suc n) (a ∷ b ∷ c ∷ d ∷ e ∷ f ∷ g ∷ h ∷ i ∷ []) l = absurd (omega arith)
   put_present (suc n) (a ∷ b ∷ c ∷ d ∷ e ∷ f ∷ g ∷ h ∷ i ∷ j ∷ s) l = grind (arith, put_present n s (omega arith))
-  put_present (suc n) _ l = absurd (omega arith)
 
 -- the callers in a script's terms
 abbrev pub called : ℕ → Bytes → Labels
@@ -32,10 +45,20 @@ pub record Puts (type_bytes : ℕ) (t : Bytes) (count : ℕ) (b a : Bytes) : Typ
 module _ {type_bytes : ℕ} {t : Bytes} where
   puts_record : (k r ir n c ic : ℕ) → Puts type_bytes t 1 (full_record k r ir n c ic) (full_record k (caller type_bytes t k r n) ir n c ic)
   unfolding put_callers
-  puts_record k r ir n c ic = grind (arith, common_steps, two_bytes)
+  puts_record k r ir n c ic = record {
+    puts = λ m rest.
+        let p : 1 + m ≡ suc m = omega arith in
+        ap (λ j. put_callers type_bytes script_width t j (full_record k r ir n c ic ++ rest)) p
+        ∙ ap (λ x. full_record k (caller type_bytes t k r x) ir n c ic ++ put_callers type_bytes script_width t m rest) (two_bytes n);
+  }
 
   puts_then : {m n : ℕ} {b b' a a' : Bytes} → Puts type_bytes t m b a → Puts type_bytes t n b' a' → Puts type_bytes t (m + n) (b ++ b') (a ++ a')
-  puts_then {m} {n} {b} {b'} {a} {a'} h g = grind (arith, common_steps, append_assoc)
+  puts_then {m} {n} {b} {b'} {a} {a'} h g = record {
+    puts = λ j rest.
+        let p : m + n + j ≡ m + (n + j) = omega arith in
+        ap₂ (put_callers type_bytes script_width t) p (append_assoc b b' rest) ∙ h.puts (n + j) (b' ++ rest) ∙ ap (λ z. a ++ z) (g.puts j rest)
+        ∙ sym (append_assoc a a' (put_callers type_bytes script_width t j rest));
+  }
 
   pub puts_encode : (e : Term) → Puts type_bytes t (size e) (encode e) (encode (relabel (called type_bytes t) e))
   unfolding size encode relabel

@@ -1,6 +1,7 @@
 -- Types and numbers of a table of an earlier form.
 use Rattle.std.proofs.Common.{length, ℕ, ◌*◌, ◌+◌, ◌/◌}
-use Rattle.rules.specs.Prelude.{Bytes, byte, old_script_width, old_type_width}
+use Rattle.rules.specs.Answer.{Bytes, byte}
+use Rattle.rules.specs.Limits.{old_script_width, old_type_width}
 
 abbrev pub old_type_count : Bytes → ℕ
 old_type_count t = length t / old_type_width

@@ -1,8 +1,10 @@
 -- Every statement holds by computation.
 use Rattle.std.proofs.Common.{refl}
 use Rattle.rules.specs.PacketExamples.{PacketExamples}
-use Rattle.rules.specs.Prelude.{encode, size, depth, term, own_check, script_check, q39_if, before_typing}
-use Rattle.rules.specs.Prelude.{application_check, desk_check, desk_run, packet_call, packet_report}
+use Rattle.rules.specs.Script.{encode, size, depth, term}
+use Rattle.rules.specs.Calls.{own_check, script_check}
+use Rattle.rules.specs.Packet.{q39_if, before_typing, application_check, desk_check, desk_run, packet_call}
+use Rattle.rules.specs.Packet.{packet_report}
 
 pub packet_examples : PacketExamples
 unfolding encode size depth term own_check script_check q39_if before_typing application_check desk_check desk_run packet_call packet_report

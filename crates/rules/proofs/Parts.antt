@@ -1,7 +1,8 @@
 -- Parts of lists: what stands at a place, and what follows it.
 use Rattle.std.proofs.Common.{◌≡◌, refl, ap, sym, ◌∙◌, List, [], ◌∷◌, ◌++◌, append_assoc, ℕ, ◌+◌, ◌*◌, ◌≤◌, ◌<◌, arith}
 use Rattle.std.proofs.Common.{add-zero, length, drop, drop-drop, drop_at, get_or-drop, get_or-take}
-use Rattle.rules.specs.Prelude.{Bytes, byte}
+use Rattle.std.proofs.Math.ListN.{get_or-append}
+use Rattle.rules.specs.Answer.{Bytes, byte}
 use Rattle.rules.proofs.Prefix.{All, joined, total, record_at}
 use Rattle.std.proofs.lemmas.Grind.{common_steps}
 

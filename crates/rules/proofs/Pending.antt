@@ -1,7 +1,10 @@
 -- How many sides are pending before and after a type of a types table: after it one less.
 use Rattle.std.proofs.Common.{◌≡◌, refl, ap, ◌∙◌, List, [], ◌∷◌, ◌++◌, append_assoc, ℕ, suc, ◌+◌, ◌*◌, ◌-◌, arith}
 use Rattle.std.proofs.Common.{length, drop}
-use Rattle.rules.specs.Prelude.{Ty, size_t, Bytes, type_width, encode_type, pending}
+use Rattle.calculus.specs.Types.{Ty, size_t}
+use Rattle.rules.specs.Answer.{Bytes}
+use Rattle.rules.specs.Limits.{type_width}
+use Rattle.rules.specs.Types.{encode_type, pending}
 use Rattle.rules.proofs.Prefix.{All, joined, total}
 use Rattle.rules.proofs.PrefixLaws.{after_head, past_tree, ops, ops_at}
 use Rattle.rules.proofs.TypeCode.{type_shape, type_code, type_prefix, type_operands}

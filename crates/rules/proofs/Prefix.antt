@@ -1,7 +1,7 @@
 -- Prefix codes: a tree is written as a record, then its operands in order. Types and terms are both such codes, so what
 -- follows from that form alone is stated over it and proved once.
 use Rattle.std.proofs.Common.{◌≡◌, List, [], ◌∷◌, ◌++◌, ℕ, suc, ◌+◌, ◌*◌, ◌≤◌, length, take, drop}
-use Rattle.rules.specs.Prelude.{Bytes, byte}
+use Rattle.rules.specs.Answer.{Bytes, byte}
 
 abbrev pub All : {T : Type 0} → (T → Type 0) → List T → Type 0
 All P [] = Unit {0}

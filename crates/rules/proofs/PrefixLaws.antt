@@ -2,7 +2,8 @@
 use Rattle.std.proofs.Common.{◌≡◌, refl, ap, sym, ◌∙◌, List, [], ◌∷◌, ◌++◌, append_assoc, append-nil, ℕ, suc, ◌+◌, ◌*◌}
 use Rattle.std.proofs.Common.{◌-◌, ◌≤◌, ◌<◌, arith, mul-zero, length, drop, length-append, drop_at}
 use Rattle.std.proofs.Math.Option.{none, some}
-use Rattle.rules.specs.Prelude.{Bytes, byte, end_after}
+use Rattle.rules.specs.Answer.{Bytes, byte}
+use Rattle.rules.specs.Types.{end_after}
 use Rattle.rules.proofs.Prefix.{All, joined, total, Shape, Code, Prefix, record_at}
 use Rattle.rules.proofs.Parts.{all_of, past, first_byte}
 use Rattle.std.proofs.lemmas.Grind.{common_steps}

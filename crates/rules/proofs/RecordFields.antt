@@ -1,9 +1,10 @@
 -- A record's fields are those of its own bytes, so questions 9, 10, 14, 15, 16 and 19 ask of record i what they ask of
 -- its bytes.
 use Rattle.std.proofs.Common.{◌≡◌, List, [], ◌∷◌, ℕ, arith, get_or}
-use Rattle.rules.specs.Prelude.{Bytes, script_width, type_width, type_kind, type_r, type_ir, type_zero, type_c, type_ic}
-use Rattle.rules.specs.Prelude.{ok10, ok36_type, kind, r, ir, zero_byte, number, c, ic, ok14, ok15, ok36_object, ok16}
-use Rattle.rules.specs.Prelude.{ok19}
+use Rattle.rules.specs.Answer.{Bytes}
+use Rattle.rules.specs.Limits.{script_width, type_width}
+use Rattle.rules.specs.Types.{type_kind, type_r, type_ir, type_zero, type_c, type_ic, ok10, ok36_type}
+use Rattle.rules.specs.Script.{kind, r, ir, zero_byte, number, c, ic, ok14, ok15, ok36_object, ok16, ok19}
 use Rattle.rules.proofs.Prefix.{record_at}
 use Rattle.rules.proofs.Parts.{record_byte, record_first}
 use Rattle.std.proofs.lemmas.Grind.{common_steps}

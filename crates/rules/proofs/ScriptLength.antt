@@ -2,7 +2,10 @@
 use Rattle.std.proofs.Common.{◌≡◌, List, ℕ, ◌%◌, ◌≤◌, ◌<◌, arith, eqb-true, leb-true, eq-eqb, le-leb, nat_le, length}
 use Rattle.std.proofs.Common.{get_or}
 use Rattle.std.proofs.Math.Bool.{and-eq-true_iff}
-use Rattle.rules.specs.Prelude.{Term, Bytes, accepted, script_width, script_limit, encode, size, records, q13}
+use Rattle.calculus.specs.Terms.{Term}
+use Rattle.rules.specs.Answer.{Bytes, accepted}
+use Rattle.rules.specs.Limits.{script_width, script_limit}
+use Rattle.rules.specs.Script.{encode, size, records, q13}
 use Rattle.rules.proofs.Search.{all_below_all, all_below_true}
 use Rattle.rules.proofs.Asked.{ask_true}
 use Rattle.rules.proofs.PrefixLaws.{encode_length, size_positive}

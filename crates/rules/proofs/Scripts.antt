@@ -3,8 +3,10 @@ use Rattle.std.proofs.Common.{◌≡◌, ap, sym, subst, ◌∙◌, List, [], �
 use Rattle.std.proofs.Common.{eqb-true, eq-eqb, length, get_or, drop, drop_of_length-le}
 use Rattle.std.proofs.Math.Bool.{and-eq-true_iff}
 use Rattle.std.proofs.Math.Option.{some}
-use Rattle.rules.specs.Prelude.{Term, Bytes, Octets, accepted, end_after, encode, size, term, no_term, arity, kind}
-use Rattle.rules.specs.Prelude.{records, term_end, ok14, q13, q14, q17}
+use Rattle.calculus.specs.Terms.{Term}
+use Rattle.rules.specs.Answer.{Bytes, Octets, accepted}
+use Rattle.rules.specs.Types.{end_after}
+use Rattle.rules.specs.Script.{encode, size, term, no_term, arity, kind, records, term_end, ok14, q13, q14, q17}
 use Rattle.rules.proofs.Search.{each_all}
 use Rattle.rules.proofs.Asked.{ask_true, exactly_some}
 use Rattle.rules.proofs.Parts.{record_byte}

@@ -1,15 +1,15 @@
 -- The search in rising order: what a loop over rows or records needs, whichever the question.
-use Rattle.std.proofs.lemmas.Grind.{common_steps}
 use Rattle.std.proofs.Common.{◌≡◌, refl, ap, sym, ◌∙◌, Bool, true, false, not, ℕ, zero, suc, ◌+◌, ◌≤◌, ◌<◌, arith}
 use Rattle.std.proofs.Math.Option.{none, some, Option}
 use Rattle.std.proofs.Math.Bool.{false≢true}
 use Rattle.std.proofs.Math.Decide.{ℕ_discrete}
-use Rattle.rules.specs.Prelude.{accepted, refused, first_from, last_below, all_below, is_absent, refused_at, each}
+use Rattle.rules.specs.Answer.{accepted, refused, first_from, last_below, all_below, is_absent, refused_at, each}
 
 pub from_none : (test : ℕ → Bool) (n i : ℕ) → ((k : ℕ) → i ≤ k → k < i + n → test k ≡ false) → first_from test n i ≡ none
 unfolding first_from
 from_none test zero i h = refl
-from_none test (suc n) i h = grind (arith, common_steps, from_none test n (suc i) (λ k a b. h k (omega arith) (omega arith)))
+from_none test (suc n) i h =
+    rw (h i (omega arith) (omega arith), first_from) (from_none test n (suc i) (λ k a b. h k (omega arith) (omega arith)))
 
 pub from_some : (test : ℕ → Bool) (n i j : ℕ) → i ≤ j → j < i + n → ((k : ℕ) → i ≤ k → k < j → test k ≡ false) → test j ≡ true
     → first_from test n i ≡ some j
@@ -29,7 +29,9 @@ each_accepted q n ok h = ap (refused_at q) (from_none (λ i. not (ok i)) n 0 (λ
 pub from_same : (test test' : ℕ → Bool) (n i : ℕ) → ((k : ℕ) → i ≤ k → k < i + n → test k ≡ test' k) → first_from test n i ≡ first_from test' n i
 unfolding first_from
 from_same test test' zero i h = refl
-from_same test test' (suc n) i h = grind (arith, common_steps, from_same test test' n (suc i) (λ k a b. h k (omega arith) (omega arith)))
+from_same test test' (suc n) i h =
+    let rest = from_same test test' n (suc i) (λ k a b. h k (omega arith) (omega arith)) in
+    λ j. elim (h i (omega arith) (omega arith) j) [ true ↦ some i | false ↦ rest j ]
 
 pub each_same : (q n : ℕ) (ok ok' : ℕ → Bool) → ((k : ℕ) → k < n → ok k ≡ ok' k) → each q n ok ≡ each q n ok'
 each_same q n ok ok' h = grind (arith, from_same)

@@ -1,11 +1,13 @@
 -- A types table that passes questions 8 to 12 is a table as the theory needs it.
-use Rattle.std.proofs.lemmas.Grind.{common_steps}
-use Rattle.std.proofs.Common.{◌≡◌, refl, true, ℕ, suc, ◌<◌, arith, le-leb, IsTrue}
+use Rattle.std.proofs.Common.{◌≡◌, refl, sym, ◌∙◌, true, ℕ, suc, ◌<◌, arith, le-leb, IsTrue}
 use Rattle.std.proofs.Math.Bool.{and-eq-true_iff}
 use Rattle.std.proofs.Math.Decide.{dec_lt}
-use Rattle.rules.specs.Prelude.{Property, Leaf, Former, Ty, leaf, node, size_t, secure_t, fits, type_limit, Table}
-use Rattle.rules.specs.Prelude.{Bytes, accepted, leq, properties_of, type_count, no_type, type_at, ok10, ok36_type, q10}
-use Rattle.rules.specs.Prelude.{q36_types, q12}
+use Rattle.calculus.specs.Security.{Property}
+use Rattle.calculus.specs.Types.{Leaf, Former, Ty, leaf, node, size_t, secure_t, fits, type_limit}
+use Rattle.calculus.specs.Typing.{Table}
+use Rattle.rules.specs.Answer.{Bytes, accepted}
+use Rattle.rules.specs.Groups.{leq, properties_of}
+use Rattle.rules.specs.Types.{type_count, no_type, type_at, ok10, ok36_type, q10, q36_types, q12}
 use Rattle.rules.proofs.Search.{each_all}
 use Rattle.rules.proofs.Nodes.{Every, every_here, every_below}
 use Rattle.rules.proofs.TypeCode.{type_shape, type_head}
@@ -22,13 +24,21 @@ nodes_secure g (node f k s t) h x = grind (arith, nodes_secure g s (every_below 
 
 -- a fact of every record and of what stands outside
 inside_or_out : (P : Ty → Type 0) (t : Bytes) → ((i : ℕ) → i < type_count t → P (type_at t i)) → P no_type → (i : ℕ) → P (type_at t i)
-inside_or_out P t f o i = grind (arith, common_steps, dec_lt, type_at_outside)
+inside_or_out P t f o i =
+    elim (dec_lt i (type_count t)) [
+      | yes l ↦ f i l
+      | no n ↦ rw (type_at_outside t i (omega arith)) o
+    ]
 
 leaf≢node : {b : Leaf} {k k' : Property} {f : Former} {s t : Ty} → leaf b k ≡ node f k' s t → ⊥
 leaf≢node e = let x : ◌≡◌ {A = ℕ} 0 1 = cc in omega arith
 
 left_of : (t : Bytes) → Passes t → (f : Former) (k : Property) (a b : Ty) (i : ℕ) → type_at t i ≡ node f k a b → type_at t (suc i) ≡ a
-left_of t P f k a b i h = grind (arith, common_steps, dec_lt, left_side, standing, leaf≢node, type_at_outside)
+left_of t P f k a b i h =
+    elim (dec_lt i (type_count t)) [
+      | yes l ↦ left_side t i (standing t P i l) f k a b h
+      | no n ↦ absurd (leaf≢node (sym (type_at_outside t i (omega arith)) ∙ h))
+    ]
 
 -- `bottom`: row 0 of the groups table holds its own bit, as questions 2 and 4 ask.
 pub secure_table : (g t : Bytes) → Passes t → q10 g t ≡ accepted tt → q36_types g t ≡ accepted tt → q12 t ≡ accepted tt → IsTrue (leq g 0 0)

@@ -1,11 +1,11 @@
 -- Terms as a prefix code.
-use Rattle.std.proofs.Common.{◌≡◌, Bool, true, false, not, ◌&&◌, List, [], ◌∷◌, ◌++◌, ℕ}
-use Rattle.std.proofs.Common.{suc, ◌+◌, ◌*◌, ◌/◌, ◌%◌, ◌≤◌, ◌<◌, arith, eqb-true, leb-true, nat_eq, nat_le}
-use Rattle.std.proofs.Common.{length, get_or}
-use Rattle.std.proofs.Math.Bool.{and-eq-true_iff}
-use Rattle.rules.specs.Prelude.{choose, plus, less, Term, var, unit, lam, pair, inj, app, proj, case, protect, mu}
-use Rattle.rules.specs.Prelude.{literal, reckon, Bytes, byte, ◌⇒◌, script_width, full_record, object_record, encode}
-use Rattle.rules.specs.Prelude.{size, parse, make, no_term, arity, script_record, Signature, signature_of, ok14}
+use Rattle.std.proofs.Common.{◌≡◌, refl, ap, sym, Bool, true, false, not, ◌&&◌, List, [], ◌∷◌, ◌++◌, append-nil, ℕ, zero, suc, ◌+◌, ◌*◌, ◌/◌, ◌%◌, ◌≤◌, ◌<◌, arith, eqb-true, leb-true, nat_eq, nat_le, length, get_or}
+use Rattle.std.proofs.Math.Bool.{and-eq-true_iff, false≢true}
+use Rattle.calculus.specs.Terms.{first, second, choose, plus, less, Term, var, unit, lam, pair, inj, app, proj, case, protect, mu, literal, reckon}
+use Rattle.rules.specs.Answer.{Bytes, byte, ◌⇒◌}
+use Rattle.rules.specs.Limits.{script_width}
+use Rattle.rules.specs.Script.{full_record, object_record, encode, size, parse, make, no_term, arity, script_record}
+use Rattle.rules.specs.Script.{Signature, signature_of, ok14}
 use Rattle.rules.proofs.Prefix.{All, joined, total, Shape, Code, Prefix}
 use Rattle.std.proofs.lemmas.Grind.{common_steps}
 
@@ -98,7 +98,22 @@ unless b x h e = grind arith
 fields : (f : Signature) (k r ir z n c ic : ℕ)
     → (nat_le k 14 && (nat_eq z 0 && ((not f.r ⇒ nat_eq r 0) && ((not f.ir ⇒ nat_eq ir 0)
     && ((not f.number ⇒ nat_eq n 0) && ((not f.c ⇒ nat_eq c 0) && (not f.ic ⇒ nat_eq ic 0))))))) ≡ true → Fields f k r ir z n c ic
-fields f k r ir z n c ic h = grind (arith, common_steps, and-eq-true_iff, leb-true, eqb-true, unless)
+fields f k r ir z n c ic h =
+    let a = (and-eq-true_iff _ _).0 h in
+    let b = (and-eq-true_iff _ _).0 a.1 in
+    let p = (and-eq-true_iff _ _).0 b.1 in
+    let d = (and-eq-true_iff _ _).0 p.1 in
+    let x = (and-eq-true_iff _ _).0 d.1 in
+    let y = (and-eq-true_iff _ _).0 x.1 in
+    record {
+      known = leb-true k 14 a.0;
+      zero_is = eqb-true z 0 b.0;
+      r_unnamed = unless f.r r p.0;
+      ir_unnamed = unless f.ir ir d.0;
+      number_unnamed = unless f.number n x.0;
+      c_unnamed = unless f.c c y.0;
+      ic_unnamed = unless f.ic ic y.1;
+    }
 
 -- lists of a known length
 no_terms : (ts : List Term) → length ts ≡ 0 → [] ≡ ts

@@ -1,7 +1,10 @@
 -- Types as a prefix code.
 use Rattle.std.proofs.Common.{◌≡◌, ap, sym, ◌∙◌, List, [], ◌∷◌, ◌++◌, ℕ, suc, ◌≤◌, arith, length, get_or}
-use Rattle.rules.specs.Prelude.{Property, Ty, leaf, node, size_t, Bytes, byte, type_width, sides, leaf_kind}
-use Rattle.rules.specs.Prelude.{former_kind, type_record, encode_type, no_type, make_type, parse_types}
+use Rattle.calculus.specs.Security.{Property}
+use Rattle.calculus.specs.Types.{Ty, leaf, node, size_t}
+use Rattle.rules.specs.Answer.{Bytes, byte}
+use Rattle.rules.specs.Limits.{type_width}
+use Rattle.rules.specs.Types.{sides, leaf_kind, former_kind, type_record, encode_type, no_type, make_type, parse_types}
 use Rattle.rules.proofs.Prefix.{All, joined, total, Shape, Code, Prefix}
 use Rattle.std.proofs.lemmas.Grind.{common_steps}
 

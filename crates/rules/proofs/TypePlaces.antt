@@ -2,10 +2,12 @@
 use Rattle.std.proofs.Common.{◌≡◌, refl, ap, sym, ◌∙◌, Bool, true, [], ◌∷◌, ◌++◌, ℕ, suc, ◌+◌, ◌*◌, ◌-◌, ◌≤◌, ◌<◌}
 use Rattle.std.proofs.Common.{arith, length, get_or, drop, length-drop}
 use Rattle.std.proofs.Math.Option.{some}
-use Rattle.calculus.specs.Prelude.{number}
-use Rattle.rules.specs.Prelude.{Property, one, Former, Parts, Ty, leaf, node, top, size_t, Bytes, byte, type_width}
-use Rattle.rules.specs.Prelude.{type_count, type_kind, type_r, type_ir, type_c, type_ic, former_kind, encode_type}
-use Rattle.rules.specs.Prelude.{no_type, parse_types, type_at, type_end}
+use Rattle.calculus.specs.Security.{Property}
+use Rattle.calculus.specs.Types.{one, number, Former, Parts, Ty, leaf, node, top, size_t}
+use Rattle.rules.specs.Answer.{Bytes, byte}
+use Rattle.rules.specs.Limits.{type_width}
+use Rattle.rules.specs.Types.{type_count, type_kind, type_r, type_ir, type_c, type_ic, former_kind, encode_type}
+use Rattle.rules.specs.Types.{no_type, parse_types, type_at, type_end}
 use Rattle.rules.proofs.Prefix.{record_at}
 use Rattle.rules.proofs.PrefixLaws.{record_is, round_trip, tree_end}
 use Rattle.rules.proofs.Nodes.{Every, to_nodes, operand_at}

@@ -1,14 +1,16 @@
 -- A types table that passes questions 8, 9 and 11: every record starts a type, which is written out there.
-use Rattle.std.proofs.lemmas.Grind.{common_steps}
 use Rattle.std.proofs.Common.{◌≡◌, refl, ap, sym, subst, ◌∙◌, true, not, List, [], ◌∷◌, ◌++◌, ℕ, zero, suc, ◌+◌, ◌*◌}
 use Rattle.std.proofs.Common.{◌-◌, ◌%◌, ◌≤◌, ◌<◌, arith, eqb-true, leb-true, nat_eq, nat_le, length, drop}
 use Rattle.std.proofs.Common.{drop_of_length-le}
 use Rattle.std.proofs.Math.Bool.{and-eq-true_iff, false≢true}
-use Rattle.std.proofs.Math.Option.{some, Option}
+use Rattle.std.proofs.Math.Option.{none, some, Option}
 use Rattle.std.proofs.Math.Decide.{dec_lt}
-use Rattle.rules.specs.Prelude.{Ty, size_t, type_limit, Bytes, accepted, is_absent, type_width, rows, type_count}
-use Rattle.rules.specs.Prelude.{type_kind, type_zero, sides, encode_type, type_at, type_end, pending, short, ok9, ok11}
-use Rattle.rules.specs.Prelude.{ok12, q8, q9, q11, q12}
+use Rattle.calculus.specs.Types.{Ty, size_t, type_limit}
+use Rattle.rules.specs.Answer.{Bytes, accepted, is_absent}
+use Rattle.rules.specs.Limits.{type_width}
+use Rattle.rules.specs.Groups.{rows}
+use Rattle.rules.specs.Types.{type_count, type_kind, type_zero, sides, encode_type, type_at, type_end, pending, short}
+use Rattle.rules.specs.Types.{ok9, ok11, ok12, q8, q9, q11, q12}
 use Rattle.rules.proofs.Search.{each_all}
 use Rattle.rules.proofs.Asked.{ask_true}
 use Rattle.rules.proofs.Prefix.{All, joined, total}
@@ -41,7 +43,10 @@ pub record Fields9 (t : Bytes) (i : ℕ) : Type 0 where
 
 pub fields9 : (n : ℕ) (t : Bytes) (i : ℕ) → ok9 n t i ≡ true → Fields9 t i
 unfolding ok9
-fields9 n t i h = grind (arith, common_steps, and-eq-true_iff, leb-true, eqb-true)
+fields9 n t i h =
+    let a = (and-eq-true_iff _ _).0 h in
+    let b = (and-eq-true_iff _ _).0 a.1 in
+    record { known = leb-true (type_kind t i) 4 a.0; unnamed = eqb-true (type_zero t i) 0 b.0 }
 
 pub passes : (g t : Bytes) → q8 t ≡ accepted tt → q9 g t ≡ accepted tt → q11 t ≡ accepted tt → Passes t
 passes g t q8_yes q9_yes q11_yes =
@@ -54,7 +59,8 @@ passes g t q8_yes q9_yes q11_yes =
     }
 
 is_some : (o : Option ℕ) → not (is_absent o) ≡ true → (e : ℕ) × (o ≡ some e)
-is_some o h = grind (arith, common_steps, false≢true)
+is_some none h = absurd (false≢true h)
+is_some (some e) h = (e, refl)
 
 module _ (t : Bytes) (P : Passes t) where
   outermost_end : (i : ℕ) → i < type_count t → pending t i ≡ 0 → (e : ℕ) × (type_end t i ≡ some e)

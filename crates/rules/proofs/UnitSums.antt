@@ -1,9 +1,11 @@
 -- What question 16 asks of less than, in the words of the tree: the named type is a sum of two units.
-use Rattle.std.proofs.lemmas.Grind.{common_steps}
-use Rattle.std.proofs.Common.{◌≡◌, ap, ap₂, ◌∙◌, true, ℕ, suc, ◌+◌, ◌<◌, arith, eqb-true}
+use Rattle.std.proofs.Common.{◌≡◌, refl, ap, ap₂, sym, ◌∙◌, true, ℕ, suc, ◌+◌, ◌<◌, arith, eqb-true}
 use Rattle.std.proofs.Math.Bool.{and-eq-true_iff}
-use Rattle.rules.specs.Prelude.{Property, one, sum, Ty, leaf, node, size_t, Bytes, byte, type_count, type_kind, type_at}
-use Rattle.rules.specs.Prelude.{sum_of_units}
+use Rattle.calculus.specs.Security.{Property}
+use Rattle.calculus.specs.Types.{one, number, sum, product, function, Ty, leaf, node, size_t}
+use Rattle.rules.specs.Answer.{Bytes, byte}
+use Rattle.rules.specs.Types.{type_count, type_kind, type_at}
+use Rattle.rules.specs.Script.{sum_of_units}
 use Rattle.rules.proofs.PrefixLaws.{size_positive}
 use Rattle.rules.proofs.TypeCode.{type_code, type_head}
 use Rattle.rules.proofs.TypePlaces.{kind_at, left_side, right_side, of_kind}
@@ -11,7 +13,9 @@ use Rattle.rules.proofs.TypeTables.{Passes, standing}
 
 -- a unit by its kind
 unit_of : (e : Ty) → byte (type_head e) 0 ≡ 0 → (k : Property) × (e ≡ leaf one k)
-unit_of e h = grind (arith, common_steps)
+unit_of (leaf one k) h = (k, refl)
+unit_of (node sum k s t) h = absurd (omega arith)
+unit_of _ h = absurd (omega arith)
 
 pub record UnitSum (e : Ty) : Type 0 where
   pub own : Property
@@ -22,7 +26,8 @@ pub record UnitSum (e : Ty) : Type 0 where
 module _ (t : Bytes) (P : Passes t) where
   -- a side that stands at record j and is of kind 0
   unit_at : (j n : ℕ) (e : Ty) → j ≡ n → type_at t n ≡ e → n < type_count t → type_kind t j ≡ 0 → (k : Property) × (e ≡ leaf one k)
-  unit_at j n e z p l h = grind (arith, common_steps, unit_of, kind_at, standing)
+  unit_at j n e z p l h =
+      unit_of e (ap (λ x. byte (type_head x) 0) (sym p) ∙ sym (kind_at t n (standing t P n l)) ∙ ap (type_kind t) (sym z) ∙ h)
 
   node_size : {e s u : Ty} {k : Property} → e ≡ node sum k s u → size_t e ≡ 1 + (size_t s + size_t u)
   unfolding size_t
@@ -51,4 +56,8 @@ module _ (t : Bytes) (P : Passes t) where
           both_are x.1 (unit_at (i + 2) (suc i + size_t s) u (omega arith) (right_side t i st sum k s u p) n g).1
 
   pub unit_sum : (i : ℕ) → i < type_count t → sum_of_units t i ≡ true → UnitSum (type_at t i)
-  unit_sum i l h = grind (arith, common_steps, and-eq-true_iff, of_kind, kind_at, standing, eqb-true, of_sides)
+  unit_sum i l h =
+      let a = (and-eq-true_iff _ _).0 h in
+      let b = (and-eq-true_iff _ _).0 a.1 in
+      let p = of_kind sum (type_at t i) (sym (kind_at t i (standing t P i l)) ∙ eqb-true (type_kind t i) 1 a.0) in
+      of_sides i l p.0.own p.0.lhs p.0.rhs p.1 (eqb-true (type_kind t (i + 1)) 0 b.0) (eqb-true (type_kind t (i + 2)) 0 b.1)

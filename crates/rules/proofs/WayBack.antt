@@ -1,9 +1,10 @@
 -- The way back: where the pending count comes to an end over good records, those records are trees.
-use Rattle.std.proofs.Common.{◌≡◌, ap, ◌∙◌, List, [], ◌∷◌, ◌++◌, append_assoc, append-nil, ℕ, zero, suc, ◌+◌, ◌*◌}
+use Rattle.std.proofs.Common.{◌≡◌, refl, ap, ◌∙◌, List, [], ◌∷◌, ◌++◌, append_assoc, append-nil, ℕ, zero, suc, ◌+◌, ◌*◌}
 use Rattle.std.proofs.Common.{◌≤◌, ◌<◌, arith, mul-le-mul_left, length, take, drop, length-drop, take-append-drop}
 use Rattle.std.proofs.Common.{length-take-le, drop-drop}
 use Rattle.std.proofs.Math.Option.{some, none-ne-some, some-injective}
-use Rattle.rules.specs.Prelude.{Bytes, end_after}
+use Rattle.rules.specs.Answer.{Bytes}
+use Rattle.rules.specs.Types.{end_after}
 use Rattle.rules.proofs.Prefix.{joined, total, Shape, Code, Prefix, record_at}
 use Rattle.rules.proofs.Parts.{joined_append, total_append, record_first}
 use Rattle.rules.proofs.PrefixLaws.{ops}
@@ -26,7 +27,9 @@ pub record Trees {T : Type 0} {S : Shape T} (C : Code S) (s : Bytes) (need i e :
 
 module _ {T : Type 0} {S : Shape T} {C : Code S} (X : Prefix C) (s : Bytes) where
   none_needed : (i e : ℕ) → some i ≡ some e → Trees C s 0 i e
-  none_needed i e h = grind (arith, common_steps, some-injective)
+  none_needed i e h =
+      let p = some-injective i e h in
+      record { trees = []; count = refl; bytes = ap (λ n. drop (C.width * n) s) p; end = omega arith }
 
   -- a tree's record in front of its operands and of the trees that follow it
   front_bytes : (i : ℕ) (d : T) (us rest : List ℕ) → C.head d ≡ record_at C.width s i
@@ -65,7 +68,9 @@ module _ {T : Type 0} {S : Shape T} {C : Code S} (X : Prefix C) (s : Bytes) wher
   way_back zero zero i e l h good = none_needed i e h
   way_back zero (suc need) i e l h good = absurd (none-ne-some e h)
   way_back (suc left) zero i e l h good = none_needed i e h
-  way_back (suc left) (suc need) i e l h good = grind (arith, common_steps, in_front, mul-le-mul_left, way_back left (need + ops X s i) (suc i) e (omega arith) h (λ j a b. good j (omega arith) b))
+  way_back (suc left) (suc need) i e l h good =
+      in_front i e need (omega (arith, mul-le-mul_left {m = suc i} {n = i + suc left} C.width (omega arith))) (λ p. good i (omega arith) p)
+      (way_back left (need + ops X s i) (suc i) e (omega arith) h (λ j a b. good j (omega arith) b))
 
 -- one tree, from record i to record e
 pub record Tree {T : Type 0} {S : Shape T} (C : Code S) (s : Bytes) (i e : ℕ) : Type 0 where

@@ -1,12 +1,17 @@
 -- Further examples: what the calls report, write and print.
 use Rattle.std.specs.Prelude.{◌≡◌, true, false, [], ◌∷◌, ◌++◌, ℕ, zero, suc}
 use Rattle.std.proofs.Math.Option.{none}
-use Rattle.rules.specs.Prelude.{Term, Bytes, Answer, accepted, refused, script_record, no_term, subterm, exceeds}
-use Rattle.rules.specs.Prelude.{strip_script, strip_types, type_records, answer_after, work_after, step_call}
-use Rattle.rules.specs.Prelude.{StepReport, step_report, written_after, run_call, run_report, first_after}
-use Rattle.rules.specs.Prelude.{scratch_after, sheet_call, sheet_records, sheet_after, shown_record, verdict, text}
-use Rattle.rules.specs.Prelude.{decimal_digits, our_words, run_text, report}
+use Rattle.calculus.specs.Terms.{Term}
 use Rattle.calculus.specs.Terms as terms
+use Rattle.rules.specs.Answer.{Bytes, Answer, accepted, refused}
+use Rattle.rules.specs.Script.{script_record, no_term, subterm}
+use Rattle.rules.specs.Step.{exceeds}
+use Rattle.rules.specs.Strip.{strip_script, strip_types}
+use Rattle.rules.specs.Calls.{type_records, answer_after, work_after, step_call, StepReport, step_report, written_after}
+use Rattle.rules.specs.Calls.{run_call, run_report, first_after, scratch_after, sheet_call, sheet_records, sheet_after}
+use Rattle.rules.specs.Sheet.{shown_record}
+use Rattle.rules.specs.Reach.{verdict}
+use Rattle.rules.specs.Report.{text, decimal_digits, our_words, run_text, report}
 use Rattle.rules.specs.Cases.{ty, groups, types_with, types, case_term, loop, ran, ends}
 use Rattle.rules.specs.Examples.{var, unit, pair, app, proj, protect, diamond}
 
@@ -33,8 +38,13 @@ recursion w = script_record 11 w 0 3 ++ script_record 2 0 0 4 ++ var 1
 -- the same unrolled once, where record 3 has groups (r,0)
 abbrev pub unrolling : ℕ → ℕ → Bytes
 unrolling r w =
-    script_record 2 0 0 4 ++ script_record 2 r 0 4 ++ script_record 6 w 0 0 ++ script_record 11 w 0 3
-    ++ script_record 2 0 0 4 ++ var 1 ++ var 0
+    script_record 2 0 0 4
+    ++ script_record 2 r 0 4
+    ++ script_record 6 w 0 0
+    ++ script_record 11 w 0 3
+    ++ script_record 2 0 0 4
+    ++ var 1
+    ++ var 0
 
 -- a sheet record with number 0
 abbrev pub shown : ℕ → ℕ → ℕ → Bytes
@@ -75,7 +85,8 @@ pub record CallExamples : Type 0 where
   -- either projection moves, to a protect by the pair's ir
   pub first_projected : written_after (step_call groups types (projection 7) 16) [] ≡ protect 1 ++ unit 0 0
   pub second_projected : written_after (step_call groups types (projection 8) 16) [] ≡ protect 1 ++ unit 1 0
-  -- unrolling: the type's property, the next index as parameter type, and an application made as the written group
+  -- unrolling: the function's property is that of the recursion's type, its parameter type the next index, its
+  -- application made as the written group
   pub unrolled : written_after (step_call groups (types_with 1 0) (recursion 0) 56) [] ≡ unrolling 1 0
   pub unrolled_as_1 : written_after (step_call groups (types_with 0 0) (recursion 1) 56) [] ≡ unrolling 0 1
   -- too big is more than 8,192 records, more than the buffer holds, or a depth over 256
@@ -85,7 +96,8 @@ pub record CallExamples : Type 0 where
   pub buffer_exceeded : exceeds 15 (around 1 (full 0)) ≡ true
   pub depth_256_fits : exceeds 70000 (around 255 (full 0)) ≡ false
   pub depth_257_exceeds : exceeds 70000 (around 256 (full 0)) ≡ true
-  -- at the budget a value ends 0, any other term 1, whatever comes next; the largest budget costs nothing
+  -- at the budget a value ends 0 and any other term 1, whatever its next step would say; the largest budget costs
+  -- nothing
   pub value_at_budget : ran 2 65536 (case_term 1 1 1) ≡ ends 0 2 2
   pub denied_at_budget : ran 0 65536 (case_term 1 1 0) ≡ ends 1 0 7
   pub big_at_budget : ran 0 96 (loop 0 0) ≡ ends 1 0 7

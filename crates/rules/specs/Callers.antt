@@ -1,6 +1,7 @@
--- Writing the callers of earlier files (manual, 7.12): r of its type is put in byte 1 of each recursion, which says as
--- whom its unrolled calls are made. Records of 6 bytes (scripts) and 10 (old office scripts) begin with the same six,
--- and types of 4 and of 6 bytes with the same four.
+-- Writing the callers of form 1 and of old office scripts: r of its type is put in byte 1 of each recursion, which
+-- holds the group that its unrolled calls are made as (manual, 7.12). Scripts have records of 6 bytes over types of 4,
+-- old office scripts of 10 over types of 6. Whatever their widths, records begin with the same six bytes, and types
+-- with the same four.
 use Rattle.std.specs.Prelude.{Bool, if◌then◌else◌, ◌&&◌, ◌++◌, ℕ, zero, suc, ◌+◌, ◌*◌, ◌/◌, nat_eq, nat_lt, length}
 use Rattle.std.specs.Prelude.{take, drop, set}
 use Rattle.rules.specs.Answer.{Bytes, byte}
@@ -42,8 +43,8 @@ count_callers type_bytes width t zero s = 0
 count_callers type_bytes width t (suc n) s =
     (if recursion_of_type type_bytes t (byte s 0) (first_number s) then 1 else 0) + count_callers type_bytes width t n (drop width s)
 
--- A script with r of its type in byte 1 of each recursion. Nothing is asked: other kinds, a number that names no type,
--- and a last record that is cut short stay as they are.
+-- A script with r of its type in byte 1 of each recursion. Nothing is asked: a record of another kind, one whose number
+-- names no record of the types table, and a last record that is cut short stay as they are.
 abbrev pub write_callers_of : ℕ → ℕ → Bytes → Bytes → Bytes
 write_callers_of type_bytes width t s = put_callers type_bytes width t (length s / width) s
 

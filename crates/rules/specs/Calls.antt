@@ -2,9 +2,13 @@
 -- content (manual, 9). A buffer that is to be filled is given by its length.
 use Rattle.std.specs.Prelude.{◌&&◌, if◌then◌else◌, List, [], ◌∷◌, ◌++◌, ℕ, ◌-◌, ◌/◌, min, nat_le, nat_lt, length, drop}
 use Rattle.std.specs.Prelude.{replicate}
-use Rattle.calculus.specs.Prelude.{Security, Ty, size_t, subtype, nearest_type, Term, substitute, raise_value, is_value}
-use Rattle.calculus.specs.Prelude.{literal_of, reckon_result, step, operand_first, if_permitted, apply, project, branch}
-use Rattle.calculus.specs.Prelude.{unroll, calculate}
+use Rattle.calculus.specs.Security.{Security}
+use Rattle.calculus.specs.Types.{Ty, size_t}
+use Rattle.calculus.specs.Subtyping.{subtype}
+use Rattle.calculus.specs.Common.{nearest_type}
+use Rattle.calculus.specs.Terms.{Term, substitute, raise_value, is_value}
+use Rattle.calculus.specs.Numbers.{literal_of, reckon_result}
+use Rattle.calculus.specs.Reduction.{step, operand_first, if_permitted, apply, project, branch, unroll, calculate}
 use Rattle.rules.specs.Answer.{Bytes, Answer, accepted, refused, ◌>>◌, ask, first_from, last_below}
 use Rattle.rules.specs.Limits.{work_length, answer_length, sheet_width}
 use Rattle.rules.specs.Groups.{rows, join, meet, ok3, ok4, ok5, ok6, ok7, q2, q3, q4, q5, q6, q7, properties_of}
@@ -14,7 +18,7 @@ use Rattle.rules.specs.Comparison.{equal_types, Comparison, comparison}
 use Rattle.rules.specs.Script.{records, encode, term, size, depth, depths_from, binders_from, term_end, ok14, ok15}
 use Rattle.rules.specs.Script.{ok36_object, ok16, ok18, ok19, q13, q14, q15, q36_objects, q16, q17, q18, q19}
 use Rattle.rules.specs.Typing.{of_typing, typing}
-use Rattle.rules.specs.Step.{End, moves, end_number, end_count, step_in}
+use Rattle.rules.specs.Step.{End, at_value, moves, may_not, wrong_kind, too_big, end_number, end_count, step_in}
 use Rattle.rules.specs.Step.{exceeds}
 use Rattle.rules.specs.Run.{Ran, run}
 use Rattle.rules.specs.Sheet.{sheet}
@@ -127,7 +131,8 @@ abbrev pub answer_after : Answer Ty → Bytes → Bytes
 answer_after (accepted s) old = fill_front (encode_type s) old
 answer_after (refused q p) old = old
 
--- The work buffer after a check: all zeros once typing has begun, kept where a question before it refuses.
+-- The work buffer after a check: all zeros once typing has begun, whatever it answers, and kept where a question before
+-- it refuses.
 abbrev pub work_after : Answer Ty → Bytes → Bytes
 work_after (accepted s) old = zeros (length old)
 work_after (refused q p) old = if of_typing q then zeros (length old) else old
@@ -163,7 +168,8 @@ abbrev pub written_after : Answer End → Bytes → Bytes
 written_after (accepted x) old = front_after x old
 written_after (refused q p) old = old
 
--- A run by rules S: asks 2 to 19, given the lengths of both buffers, of which the shorter decides what is too big.
+-- A run by rules S: asks 2 to 19, with the lengths of the first and the scratch buffer. What is too big is judged with
+-- the shorter.
 abbrev pub run_call_by : Security → Bytes → Bytes → Bytes → ℕ → ℕ → ℕ → Answer Ran
 run_call_by S g t s budget first scratch = do
   script_check (first ∷ scratch ∷ []) g t s
@@ -204,7 +210,8 @@ q26 e = ask 26 0 (is_value e)
 abbrev pub q27 : Bytes → ℕ → Answer (Unit {0})
 q27 bytes room = ask 27 0 (nat_le (length bytes) room)
 
--- The sheet for a reader group, given its buffer's length: asks 2 to 19, 25, 26 and 27, and answers its bytes.
+-- The sheet for a reader group, with the length of its buffer: asks 2 to 19, 25, 26 and 27, and answers the sheet's
+-- bytes.
 unfoldable pub sheet_call : Bytes → Bytes → Bytes → ℕ → ℕ → Answer Bytes
 unfolding script_check is_value sheet term
 sheet_call g t s group room = do

@@ -1,8 +1,13 @@
 -- The worked cases A to L (manual, 10): each statement is a field of one record.
 use Rattle.std.specs.Prelude.{◌≡◌, ◌++◌, ◌∷◌, [], ℕ}
 use Rattle.std.proofs.Math.Option.{none}
-use Rattle.rules.specs.Prelude.{Bytes, Answer, accepted, refused, join, type_record, script_record, groups_check}
-use Rattle.rules.specs.Prelude.{run_call, Report, run_report, type_bytes, verdict, text, report}
+use Rattle.rules.specs.Answer.{Bytes, Answer, accepted, refused}
+use Rattle.rules.specs.Groups.{join}
+use Rattle.rules.specs.Types.{type_record}
+use Rattle.rules.specs.Script.{script_record}
+use Rattle.rules.specs.Calls.{groups_check, run_call, Report, run_report, type_bytes}
+use Rattle.rules.specs.Reach.{verdict}
+use Rattle.rules.specs.Report.{text, report}
 
 -- a row, given as a word below 256
 abbrev pub word : ℕ → Bytes
@@ -16,7 +21,8 @@ ty kind r ir = type_record kind (record { r = r; ir = ir; c = 0; ic = 0 })
 abbrev pub groups : Bytes
 groups = word 3 ++ word 2
 
--- A sum (0,0) of units (0,0) at 0, and at 3 a function with these groups, from unit (0,0) to unit (0,0).
+-- Records 0 to 2 are the sum (0,0) of units (0,0), records 3 to 5 a function from unit to unit, all (0,0) but for the
+-- function's groups, which are given.
 abbrev pub types_with : ℕ → ℕ → Bytes
 types_with r ir = ty 1 0 0 ++ ty 0 0 0 ++ ty 0 0 0 ++ ty 3 r ir ++ ty 0 0 0 ++ ty 0 0 0
 
@@ -28,14 +34,25 @@ types = types_with 0 0
 -- every unit is (0,0), and every type 0. Given are the groups of the tested injection and r of the case.
 abbrev pub case_term : ℕ → ℕ → ℕ → Bytes
 case_term r ir w =
-    script_record 9 w 0 0 ++ script_record 4 r ir 0 ++ script_record 1 0 0 0 ++ script_record 4 0 0 0
-    ++ script_record 1 0 0 0 ++ script_record 5 0 0 0 ++ script_record 1 0 0 0
+    script_record 9 w 0 0
+    ++ script_record 4 r ir 0
+    ++ script_record 1 0 0 0
+    ++ script_record 4 0 0 0
+    ++ script_record 1 0 0 0
+    ++ script_record 5 0 0 0
+    ++ script_record 1 0 0 0
 
--- A recursion of type 3, called as `caller`, whose function applies it to its parameter, applied to a unit as w.
+-- The loop: a recursion of type 3, whose function applies the recursion to its parameter, is applied to a unit. Given
+-- are the outer application's r and the recursion's group.
 abbrev pub loop : ℕ → ℕ → Bytes
 loop w caller =
-    script_record 6 w 0 0 ++ script_record 11 caller 0 3 ++ script_record 2 0 0 4 ++ script_record 6 0 0 0
-    ++ script_record 0 0 0 1 ++ script_record 0 0 0 0 ++ script_record 1 0 0 0
+    script_record 6 w 0 0
+    ++ script_record 11 caller 0 3
+    ++ script_record 2 0 0 4
+    ++ script_record 6 0 0 0
+    ++ script_record 0 0 0 1
+    ++ script_record 0 0 0 0
+    ++ script_record 1 0 0 0
 
 -- what checking reports, as bytes
 abbrev pub check : Bytes → Bytes → Answer Bytes

@@ -1,7 +1,9 @@
 -- The comparison of two types: same, below or neither (manual, 3.5).
 use Rattle.std.specs.Prelude.{Bool, false, if◌then◌else◌, ◌&&◌, ℕ, nat_eq}
-use Rattle.calculus.specs.Prelude.{Property, Security, Ty, leaf, node, subtype}
+use Rattle.calculus.specs.Security.{Property, Security}
+use Rattle.calculus.specs.Types.{Ty, leaf, node}
 use Rattle.calculus.specs.Types as formers
+use Rattle.calculus.specs.Subtyping.{subtype}
 use Rattle.calculus.specs.Subtyping as directions
 
 -- what a comparison answers
@@ -15,8 +17,9 @@ equal_properties k l = nat_eq k.r l.r && (nat_eq k.ir l.ir && (nat_eq k.c l.c &&
 -- Same is to be equal in every record.
 unfoldable pub equal_types : Ty → Ty → Bool
 equal_types (leaf b k) (leaf b' l) = formers.same_leaf b b' && equal_properties k l
+equal_types (leaf b k) (node f l s t) = false
+equal_types (node f k s t) (leaf b l) = false
 equal_types (node f k s t) (node f' l s' t') = formers.equal_formers f f' && (equal_properties k l && (equal_types s s' && equal_types t t'))
-equal_types _ _ = false
 
 -- Below is at or below and not the same; a type that is above is neither.
 abbrev pub comparison : Security → Ty → Ty → Comparison

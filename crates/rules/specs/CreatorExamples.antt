@@ -1,10 +1,15 @@
 -- Examples of creators and indirect creators, and of the rewriting of forms 1 and 2, which had none.
 use Rattle.std.specs.Prelude.{◌≡◌, [], ◌∷◌, ◌++◌, ℕ, ◌/◌, ◌%◌}
-use Rattle.rules.specs.Prelude.{Bytes, Answer, accepted, refused, type_width, script_width, type_record, strictly_below}
-use Rattle.rules.specs.Prelude.{neither, full_record, script_record, strip_script, strip_types, write_callers}
-use Rattle.rules.specs.Prelude.{callers_written, types_check, compare_call, work_after, step_call, written_after}
-use Rattle.rules.specs.Prelude.{type_bytes, rewriting_types, rewriting_script, rewritten_records, rewritten_after}
-use Rattle.rules.specs.Prelude.{verdict}
+use Rattle.rules.specs.Answer.{Bytes, Answer, accepted, refused}
+use Rattle.rules.specs.Limits.{type_width, script_width}
+use Rattle.rules.specs.Types.{type_record}
+use Rattle.rules.specs.Comparison.{strictly_below, neither}
+use Rattle.rules.specs.Script.{full_record, script_record}
+use Rattle.rules.specs.Strip.{strip_script, strip_types}
+use Rattle.rules.specs.Callers.{write_callers, callers_written}
+use Rattle.rules.specs.Calls.{types_check, compare_call, work_after, step_call, written_after, type_bytes}
+use Rattle.rules.specs.Rewriting.{rewriting_types, rewriting_script, rewritten_records, rewritten_after}
+use Rattle.rules.specs.Reach.{verdict}
 use Rattle.rules.specs.Cases.{ty, groups, types_with, types, loop, check}
 use Rattle.rules.specs.Examples.{unit, pair, proj, diamond}
 
@@ -47,8 +52,13 @@ old_types r = old_type 1 0 0 ++ old_type 0 0 0 ++ old_type 0 0 0 ++ old_type 3 r
 -- the loop of those cases in these forms
 abbrev pub old_loop : ℕ → ℕ → Bytes
 old_loop w caller =
-    old_record 6 w 0 0 ++ old_record 11 caller 0 3 ++ old_record 2 0 0 4 ++ old_record 6 0 0 0 ++ old_record 0 0 0 1
-    ++ old_record 0 0 0 0 ++ old_record 1 0 0 0
+    old_record 6 w 0 0
+    ++ old_record 11 caller 0 3
+    ++ old_record 2 0 0 4
+    ++ old_record 6 0 0 0
+    ++ old_record 0 0 0 1
+    ++ old_record 0 0 0 0
+    ++ old_record 1 0 0 0
 
 -- Each field is one input with its answer, computed.
 pub record CreatorExamples : Type 0 where
@@ -95,14 +105,16 @@ pub record CreatorExamples : Type 0 where
   -- stripping clears all four groups, and no other byte
   pub object_stripped : strip_script (full_record 4 1 1 65535 1 1) ≡ full_record 4 0 0 65535 0 0
   pub type_stripped : strip_types (created 3 1 1 1 1) ≡ created 3 0 0 0 0
-  -- callers: r of the type in byte 1 of a recursion alone; not where there is no such type or the record is cut short
+  -- Writing the callers of form 1: r of the type in byte 1 of a recursion, and in no other record; not where the type
+  -- doesn't exist, nor in a record that is cut short.
   pub caller_written : write_callers (old_types 1) (old_loop 1 0) ≡ old_loop 1 1
   pub caller_replaced : write_callers (old_types 0) (old_loop 1 1) ≡ old_loop 1 0
   pub no_such_caller : write_callers (old_types 1) (old_record 11 0 0 6 ++ old_record 1 0 0 0) ≡ old_record 11 0 0 6 ++ old_record 1 0 0 0
   pub caller_cut_short : write_callers (old_types 1) (old_record 11 0 0 3 ++ (11 ∷ 0 ∷ 0 ∷ 0 ∷ 3 ∷ [])) ≡ old_record 11 1 0 3 ++ (11 ∷ 0 ∷ 0 ∷ 0 ∷ 3 ∷ [])
   pub one_written : callers_written (old_types 0) (old_loop 0 0) ≡ 1
   pub none_written : callers_written (old_types 0) (old_record 11 0 0 6 ++ old_record 9 0 0 0 ++ (11 ∷ 0 ∷ 0 ∷ 0 ∷ 3 ∷ [])) ≡ 0
-  -- rewriting: c and ic are 0; the count; 8 and 13 of the old length, other places as ever; 27 last; what bytes stay
+  -- the rewriting: c and ic as group 0; the record count; 8 and 13 of the old lengths, the other questions with their
+  -- places; 27 last; later bytes are kept, and all of them on a refusal
   pub rewritten_types : rewriting_types groups (old_types 1) 36 ≡ accepted (types_with 1 1)
   pub rewritten_script : rewriting_script groups (old_types 1) (old_loop 1 1) 56 ≡ accepted (loop 1 1)
   pub types_counted : rewritten_records type_width (rewriting_types groups (old_types 0) 36) ≡ accepted 6

@@ -1,8 +1,15 @@
--- Further examples of questions 1 to 25: what cases A to L leave open. CallExamples has what the calls give and write.
+-- Further examples: the slips of the pen, and what cases A to L leave open of questions 1 to 25. What the calls give
+-- and write is in CallExamples.
 use Rattle.std.specs.Prelude.{◌≡◌, true, false, [], ◌∷◌, ◌++◌, ℕ, zero, suc, ◌*◌, ◌/◌, ◌%◌}
-use Rattle.rules.specs.Prelude.{one, leaf, Bytes, accepted, refused, leq, row, q2, q8, same, strictly_below, neither}
-use Rattle.rules.specs.Prelude.{number, script_record, q13, q18, zeros, groups_check, types_check, compare_call}
-use Rattle.rules.specs.Prelude.{check_call, type_bytes, run_call, run_report, verdict}
+use Rattle.calculus.specs.Types.{one, leaf}
+use Rattle.rules.specs.Answer.{Bytes, accepted, refused}
+use Rattle.rules.specs.Groups.{leq, row, q2}
+use Rattle.rules.specs.Types.{q8}
+use Rattle.rules.specs.Comparison.{same, strictly_below, neither}
+use Rattle.rules.specs.Script.{number, script_record, q13, q18}
+use Rattle.rules.specs.Calls.{zeros, groups_check, types_check, compare_call, check_call, type_bytes, run_call}
+use Rattle.rules.specs.Calls.{run_report}
+use Rattle.rules.specs.Reach.{verdict}
 use Rattle.rules.specs.Cases.{word, ty, groups, types_with, types, loop, check, ran}
 
 -- a variable's record
@@ -57,6 +64,10 @@ branch n = script_record 9 0 0 1 ++ script_record 4 0 0 0 ++ unit 0 0 ++ var n +
 -- a case of these two branches
 abbrev pub branches : Bytes → Bytes → Bytes
 branches a b = script_record 9 0 0 1 ++ (script_record 4 0 0 0 ++ unit 0 0) ++ a ++ b
+
+-- a case whose tested operand is a variable
+abbrev pub tested : Bytes
+tested = script_record 9 0 0 1 ++ var 0 ++ unit 0 0 ++ unit 0 0
 
 -- n pairs around a unit, each with a unit on its left: 2n + 1 records, and so many in its type
 abbrev pub pairs : ℕ → Bytes
@@ -147,8 +158,9 @@ pub record Examples : Type 0 where
   -- a branch has one binder, the tested operand none
   pub branch_binder : check types (branch 0) ≡ accepted (ty 0 0 0)
   pub one_binder : check types (branch 1) ≡ refused 19 3
-  pub tested_unbound : check types (script_record 9 0 0 1 ++ var 0 ++ unit 0 0 ++ unit 0 0) ≡ refused 19 1
-  -- 20 before the argument, 22 after it; at a recursion 21, 23, then the body; 24 after both operands
+  pub tested_unbound : check types tested ≡ refused 19 1
+  -- the order of typing's refusals: 20 before the argument, 22 after it, at a recursion 21 before 23 and both before
+  -- the body, 24 after both operands
   pub function_first : check types (app 0 ++ unit 0 0 ++ proj 0 ++ unit 0 0) ≡ refused 20 0
   pub argument_next : check types (app 0 ++ script_record 2 0 0 4 ++ var 0 ++ proj 0 ++ unit 0 0) ≡ refused 20 3
   pub argument_wanted : check types (app 0 ++ script_record 2 0 0 4 ++ var 0 ++ unit 1 1) ≡ refused 22 0

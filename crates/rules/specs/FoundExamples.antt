@@ -1,16 +1,28 @@
 -- Examples of a case whose number is 65,535, which finds its own type.
 use Rattle.std.specs.Prelude.{◌≡◌, true, false, [], ◌∷◌, ◌++◌, ℕ, zero, suc}
 use Rattle.calculus.specs.Terms as terms
-use Rattle.rules.specs.Prelude.{Bytes, accepted, refused, meet, script_record, no_term, q18, exceeds, strip_script}
-use Rattle.rules.specs.Prelude.{work_after, step_call, written_after, verdict}
+use Rattle.rules.specs.Answer.{Bytes, Answer, accepted, refused}
+use Rattle.rules.specs.Groups.{meet}
+use Rattle.rules.specs.Script.{script_record, no_term, q18}
+use Rattle.rules.specs.Step.{exceeds}
+use Rattle.rules.specs.Strip.{strip_script}
+use Rattle.rules.specs.Calls.{type_bytes, work_after, step_call, written_after}
+use Rattle.rules.specs.Reach.{verdict}
 use Rattle.rules.specs.Cases.{ty, groups, types, check}
 use Rattle.rules.specs.Examples.{var, unit, pair, proj, protect, diamond}
 use Rattle.rules.specs.CallExamples.{around}
-use Rattle.rules.specs.CreatorExamples.{check_over}
 
 -- a first injection of a unit, with these groups, tested by a case of r that finds its own type
 abbrev pub finds : ℕ → ℕ → ℕ → Bytes → Bytes → Bytes
 finds w r ir a b = script_record 9 w 0 65535 ++ (script_record 4 r ir 0 ++ unit 0 0) ++ a ++ b
+
+-- what checking reports over the four groups of case J
+abbrev pub check_in_diamond : Bytes → Bytes → Answer Bytes
+check_in_diamond t s = type_bytes (verdict diamond t s)
+
+-- a sum of units, and units (1,1) and (2,2)
+abbrev pub parameters : Bytes
+parameters = ty 1 0 0 ++ ty 0 0 0 ++ ty 0 0 0 ++ ty 0 1 1 ++ ty 0 2 2
 
 -- n protects around a case that finds its own type, whose tested unit is its deepest record
 abbrev pub deep : ℕ → Bytes
@@ -26,9 +38,9 @@ pub record FoundExamples : Type 0 where
   -- the join of the branches' groups, raised by ir of the tested operand
   pub found : check types (finds 0 0 0 (unit 1 0) (unit 0 0)) ≡ accepted (ty 0 1 0)
   pub found_raised : check types (finds 1 1 1 (unit 0 0) (unit 1 0)) ≡ accepted (ty 0 1 1)
-  pub joined_not_larger : check_over types (finds 0 0 0 (unit 1 1) (unit 2 2)) ≡ accepted (ty 0 3 3)
+  pub joined_not_larger : check_in_diamond types (finds 0 0 0 (unit 1 1) (unit 2 2)) ≡ accepted (ty 0 3 3)
   -- of a parameter's groups the meet, which is no smaller number
-  pub met : check_over (ty 1 0 0 ++ ty 0 0 0 ++ ty 0 0 0 ++ ty 0 1 1 ++ ty 0 2 2) (finds 0 0 0 (script_record 2 0 0 3 ++ unit 0 0) (script_record 2 0 0 4 ++ unit 1 0))
+  pub met : check_in_diamond parameters (finds 0 0 0 (script_record 2 0 0 3 ++ unit 0 0) (script_record 2 0 0 4 ++ unit 1 0))
       ≡ accepted (ty 3 0 0 ++ ty 0 0 0 ++ ty 0 1 0)
   pub meet_not_smaller : meet diamond 1 2 ≡ 0
   -- 31 where the kinds differ, at the case; after what the second branch refuses

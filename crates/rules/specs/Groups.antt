@@ -2,7 +2,8 @@
 use Rattle.std.specs.Prelude.{Bool, false, ◌&&◌, ℕ, ◌+◌, ◌*◌, ◌/◌, ◌%◌, ◌^◌, nat_eq, nat_le, nat_lt, length}
 use Rattle.std.specs.Bool.{beq}
 use Rattle.std.proofs.Math.Option.{Option, none, some}
-use Rattle.calculus.specs.Prelude.{Security, Groups, properties}
+use Rattle.calculus.specs.Security.{Security}
+use Rattle.calculus.specs.Groups.{Groups, properties}
 use Rattle.rules.specs.Answer.{Bytes, byte, Answer, ask, each, first_from, first_below, last_below, all_below, ◌⇒◌}
 use Rattle.rules.specs.Limits.{row_width, group_limit}
 
@@ -92,7 +93,8 @@ row_of_lowest t set none = false
 row_of_lowest t set (some l) = all_below (λ k. beq (set k) (bit (row t l) k)) group_limit
 
 -- 6. For every row h: have rows g and h a bit in common, and are their common bits exactly the row of the lowest of
--- them? Place: g, the smaller of the first failing pair, since both orders of a pair have the same answer.
+-- them? Both orders of a pair have the same answer, so the place, the first g with a no, is the smaller of the first
+-- failing pair.
 unfoldable pub ok6 : Bytes → ℕ → Bool
 unfolding first_from
 ok6 t g = all_below (λ h. row_of_lowest t (in_both_rows t g h) (first_below (in_both_rows t g h) group_limit)) (rows t)

@@ -1,8 +1,9 @@
--- Amendments: lists of scripts and of amendments, their check, and the script in force (manual, 7.7).
+-- Amendments: a studio's list of scripts, the list of its amendments, the check of both, and the script in force
+-- (manual, 7.7).
 use Rattle.std.specs.Prelude.{◌≡◌, Bool, true, false, if◌then◌else◌, not, ◌&&◌, ◌||◌, ℕ, zero, suc, ◌+◌, ◌*◌, ◌/◌, ◌%◌}
 use Rattle.std.specs.Prelude.{◌<◌, nat_eq, nat_le, nat_lt, length}
 use Rattle.std.proofs.Math.Option.{Option, none, some}
-use Rattle.calculus.specs.Prelude.{subtype}
+use Rattle.calculus.specs.Subtyping.{subtype}
 use Rattle.rules.specs.Answer.{Bytes, byte, Answer, accepted, ◌>>◌, ask, each, first_from, first_below, last_below}
 use Rattle.rules.specs.Limits.{listed_width, entry_width, listed_limit, no_script}
 use Rattle.rules.specs.Groups.{join, meet, properties_of}
@@ -68,7 +69,8 @@ q25_scripts t l = each 25 (script_count l) (ok25 t l)
 unfoldable pub ok40 : Bytes → Bytes → ℕ → Bool
 unfolding among
 ok40 l a e =
-    nat_lt (entry_first a e) (script_count l) && (not (is_listed a e (entry_first a e))
+    nat_lt (entry_first a e) (script_count l)
+    && (not (is_listed a e (entry_first a e))
     && (replaces_none a e || nat_lt (entry_replaced a e) (script_count l) && is_listed a e (entry_replaced a e)))
 
 -- 41. Is the second number 65,535, or replaced by no earlier entry? Place: the entry.
@@ -124,7 +126,8 @@ unfolding first_from
 end_of_replacements a zero i = i
 end_of_replacements a (suc n) i = elim (replacement a i) [ none ↦ i | some e ↦ end_of_replacements a n (entry_first a e) ]
 
--- The script in force from script i: the end of following replacements, and none where no entry names i first.
+-- The script in force from script i: none where no entry names i first, and else the end of following replacements. No
+-- entry is followed twice.
 unfoldable pub script_in_force : Bytes → ℕ → ℕ
 unfolding among end_of_replacements
 script_in_force a i = if is_listed a (entry_count a) i then end_of_replacements a (entry_count a) i else no_script

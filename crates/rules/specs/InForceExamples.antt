@@ -1,7 +1,8 @@
 -- Examples of amended lists, and of the order of questions 40, 25, 40, 41 and 42.
 use Rattle.std.specs.Prelude.{◌≡◌, List, [], ◌∷◌, ◌++◌, ℕ, ◌/◌, ◌%◌}
-use Rattle.rules.specs.Prelude.{Bytes, Answer, accepted, refused, in_force}
+use Rattle.rules.specs.Answer.{Bytes, Answer, accepted, refused}
 use Rattle.rules.specs.Cases.{ty, groups}
+use Rattle.rules.specs.InForce.{in_force}
 
 -- 16-bit numbers
 unfoldable pub numbers : List ℕ → Bytes

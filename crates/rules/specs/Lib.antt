@@ -34,4 +34,3 @@ pub mod PreviewExamples
 pub mod PacketExamples
 pub mod InForceExamples
 pub mod OfficeExamples
-pub mod Prelude

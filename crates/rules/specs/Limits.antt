@@ -1,6 +1,6 @@
 -- The widths and limits of every file and buffer, each under one name (manual, 8).
 use Rattle.std.specs.Prelude.{ℕ, ◌*◌}
-use Rattle.calculus.specs.Prelude.{type_limit}
+use Rattle.calculus.specs.Types.{type_limit}
 
 -- bytes of a row of a groups table
 abbrev pub row_width : ℕ

@@ -1,7 +1,8 @@
 -- Terms with names, and what a variable means in them: the nearest binder of its name (manual, 7.9).
 use Rattle.std.specs.Prelude.{◌≡◌, if◌then◌else◌, List, [], ◌∷◌, ◌++◌, ℕ, suc, ◌-◌, nat_eq}
-use Rattle.calculus.specs.Prelude.{Property, Reader, Indirect, Side, Operation, Term, var, unit, lam, pair, inj, app}
-use Rattle.calculus.specs.Prelude.{proj, case, protect, mu, literal, reckon}
+use Rattle.calculus.specs.Security.{Property, Reader, Indirect}
+use Rattle.calculus.specs.Terms.{Side, Operation, Term, var, unit, lam, pair, inj, app, proj, case, protect, mu}
+use Rattle.calculus.specs.Terms.{literal, reckon}
 
 -- A term whose binders and variables have names. A name stands after the number that its record holds: a function and a
 -- recursion bind one, a case one in each branch.
@@ -26,7 +27,8 @@ pub data Nearest (x : ℕ) : List ℕ → ℕ → Type 0 where
   nearest_further : {y n : ℕ} {ns : List ℕ} → (x ≡ y → ⊥) → Nearest x ns n → Nearest x (y ∷ ns) (suc n)
 
 -- Under binders of these names, the nearest first, a term with names means a term: each variable has the number of the
--- nearest binder of its name. A branch's name holds in that branch alone.
+-- nearest binder of its name. A branch's name holds in that branch alone, neither in the other nor in the tested
+-- operand.
 pub data Means : List ℕ → Named → Term → Type 0 where
   means_var : {ns : List ℕ} {x n : ℕ} → Nearest x ns n → Means ns (named_var x) (var n)
   means_unit : {ns : List ℕ} {k : Property} → Means ns (named_unit k) (unit k)

@@ -1,9 +1,14 @@
 -- Examples of literals, sums and less than.
 use Rattle.std.specs.Prelude.{◌≡◌, [], ◌∷◌, ◌++◌, ℕ}
 use Rattle.std.proofs.Math.Option.{none}
-use Rattle.rules.specs.Prelude.{Bytes, accepted, refused, strictly_below, neither, full_record, script_record}
-use Rattle.rules.specs.Prelude.{strip_script, types_check, compare_call, step_call, written_after, sheet_call}
-use Rattle.rules.specs.Prelude.{shown_record, rewriting_script, text, report}
+use Rattle.rules.specs.Answer.{Bytes, accepted, refused}
+use Rattle.rules.specs.Comparison.{strictly_below, neither}
+use Rattle.rules.specs.Script.{full_record, script_record}
+use Rattle.rules.specs.Strip.{strip_script}
+use Rattle.rules.specs.Calls.{types_check, compare_call, step_call, written_after, sheet_call}
+use Rattle.rules.specs.Sheet.{shown_record}
+use Rattle.rules.specs.Rewriting.{rewriting_script}
+use Rattle.rules.specs.Report.{text, report}
 use Rattle.rules.specs.Cases.{ty, groups, types, check, ran, ends}
 use Rattle.rules.specs.Examples.{unit, pair, proj, protect}
 use Rattle.rules.specs.CallExamples.{stepped, step_ends}
@@ -58,7 +63,8 @@ pub record NumberExamples : Type 0 where
   pub right_typed : check types (protect 0 ++ plus 0 ++ literal 0 0 3 ++ proj 0 ++ unit 0 0) ≡ refused 20 3
   pub right_kind : check types (protect 0 ++ less 0 0 ++ literal 0 0 3 ++ unit 1 1) ≡ refused 20 1
   pub right_reader : check types (protect 0 ++ less 0 0 ++ literal 0 0 3 ++ literal 1 0 4) ≡ refused 21 1
-  -- the result has no operand's r or c; each ir, ic and the node's group raise it: over J, 1 ⊔ 2 is 3
+  -- the result has neither operand's r nor c; it is raised by each one's ir, and by ic and the node's group: over J, 1
+  -- ⊔ 2 is 3
   pub readers_apart : check types (plus 1 ++ literal 1 0 3 ++ literal 1 0 4) ≡ accepted (ty 4 0 0)
   pub node_creates : check_over types (plus 2 ++ full_record 12 0 0 3 3 3 ++ full_record 12 0 0 4 3 3) ≡ accepted (created 4 0 0 2 2)
   pub left_raises : check_over types (plus 3 ++ full_record 12 1 1 3 3 1 ++ full_record 12 0 0 4 3 3) ≡ accepted (created 4 1 1 1 1)

@@ -2,8 +2,8 @@
 -- 10 bytes: kind, r, ir, 0, number, first name, second name.
 use Rattle.std.specs.Prelude.{Bool, not, ◌&&◌, ◌||◌, List, [], ◌∷◌, ◌++◌, ℕ, zero, suc, ◌+◌, ◌*◌, ◌/◌, ◌%◌, nat_eq}
 use Rattle.std.specs.Prelude.{nat_le, nat_lt, length, get_or, take, drop}
-use Rattle.calculus.specs.Prelude.{first, second, plus, less, Term, var, unit, lam, pair, inj, app, proj, case, protect}
-use Rattle.calculus.specs.Prelude.{mu, literal, reckon}
+use Rattle.calculus.specs.Terms.{first, second, plus, less, Term, var, unit, lam, pair, inj, app, proj, case, protect}
+use Rattle.calculus.specs.Terms.{mu, literal, reckon}
 use Rattle.rules.specs.Answer.{Bytes, byte, Answer, accepted, ◌>>◌, ask, each, first_from, ◌⇒◌}
 use Rattle.rules.specs.Limits.{old_script_width, office_width, office_limit}
 use Rattle.rules.specs.Script.{records, encode, size, term}
@@ -38,7 +38,8 @@ unfoldable pub first_six : ℕ → Bytes → Bytes
 first_six zero s = []
 first_six (suc n) s = take old_script_width s ++ first_six n (drop office_width s)
 
--- The records in the present form, c and ic as group 0. A variable's number is not yet what it means.
+-- The records in the present form: of the first six bytes, with c and ic as group 0. A variable's number is not yet
+-- what it means.
 unfoldable pub nameless : Bytes → Bytes
 unfolding first_six widen_script
 nameless s = widen_script (first_six (office_records s) s)
@@ -87,7 +88,8 @@ ok29 s i =
 abbrev pub q29 : Bytes → Answer (Unit {0})
 q29 s = each 29 (office_records s) (ok29 s)
 
--- 30. Of a variable: has its name a binder over it? Place: the record. `ns` are those binders' names for each record.
+-- 30. Of a variable: has its name a binder over it? Place: the record. `ns` are the names of the binders over each
+-- record.
 unfoldable pub ok30 : List (List ℕ) → Bytes → ℕ → Bool
 unfolding nearest
 ok30 ns s i = nat_eq (office_kind s i) 0 ⇒ nat_lt (nearest (first_name s i) (get_or ns i [])) (length (get_or ns i []))
@@ -101,8 +103,8 @@ unfoldable pub import_of : Bytes → Bytes
 unfolding encode meant named_term
 import_of s = encode (meant [] (named_term s))
 
--- Import, given the new buffer's length: asks 2 to 12, 28, 14 to 18 of the first six bytes with 36 after 15, 29, 30 and
--- 27.
+-- Import: asks 2 to 12, 28, 14 to 18 of the first six bytes with 36 after 15, 29, 30 and 27, with the length of the new
+-- script's buffer.
 unfoldable pub import_call : Bytes → Bytes → Bytes → ℕ → Answer Bytes
 unfolding types_check form_check nameless first_from ok29 ok30 scopes named_term import_of
 import_call g t s room = do

@@ -1,10 +1,12 @@
 -- Examples of scripts of the old office program, imported and exported.
-use Rattle.std.specs.Prelude.{◌≡◌, Bool, true, false, List, [], ◌∷◌, ◌++◌, map, ℕ}
-use Rattle.rules.specs.Prelude.{Bytes, accepted, refused, script_width, office_width, full_record, script_record}
-use Rattle.rules.specs.Prelude.{write_office_callers, office_callers_written, rewritten_records, rewritten_after}
-use Rattle.rules.specs.Prelude.{office_record, ok29, import_call, export_call}
+use Rattle.std.specs.Prelude.{◌≡◌, Bool, true, false, List, [], ◌∷◌, ◌++◌, ℕ}
+use Rattle.rules.specs.Answer.{Bytes, accepted, refused}
+use Rattle.rules.specs.Limits.{script_width, office_width}
+use Rattle.rules.specs.Script.{full_record, script_record}
+use Rattle.rules.specs.Callers.{write_office_callers, office_callers_written}
+use Rattle.rules.specs.Rewriting.{rewritten_records, rewritten_after}
+use Rattle.rules.specs.Office.{office_record, ok29, import_call, export_call}
 use Rattle.rules.specs.Cases.{groups, types, types_with}
-use Rattle.rules.specs.Examples.{var, unit, pair}
 
 -- a variable's old record with this name
 abbrev pub named : ℕ → Bytes
@@ -30,6 +32,18 @@ old_first = office_record 4 0 0 0 0 0 ++ old_unit
 abbrev pub old_case : ℕ → ℕ → Bytes
 old_case x y = office_record 9 0 0 0 x y
 
+-- what a variable is imported as
+abbrev pub var : ℕ → Bytes
+var n = script_record 0 0 0 n
+
+-- what a unit is imported as
+abbrev pub unit : Bytes
+unit = script_record 1 0 0 0
+
+-- what a pair's record is imported as
+abbrev pub pair : Bytes
+pair = script_record 3 0 0 0
+
 -- what such a function's record is imported as
 abbrev pub function : Bytes
 function = script_record 2 0 0 4
@@ -40,11 +54,16 @@ case_of e a b = script_record 9 0 0 0 ++ e ++ a ++ b
 
 -- what that injection is imported as
 abbrev pub first : Bytes
-first = script_record 4 0 0 0 ++ unit 0 0
+first = script_record 4 0 0 0 ++ unit
 
 -- question 29 of a record of each kind, 0 to 14, with these names
 abbrev pub unused : ℕ → ℕ → List Bool
-unused x y = map (λ k. ok29 (office_record k 0 0 0 x y) 0) (0 ∷ 1 ∷ 2 ∷ 3 ∷ 4 ∷ 5 ∷ 6 ∷ 7 ∷ 8 ∷ 9 ∷ 10 ∷ 11 ∷ 12 ∷ 13 ∷ 14 ∷ [])
+unused x y =
+    ok29 (office_record 0 0 0 0 x y) 0 ∷ ok29 (office_record 1 0 0 0 x y) 0 ∷ ok29 (office_record 2 0 0 0 x y) 0 ∷ ok29 (office_record 3 0 0 0 x y) 0
+    ∷ ok29 (office_record 4 0 0 0 x y) 0 ∷ ok29 (office_record 5 0 0 0 x y) 0 ∷ ok29 (office_record 6 0 0 0 x y) 0
+    ∷ ok29 (office_record 7 0 0 0 x y) 0 ∷ ok29 (office_record 8 0 0 0 x y) 0 ∷ ok29 (office_record 9 0 0 0 x y) 0
+    ∷ ok29 (office_record 10 0 0 0 x y) 0 ∷ ok29 (office_record 11 0 0 0 x y) 0 ∷ ok29 (office_record 12 0 0 0 x y) 0
+    ∷ ok29 (office_record 13 0 0 0 x y) 0 ∷ ok29 (office_record 14 0 0 0 x y) 0 ∷ []
 
 -- Each field is one input with its answer, computed.
 pub record OfficeExamples : Type 0 where
@@ -85,10 +104,10 @@ pub record OfficeExamples : Type 0 where
   pub no_room : import_call groups types (old_function 7 ++ named 7) 15 ≡ refused 27 0
   -- the answer and the lent bytes
   pub counted : rewritten_records script_width (import_call groups types (old_function 7 ++ named 7) 17) ≡ accepted 2
-  pub bytes_past : rewritten_after (import_call groups types old_unit 9) (9 ∷ 9 ∷ 9 ∷ 9 ∷ 9 ∷ 9 ∷ 9 ∷ 9 ∷ 9 ∷ []) ≡ unit 0 0 ++ 9 ∷ []
+  pub bytes_past : rewritten_after (import_call groups types old_unit 9) (9 ∷ 9 ∷ 9 ∷ 9 ∷ 9 ∷ 9 ∷ 9 ∷ 9 ∷ 9 ∷ []) ≡ unit ++ 9 ∷ []
   pub kept : rewritten_after (import_call groups types (named 7) 8) (9 ∷ 9 ∷ []) ≡ 9 ∷ 9 ∷ []
   -- each binder is named by its count of binders outside it
-  pub exported : export_call groups types (function ++ pair 0 0 ++ function ++ var 1 ++ function ++ var 0) 60
+  pub exported : export_call groups types (function ++ pair ++ function ++ var 1 ++ function ++ var 0) 60
       ≡ accepted (old_function 0 ++ old_pair ++ old_function 1 ++ named 0 ++ old_function 1 ++ named 1)
   pub exported_case : export_call groups types (function ++ case_of first (var 0) (var 1)) 60 ≡ accepted (old_function 0 ++ old_case 1 1 ++ old_first ++ named 1 ++ named 0)
   -- creators aren't exported

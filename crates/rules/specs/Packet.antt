@@ -1,8 +1,13 @@
--- The loan desk's packet: the sheet of a script applied to an entry as the desk's group (manual, 7.8 and 9.12).
+-- The loan desk's packet: the sheet, for the desk's group, of a script applied to an entry as that group (manual, 7.8
+-- and 9.12).
 use Rattle.std.specs.Prelude.{[], ◌∷◌, ◌++◌, if◌then◌else◌, ℕ, ◌/◌, min, nat_eq, nat_le, length}
-use Rattle.calculus.specs.Prelude.{Security, Ty, function, size_t, subtype, below, nearest_type, is_value, substitute}
-use Rattle.calculus.specs.Prelude.{raise_value, literal_of, reckon_result, step, operand_first, if_permitted, apply}
-use Rattle.calculus.specs.Prelude.{project, branch, unroll, calculate}
+use Rattle.calculus.specs.Security.{Security}
+use Rattle.calculus.specs.Types.{Ty, function, size_t}
+use Rattle.calculus.specs.Subtyping.{subtype, below}
+use Rattle.calculus.specs.Common.{nearest_type}
+use Rattle.calculus.specs.Terms.{is_value, substitute, raise_value}
+use Rattle.calculus.specs.Numbers.{literal_of, reckon_result}
+use Rattle.calculus.specs.Reduction.{step, operand_first, if_permitted, apply, project, branch, unroll, calculate}
 use Rattle.rules.specs.Answer.{Bytes, Answer, accepted, refused, ◌>>=◌, ◌>>◌, ask, first_from, last_below}
 use Rattle.rules.specs.Limits.{work_length, depth_limit, sheet_width}
 use Rattle.rules.specs.Groups.{rows, join, meet, properties_of}
@@ -61,8 +66,9 @@ application_check g script entry group first scratch s u = do
   q13 (first ∷ scratch ∷ []) (application group script entry)
   q18_whole (application group script entry)
 
--- All questions before the run, given the lengths of the work, first and scratch buffers: those of the script with its
--- typing, those of the entry (13 without the run's buffers; 2 to 12 have been asked), and those of the application.
+-- All questions before the run: those of the script with its typing, then those of the entry (13 without the run's
+-- buffers; 2 to 12 have been asked), then those of the application. With the lengths of the work, the first and the
+-- scratch buffer.
 unfoldable pub desk_check : Bytes → Bytes → Bytes → Bytes → ℕ → ℕ → ℕ → ℕ → ℕ → Answer (Unit {0})
 unfolding before_typing own_check q39_if application_check typing size size_t subtype type_at term join meet last_below nearest_type
 desk_check g t script entry group profile work first scratch = do
@@ -85,12 +91,14 @@ pub record Packet : Type 0 where
   pub ran : Ran
   pub page : Bytes
 
--- Only a run that ended 0 has a sheet, which has to fit its buffer (27); any other end is reported without one.
+-- Only a run that ended 0 gives a sheet, which 27 asks to fit its buffer; any other end is reported without one. With
+-- the length of the sheet's buffer.
 abbrev pub packet_of_run : Bytes → ℕ → ℕ → Ran → Answer Packet
 packet_of_run g group room x =
     if nat_eq x.end 0 then ◌>>◌ (q27 (sheet g group x.last) room) (accepted (record { ran = x; page = sheet g group x.last })) else accepted (record { ran = x; page = [] })
 
--- The whole call, given the lengths of the work, first, scratch and sheet buffers: the questions, the run and 27.
+-- The whole call: the questions, the run and 27, with the lengths of the work, the first, the scratch and the sheet's
+-- buffer.
 unfoldable pub packet_call : Bytes → Bytes → Bytes → Bytes → ℕ → ℕ → ℕ → ℕ → ℕ → ℕ → ℕ → Answer Packet
 unfolding desk_run sheet
 packet_call g t script entry group budget profile work first scratch room = do

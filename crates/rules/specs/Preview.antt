@@ -1,7 +1,7 @@
 -- The preview of a step, and the move that makes it (manual, 6.6).
 use Rattle.std.specs.Prelude.{◌&&◌, ℕ, ◌+◌, min, nat_eq}
 use Rattle.rules.specs.Answer.{Bytes, Answer, accepted, refused, ◌>>=◌, ◌>>◌, ask}
-use Rattle.rules.specs.Step.{End, moves, end_number, end_count}
+use Rattle.rules.specs.Step.{End, at_value, moves, may_not, wrong_kind, too_big, end_number, end_count}
 use Rattle.rules.specs.Script.{records, size}
 use Rattle.rules.specs.Calls.{step_call}
 

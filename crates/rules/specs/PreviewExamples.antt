@@ -1,10 +1,10 @@
 -- Examples of what a preview gives, what a move takes, and the number of steps.
 use Rattle.std.specs.Prelude.{◌≡◌, [], ◌∷◌, ◌++◌, ℕ}
-use Rattle.rules.specs.Prelude.{Bytes, Answer, accepted, refused, StepReport, step_report, written_after, Preview}
-use Rattle.rules.specs.Prelude.{preview_call, move_call, moved_steps}
+use Rattle.rules.specs.Answer.{Bytes, Answer, accepted, refused}
+use Rattle.rules.specs.Calls.{StepReport, step_report, written_after}
+use Rattle.rules.specs.Preview.{Preview, preview_call, move_call, moved_steps}
 use Rattle.rules.specs.Cases.{groups, types, case_term, loop}
 use Rattle.rules.specs.Examples.{var, unit, pair, proj, protect}
-use Rattle.rules.specs.CallExamples.{step_ends}
 use Rattle.rules.specs.CreatorExamples.{unit_by}
 
 -- a preview with this end, count and number of steps
@@ -23,6 +23,10 @@ reported room s v = step_report s (move_call groups types s room v)
 abbrev pub counted : ℕ → Bytes → Preview → Answer ℕ
 counted room s v = moved_steps v (move_call groups types s room v)
 
+-- a step's end and record count
+abbrev pub ended : ℕ → ℕ → Answer StepReport
+ended end count = accepted (record { end = end; count = count })
+
 -- a protect of two records, whose step leaves one
 abbrev pub small : Bytes
 small = protect 0 ++ unit 0 0
@@ -38,10 +42,10 @@ pub record PreviewExamples : Type 0 where
   pub largest_shown : previewed 8 small 18446744073709551615 ≡ accepted (preview 1 1 18446744073709551615)
   pub refused_shown : previewed 8 (var 0) 7 ≡ refused 19 0
   -- a move with its own preview
-  pub made : reported 8 small (preview 1 1 7) ≡ step_ends 1 1
+  pub made : reported 8 small (preview 1 1 7) ≡ ended 1 1
   pub written : written_after (move_call groups types small 9 (preview 1 1 7)) (9 ∷ 9 ∷ 9 ∷ 9 ∷ 9 ∷ 9 ∷ 9 ∷ 9 ∷ 9 ∷ []) ≡ unit 0 0 ++ (9 ∷ [])
-  pub answered_value : reported 8 (unit 0 0) (preview 0 1 7) ≡ step_ends 0 1
-  pub answered_too_big : reported 7 small (preview 4 2 7) ≡ step_ends 4 2
+  pub answered_value : reported 8 (unit 0 0) (preview 0 1 7) ≡ ended 0 1
+  pub answered_too_big : reported 7 small (preview 4 2 7) ≡ ended 4 2
   pub unwritten : written_after (move_call groups types small 7 (preview 4 2 7)) (9 ∷ 9 ∷ []) ≡ 9 ∷ 9 ∷ []
   -- 35 of another end or another count, both as wide as they come
   pub other_end : reported 8 small (preview 4 1 7) ≡ refused 35 0
@@ -55,7 +59,7 @@ pub record PreviewExamples : Type 0 where
   -- a preview of another buffer or of another script is taken where it shows the same
   pub other_room : reported 8 small (preview 1 1 7) ≡ reported 900 small (preview 1 1 7)
   pub shorter_room : reported 7 small (preview 1 1 7) ≡ refused 35 0
-  pub stale_taken : reported 8 (protect 1 ++ unit 1 0) (preview 1 1 7) ≡ step_ends 1 1
+  pub stale_taken : reported 8 (protect 1 ++ unit 1 0) (preview 1 1 7) ≡ ended 1 1
   pub stale_refused : reported 8 (unit 0 0) (preview 1 1 7) ≡ refused 35 0
   -- the number of steps goes up with end 1 and no other, the largest stays, and no number is refused
   pub raised_once : counted 8 small (preview 1 1 7) ≡ accepted 8

@@ -1,6 +1,8 @@
 -- The profile: scripts without a recursion, which always finish (manual, 7.6).
 use Rattle.std.specs.Prelude.{◌≡◌, Bool, not, [], ℕ, nat_eq}
-use Rattle.calculus.specs.Prelude.{Ty, size_t, subtype, nearest_type}
+use Rattle.calculus.specs.Types.{Ty, size_t}
+use Rattle.calculus.specs.Subtyping.{subtype}
+use Rattle.calculus.specs.Common.{nearest_type}
 use Rattle.rules.specs.Answer.{Bytes, Answer, accepted, ◌>>◌, each, first_from, last_below}
 use Rattle.rules.specs.Limits.{work_length, answer_length}
 use Rattle.rules.specs.Groups.{join, meet, properties_of}

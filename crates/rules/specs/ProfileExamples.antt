@@ -1,7 +1,10 @@
 -- Examples of the profile check: where 39 is refused, and its place beside its neighbours.
 use Rattle.std.specs.Prelude.{◌≡◌, [], ◌∷◌, ◌++◌}
-use Rattle.rules.specs.Prelude.{Ty, Bytes, Answer, accepted, refused, work_length, answer_length, type_records}
-use Rattle.rules.specs.Prelude.{answer_after, work_after, profile_checking}
+use Rattle.calculus.specs.Types.{Ty}
+use Rattle.rules.specs.Answer.{Bytes, Answer, accepted, refused}
+use Rattle.rules.specs.Limits.{work_length, answer_length}
+use Rattle.rules.specs.Calls.{type_records, answer_after, work_after}
+use Rattle.rules.specs.Profile.{profile_checking}
 use Rattle.rules.specs.Cases.{groups, types, case_term}
 use Rattle.rules.specs.Examples.{var, unit, pair, app}
 use Rattle.rules.specs.CallExamples.{recursion}

@@ -1,6 +1,6 @@
 -- What it means that a script is accepted.
 use Rattle.std.specs.Prelude.{◌≡◌}
-use Rattle.calculus.specs.Prelude.{Ty}
+use Rattle.calculus.specs.Types.{Ty}
 use Rattle.rules.specs.Answer.{Bytes, Answer, accepted}
 use Rattle.rules.specs.Limits.{work_length, answer_length}
 use Rattle.rules.specs.Calls.{check_call}
@@ -9,6 +9,7 @@ use Rattle.rules.specs.Calls.{check_call}
 abbrev pub verdict : Bytes → Bytes → Bytes → Answer Ty
 verdict g t s = check_call work_length answer_length g t s
 
--- A script is accepted with this type where such a check answers it. A term that a run reaches is accepted likewise.
+-- A script is accepted with this type where such a check answers it. A term that a run reaches is accepted in the same
+-- sense: by the same rules and limits, over the same two tables.
 abbrev pub Accepted : Bytes → Bytes → Bytes → Ty → Type 0
 Accepted g t s type = verdict g t s ≡ accepted type

@@ -6,7 +6,7 @@ use Rattle.std.proofs.Math.Option.{Option, none, some}
 use Prim.Native.String.{String}
 use Prim.Native.Char.{code}
 use Prim.Native.String as string
-use Rattle.calculus.specs.Prelude.{Ty, size_t}
+use Rattle.calculus.specs.Types.{Ty, size_t}
 use Rattle.rules.specs.Answer.{Bytes, Answer, accepted, refused}
 use Rattle.rules.specs.Limits.{word_width, report_budget, report_buffer, report_sheet}
 use Rattle.rules.specs.Script.{encode, size}
@@ -38,8 +38,13 @@ word_record s = take word_width (text s ++ zeros word_width)
 unfoldable pub our_words : Bytes
 unfolding text
 our_words =
-    word_record "unit" ++ word_record "first" ++ word_record "second" ++ word_record "pair" ++ word_record "function"
-    ++ word_record "closed" ++ word_record "number"
+    word_record "unit"
+    ++ word_record "first"
+    ++ word_record "second"
+    ++ word_record "pair"
+    ++ word_record "function"
+    ++ word_record "closed"
+    ++ word_record "number"
 
 -- a word and a number
 abbrev pub word_and_number : String → ℕ → Bytes
@@ -75,7 +80,8 @@ unfolding sheet_line
 sheet_lines w (k ∷ r ∷ ir ∷ z ∷ lo ∷ hi ∷ b) = sheet_line w k r ir (lo + 256 * hi) ++ sheet_lines w b
 sheet_lines w _ = list.[]
 
--- The sheet's lines; a refusal's line stands in for completeness, as an accepted script's sheet isn't refused.
+-- The sheet's lines, or a refusal's: an accepted script's sheet isn't refused, but a text has to be given for every
+-- answer.
 abbrev pub sheet_text : Bytes → Answer Bytes → Bytes
 sheet_text w (accepted b) = sheet_lines w b
 sheet_text w (refused q p) = refusal_line q p

@@ -1,5 +1,6 @@
--- Rewriting types and scripts of earlier forms: c and ic become group 0 (manual, 7.12 and 9.13). Their questions are
--- asked of the widened file, but for 8 and 13, which ask the old length; places, as indexes of records, stay the same.
+-- Rewriting types and scripts of earlier forms: c and ic, which they haven't, become group 0 (manual, 7.12 and 9.13).
+-- To its questions an old file is the widened one, but for 8 and 13, which ask its own length. Places are indexes of
+-- records, so they are the same.
 use Rattle.std.specs.Prelude.{[], ◌∷◌, ℕ, ◌/◌, length}
 use Rattle.rules.specs.Answer.{Bytes, Answer, accepted, refused, ◌>>◌}
 use Rattle.rules.specs.Limits.{old_type_width, old_script_width}
@@ -7,7 +8,8 @@ use Rattle.rules.specs.Types.{q8_of}
 use Rattle.rules.specs.Script.{q13_of}
 use Rattle.rules.specs.Calls.{groups_check, types_check, script_check, q27, filled_after}
 
--- A widened types table: c and ic as group 0 after kind, r, ir and 0. What is cut short is no record.
+-- A widened types table: kind, r, ir and 0 of each record, and then c and ic as group 0. What is cut short is no
+-- record.
 unfoldable pub widen_types : Bytes → Bytes
 widen_types (k ∷ r ∷ ir ∷ z ∷ t) = k ∷ r ∷ ir ∷ z ∷ 0 ∷ 0 ∷ widen_types t
 widen_types _ = []
@@ -33,7 +35,8 @@ old_script_check g t s = do
   q13_of old_script_width [] s
   script_check [] g (widen_types t) (widen_script s)
 
--- Rewriting a types table, given its buffer's length: its questions, then 27; the answer is the widened table.
+-- Rewriting a types table: its questions, then 27 of the widened table with the length of its buffer; the answer is its
+-- bytes.
 unfoldable pub rewriting_types : Bytes → Bytes → ℕ → Answer Bytes
 unfolding old_types_check widen_types
 rewriting_types g t room = do
@@ -41,7 +44,8 @@ rewriting_types g t room = do
   q27 (widen_types t) room
   accepted (widen_types t)
 
--- Rewriting a script, given its buffer's length: the questions of both, then 27; the answer is the widened script.
+-- Rewriting a script: the questions of both, then 27 of the widened script with the length of its buffer; the answer is
+-- its bytes.
 unfoldable pub rewriting_script : Bytes → Bytes → Bytes → ℕ → Answer Bytes
 unfolding old_script_check widen_script
 rewriting_script g t s room = do

@@ -1,6 +1,8 @@
 -- A run repeats steps (manual, 6.5).
 use Rattle.std.specs.Prelude.{if◌then◌else◌, ℕ, suc, zero}
-use Rattle.calculus.specs.Prelude.{Security, Ty, Term, is_value}
+use Rattle.calculus.specs.Security.{Security}
+use Rattle.calculus.specs.Types.{Ty}
+use Rattle.calculus.specs.Terms.{Term, is_value}
 use Rattle.rules.specs.Step.{at_value, moves, may_not, wrong_kind, too_big, end_number, step_in}
 
 -- the number of the end, the steps made, and the last term

@@ -2,8 +2,10 @@
 use Rattle.std.specs.Prelude.{Bool, true, false, if◌then◌else◌, not, ◌&&◌, ◌||◌, List, [], ◌∷◌, ◌++◌, ℕ, suc, ◌+◌, ◌*◌}
 use Rattle.std.specs.Prelude.{◌-◌, ◌/◌, ◌%◌, max, nat_eq, nat_le, nat_lt, length, get_or, take, drop}
 use Rattle.std.proofs.Math.Option.{Option, none, some}
-use Rattle.calculus.specs.Prelude.{Property, first, second, plus, less, Term, var, unit, lam, pair, inj, app, proj}
-use Rattle.calculus.specs.Prelude.{case, protect, mu, literal, reckon, finds_own}
+use Rattle.calculus.specs.Security.{Property}
+use Rattle.calculus.specs.Terms.{first, second, plus, less, Term, var, unit, lam, pair, inj, app, proj, case, protect}
+use Rattle.calculus.specs.Terms.{mu, literal, reckon}
+use Rattle.calculus.specs.Typing.{finds_own}
 use Rattle.rules.specs.Answer.{Bytes, byte, Answer, accepted, refused, ◌>>◌, ask, each, first_from, all_below, ◌⇒◌}
 use Rattle.rules.specs.Limits.{script_width, script_limit, depth_limit}
 use Rattle.rules.specs.Groups.{rows, leq}
@@ -127,9 +129,22 @@ abbrev pub make : ℕ → ℕ → ℕ → ℕ → ℕ → ℕ → Term → Term 
 make kind r ir n c ic a b d =
     let k : Property = record { r = r; ir = ir; c = c; ic = ic } in
     get_or
-    (var n ∷ unit k ∷ lam k n a ∷ pair k a b ∷ inj first k n a ∷ inj second k n a ∷ app r a b ∷ proj first r a
-    ∷ proj second r a ∷ case r n a b d ∷ protect (record { ir = ir; ic = ic }) a ∷ mu r n a ∷ literal k n
-    ∷ reckon plus r a b ∷ reckon (less n) r a b ∷ [])
+    (var n
+    ∷ unit k
+    ∷ lam k n a
+    ∷ pair k a b
+    ∷ inj first k n a
+    ∷ inj second k n a
+    ∷ app r a b
+    ∷ proj first r a
+    ∷ proj second r a
+    ∷ case r n a b d
+    ∷ protect (record { ir = ir; ic = ic }) a
+    ∷ mu r n a
+    ∷ literal k n
+    ∷ reckon plus r a b
+    ∷ reckon (less n) r a b
+    ∷ [])
     kind no_term
 
 -- the term that starts at the first record, and those that start after its end
@@ -147,6 +162,8 @@ term s = get_or (parse s) 0 no_term
 
 -- the number of records of a term
 unfoldable pub size : Term → ℕ
+size (var n) = 1
+size (unit k) = 1
 size (lam k i e) = 1 + size e
 size (pair k a b) = 1 + (size a + size b)
 size (inj d k i e) = 1 + size e
@@ -155,8 +172,8 @@ size (proj d w e) = 1 + size e
 size (case w i e a b) = 1 + (size e + (size a + size b))
 size (protect m e) = 1 + size e
 size (mu w i e) = 1 + size e
+size (literal k n) = 1
 size (reckon o w a b) = 1 + (size a + size b)
-size _ = 1
 
 -- How much deeper than a case its operands are: by two where it finds its own type, else by one (manual, 4.6).
 abbrev pub weight : ℕ → ℕ
@@ -164,6 +181,8 @@ weight i = if finds_own i then 2 else 1
 
 -- The depth of a term's deepest record; the outermost record has depth 1.
 unfoldable pub depth : Term → ℕ
+depth (var n) = 1
+depth (unit k) = 1
 depth (lam k i e) = 1 + depth e
 depth (pair k a b) = 1 + max (depth a) (depth b)
 depth (inj d k i e) = 1 + depth e
@@ -172,8 +191,8 @@ depth (proj d w e) = 1 + depth e
 depth (case w i e a b) = weight i + max (depth e) (max (depth a) (depth b))
 depth (protect m e) = 1 + depth e
 depth (mu w i e) = 1 + depth e
+depth (literal k n) = 1
 depth (reckon o w a b) = 1 + max (depth a) (depth b)
-depth _ = 1
 
 -- The depth of each record of a term that stands at depth n, in the records' order.
 unfoldable pub depths_from : ℕ → Term → List ℕ
@@ -228,7 +247,9 @@ unfoldable pub ok14 : Bytes → ℕ → Bool
 unfolding signature_of
 ok14 s i =
     let f = signature_of (kind s i) in
-    nat_le (kind s i) 14 && (nat_eq (zero_byte s i) 0 && ((not f.r ⇒ nat_eq (r s i) 0)
+    nat_le (kind s i) 14
+    && (nat_eq (zero_byte s i) 0
+    && ((not f.r ⇒ nat_eq (r s i) 0)
     && ((not f.ir ⇒ nat_eq (ir s i) 0)
     && ((not f.number ⇒ nat_eq (number s i) 0) && ((not f.c ⇒ nat_eq (c s i) 0) && (not f.ic ⇒ nat_eq (ic s i) 0))))))
 
@@ -245,7 +266,8 @@ unfoldable pub ok15 : Bytes → Bytes → ℕ → Bool
 unfolding signature_of
 ok15 g s i =
     let f = signature_of (kind s i) in
-    (f.r ⇒ nat_lt (r s i) (rows g)) && ((f.ir ⇒ nat_lt (ir s i) (rows g))
+    (f.r ⇒ nat_lt (r s i) (rows g))
+    && ((f.ir ⇒ nat_lt (ir s i) (rows g))
     && ((f.c ⇒ nat_lt (c s i) (rows g)) && ((f.ic ⇒ nat_lt (ic s i) (rows g)) && (is_object (kind s i) ⇒ leq g (ir s i) (r s i)))))
 
 -- 15, of each record
@@ -291,7 +313,8 @@ abbrev pub exactly : ℕ → Option ℕ → Answer (Unit {0})
 exactly n none = refused 17 n
 exactly n (some e) = ask 17 e (nat_eq e n)
 
--- 17. Is the script exactly one whole term? Place: the first record left over, or the count if it is cut short.
+-- 17. Is the script exactly one whole term? Place: the record count if it is cut short, else the first record that is
+-- left over.
 abbrev pub q17 : Bytes → Answer (Unit {0})
 q17 s = exactly (records s) (term_end s 0)
 

@@ -1,10 +1,12 @@
 -- The sheet: what the readers of a group may see of a value (manual, 7.2).
 use Rattle.std.specs.Prelude.{if◌then◌else◌, [], ◌∷◌, ◌++◌, ℕ, ◌/◌, ◌%◌}
-use Rattle.calculus.specs.Prelude.{Property, choose, Term, unit, lam, pair, inj, literal}
+use Rattle.calculus.specs.Security.{Property}
+use Rattle.calculus.specs.Terms.{choose, Term, var, unit, lam, pair, inj, app, proj, case, protect, mu, literal, reckon}
 use Rattle.rules.specs.Answer.{Bytes}
 use Rattle.rules.specs.Groups.{leq}
 
--- kind (0 unit, 1 first, 2 second, 3 pair, 4 function without its body, 5 closed, 6 number), r, ir, 0, number
+-- A record of 6 bytes: kind, r, ir, 0, number. Kinds: 0 unit, 1 first, 2 second, 3 pair, 4 function, whose body isn't
+-- shown, 5 closed, 6 number.
 abbrev pub shown_record : ℕ → ℕ → ℕ → ℕ → Bytes
 shown_record kind r ir n = kind ∷ r ∷ ir ∷ 0 ∷ n % 256 ∷ n / 256 ∷ []
 

@@ -1,6 +1,9 @@
 -- How a step ends, and what is too big (manual, 6.4).
 use Rattle.std.specs.Prelude.{Bool, if◌then◌else◌, ◌||◌, ℕ, ◌/◌, nat_lt}
-use Rattle.calculus.specs.Prelude.{Security, Ty, Term, Outcome, value, moved, denied, stuck, step}
+use Rattle.calculus.specs.Security.{Security}
+use Rattle.calculus.specs.Types.{Ty}
+use Rattle.calculus.specs.Terms.{Term}
+use Rattle.calculus.specs.Reduction.{Outcome, value, moved, denied, stuck, step}
 use Rattle.rules.specs.Limits.{script_width, script_limit, depth_limit}
 use Rattle.rules.specs.Script.{size, depth}
 

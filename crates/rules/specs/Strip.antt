@@ -1,4 +1,5 @@
--- Stripping: the group bytes of each record become 0, and every other byte stays (manual, 7.1).
+-- Stripping: the group bytes of each record of a script, a term or a types table become 0, and every other byte stays
+-- (manual, 7.1).
 use Rattle.std.specs.Prelude.{Bool, if◌then◌else◌, ◌||◌, [], ◌∷◌, ℕ, suc, ◌+◌, ◌%◌, nat_eq, nat_le}
 use Rattle.rules.specs.Answer.{Bytes}
 use Rattle.rules.specs.Limits.{type_width, script_width}

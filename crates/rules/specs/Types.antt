@@ -2,8 +2,8 @@
 use Rattle.std.specs.Prelude.{Bool, true, not, if◌then◌else◌, ◌&&◌, ◌||◌, List, [], ◌∷◌, ◌++◌, ℕ, zero, suc, ◌+◌, ◌*◌}
 use Rattle.std.specs.Prelude.{◌-◌, ◌/◌, ◌%◌, nat_eq, nat_le, nat_lt, length, get_or, drop}
 use Rattle.std.proofs.Math.Option.{Option, none, some}
-use Rattle.calculus.specs.Prelude.{Property, Leaf, one, number, Former, sum, product, function, Ty, leaf, node}
-use Rattle.calculus.specs.Prelude.{type_limit}
+use Rattle.calculus.specs.Security.{Property}
+use Rattle.calculus.specs.Types.{Leaf, one, number, Former, sum, product, function, Ty, leaf, node, type_limit}
 use Rattle.rules.specs.Answer.{Bytes, byte, Answer, ask, each, is_absent, ◌⇒◌}
 use Rattle.rules.specs.Limits.{type_width, table_limit}
 use Rattle.rules.specs.Groups.{rows, leq}
@@ -36,7 +36,8 @@ type_c t i = byte t (type_width * i + 4)
 abbrev pub type_ic : Bytes → ℕ → ℕ
 type_ic t i = byte t (type_width * i + 5)
 
--- how many sides follow a record of this kind: none after unit (0) and number (4), two after sum, pair and function
+-- How many types follow a record of this kind as its sides, left and then right: none after unit (0) and number (4),
+-- two after sum (1), pair (2) and function (3).
 abbrev pub sides : ℕ → ℕ
 sides kind = if nat_eq kind 0 || nat_eq kind 4 then 0 else 2
 
@@ -102,7 +103,8 @@ pending t (suc i) = (pending t i - 1) + sides (type_kind t i)
 abbrev pub outermost : Bytes → ℕ → Bool
 outermost t i = nat_eq (pending t i) 0
 
--- 8. Are the types whole records, 1 to 4,096 of them? Place: 0. `width` is 6, and 4 for a table of an earlier form.
+-- 8. Are the types whole records, 1 to 4,096 of them? Place: 0. `width` is 6, and 4 where rewriting asks it of earlier
+-- forms.
 abbrev pub q8_of : ℕ → Bytes → Answer (Unit {0})
 q8_of width t = ask 8 0 (nat_eq (length t % width) 0 && (nat_le 1 (length t / width) && nat_le (length t / width) table_limit))
 
@@ -110,7 +112,8 @@ q8_of width t = ask 8 0 (nat_eq (length t % width) 0 && (nat_le 1 (length t / wi
 abbrev pub q8 : Bytes → Answer (Unit {0})
 q8 t = q8_of type_width t
 
--- 9. Is the kind at most 4, byte 3 equal to 0, and are r, ir, c and ic below n, the count of groups? Place: the record.
+-- 9. Is the kind at most 4, byte 3 (counted from 0) equal to 0, and are r, ir, c and ic below n, the number of groups?
+-- Place: the record.
 unfoldable pub ok9 : ℕ → Bytes → ℕ → Bool
 ok9 n t i =
     nat_le (type_kind t i) 4 && (nat_eq (type_zero t i) 0 && (nat_lt (type_r t i) n && (nat_lt (type_ir t i) n && (nat_lt (type_c t i) n && nat_lt (type_ic t i) n))))
@@ -135,7 +138,8 @@ ok36_type g t i = leq g (type_ic t i) (type_c t i)
 abbrev pub q36_types : Bytes → Bytes → Answer (Unit {0})
 q36_types g t = each 36 (type_count t) (ok36_type g t)
 
--- 11. Does an outermost type that starts at record i end with or before the table? Place: its first record.
+-- 11. If record i starts an outermost type, does that end with or before the table? Place: the first record of the
+-- unfinished one.
 unfoldable pub ok11 : Bytes → ℕ → Bool
 unfolding pending type_end
 ok11 t i = outermost t i ⇒ not (is_absent (type_end t i))

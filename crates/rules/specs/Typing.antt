@@ -1,11 +1,17 @@
--- Typing with its questions, 20 to 24 and 31 (manual, 5), operands first, left to right: 20 to 22 as soon as an
--- operand has its type, 23 before the body, 31 after both branches, 24 last. The place is the node that asks.
+-- Typing with its questions, 20 to 24 and 31 (manual, 5). It goes operands first, left to right: 20, 21 and 22 come as
+-- soon as the operand concerned has its type, 23 before the body, 31 after both branches, 24 last. The place is the
+-- node that asks.
 use Rattle.std.specs.Prelude.{Bool, false, if◌then◌else◌, ◌&&◌, ◌||◌, List, ◌∷◌, ℕ, ◌+◌, nat_eq, nat_le, get_or}
 use Rattle.std.proofs.Math.Option.{Option, none, some}
-use Rattle.calculus.specs.Prelude.{Property, Reader, Security, one, number, Former, sum, product, function, Ty, leaf}
-use Rattle.calculus.specs.Prelude.{node, equal_formers, same_leaf, top, raise_t, fits, subtype, below, nearest_type}
-use Rattle.calculus.specs.Prelude.{finds_own, choose, Operation, plus, less, Term, var, unit, lam, pair, inj, app, proj}
-use Rattle.calculus.specs.Prelude.{case, protect, mu, literal, reckon, of_both}
+use Rattle.calculus.specs.Security.{Property, Reader, Security}
+use Rattle.calculus.specs.Types.{one, number, Former, sum, product, function, Ty, leaf, node, equal_formers, same_leaf}
+use Rattle.calculus.specs.Types.{top, raise_t, fits}
+use Rattle.calculus.specs.Subtyping.{subtype, below}
+use Rattle.calculus.specs.Common.{nearest_type}
+use Rattle.calculus.specs.Typing.{finds_own}
+use Rattle.calculus.specs.Terms.{choose, Operation, plus, less, Term, var, unit, lam, pair, inj, app, proj, case}
+use Rattle.calculus.specs.Terms.{protect, mu, literal, reckon}
+use Rattle.calculus.specs.Numbers.{of_both}
 use Rattle.rules.specs.Answer.{Answer, accepted, refused, ◌>>=◌, ◌>>◌, ask}
 use Rattle.rules.specs.Types.{no_type}
 use Rattle.rules.specs.Script.{size}

@@ -1,10 +1,13 @@
 -- Examples of a studio's own words, and of the order of questions 32 to 34.
-use Rattle.std.specs.Prelude.{◌≡◌, [], ◌∷◌, ◌++◌, map, ℕ, suc, ◌*◌, take, drop}
+use Rattle.std.specs.Prelude.{◌≡◌, [], ◌∷◌, ◌++◌, ℕ, suc, ◌*◌, take, drop}
 use Rattle.std.proofs.Math.Option.{none, some}
 use Prim.Native.String.{String}
-use Rattle.rules.specs.Prelude.{Bytes, Answer, accepted, refused, word_width, zeros, words_check, text, word_record}
-use Rattle.rules.specs.Prelude.{our_words, report}
+use Rattle.rules.specs.Answer.{Bytes, Answer, accepted, refused}
+use Rattle.rules.specs.Limits.{word_width}
+use Rattle.rules.specs.Calls.{zeros}
+use Rattle.rules.specs.Words.{words_check}
 use Rattle.rules.specs.Words as words
+use Rattle.rules.specs.Report.{text, word_record, our_words, report}
 use Rattle.rules.specs.Cases.{groups, types, case_term}
 
 -- a table with another record i
@@ -24,8 +27,14 @@ pub record WordExamples : Type 0 where
   -- ours pass their own test, and a missing file means them
   pub ours_pass : words_check our_words ≡ accepted tt
   pub missing_means_ours : (g t s : Bytes) → report none g t s ≡ report (some our_words) g t s
-  pub our_texts : map (words.word our_words) (0 ∷ 1 ∷ 2 ∷ 3 ∷ 4 ∷ 5 ∷ 6 ∷ 7 ∷ [])
-      ≡ text "unit" ∷ text "first" ∷ text "second" ∷ text "pair" ∷ text "function" ∷ text "closed" ∷ text "number" ∷ [] ∷ []
+  pub word_0 : words.word our_words 0 ≡ text "unit"
+  pub word_1 : words.word our_words 1 ≡ text "first"
+  pub word_2 : words.word our_words 2 ≡ text "second"
+  pub word_3 : words.word our_words 3 ≡ text "pair"
+  pub word_4 : words.word our_words 4 ≡ text "function"
+  pub word_5 : words.word our_words 5 ≡ text "closed"
+  pub word_6 : words.word our_words 6 ≡ text "number"
+  pub no_word_7 : words.word our_words 7 ≡ []
   -- 32: 84 bytes, the length of seven words; an empty file is no missing one
   pub empty : words_check [] ≡ refused 32 0
   pub six_words : words_check (take 72 our_words) ≡ refused 32 0

@@ -2,10 +2,12 @@
 use Rattle.std.proofs.Common.{◌≡◌, refl, ap, sym, ◌∙◌, length, List, [], ◌∷◌, ◌++◌, ℕ, suc, ◌+◌, add-one, arith}
 use Rattle.std.proofs.Math.Nat.{add-zero}
 use Rattle.std.proofs.lemmas.List.{append-nil}
-use Rattle.rules.specs.Prelude.{first, second, plus, less, Term, var, unit, lam, pair, inj, app, proj, case, protect}
-use Rattle.rules.specs.Prelude.{mu, literal, reckon, Bytes, Answer, accepted, refused, ask, ◌>>◌, records, term, encode}
-use Rattle.rules.specs.Prelude.{size, depths_from, binders_from}
-use Rattle.rules.proofs.Prelude.{term_operands, depths_length, binders_length}
+use Rattle.calculus.specs.Terms.{first, second, plus, less, Term, var, unit, lam, pair, inj, app, proj, case, protect}
+use Rattle.calculus.specs.Terms.{mu, literal, reckon}
+use Rattle.rules.specs.Answer.{Bytes, Answer, accepted, refused, ask, ◌>>◌}
+use Rattle.rules.specs.Script.{records, term, encode, size, depths_from, binders_from}
+use Rattle.rules.proofs.TermCode.{term_operands}
+use Rattle.rules.proofs.Counts.{depths_length, binders_length}
 use Rattle.answer.proofs.Passed.{then_asked}
 use Rattle.records.specs.Binders.{binds}
 use Rattle.records.proofs.Passing.{Passed, Ahead, started, passed_more, none_left}

@@ -1,8 +1,10 @@
 -- A walk over a term in script order that carries a number for each record and stops at the first whose number fails
 -- a test.
 use Rattle.std.specs.Prelude.{Bool, true, false, List, [], ◌∷◌, ℕ, suc, get_or, nat_eq, nat_le, nat_lt}
-use Rattle.rules.specs.Prelude.{Term, Bytes, Answer, accepted, refused, ◌⇒◌, each, depth_limit, records, kind, number}
-use Rattle.rules.specs.Prelude.{term, depths_from, binders_from}
+use Rattle.calculus.specs.Terms.{Term}
+use Rattle.rules.specs.Answer.{Bytes, Answer, accepted, refused, ◌⇒◌, each}
+use Rattle.rules.specs.Limits.{depth_limit}
+use Rattle.rules.specs.Script.{records, kind, number, term, depths_from, binders_from}
 use Rattle.records.specs.Kinds as kinds
 use Rattle.records.specs.Binders.{binds}
 

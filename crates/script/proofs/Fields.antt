@@ -1,8 +1,10 @@
 -- Questions 14 and 15 of one record, from the fields that the code has read.
 use Rattle.std.proofs.Common.{rules, ◌≡◌, refl, ℕ, Bool, true, false, not, ◌&&◌, ◌||◌, nat_eq, nat_le, nat_lt}
 use Rattle.std.proofs.Math.Bool.{and_assoc}
-use Rattle.rules.specs.Prelude.{Property, Bytes, ◌⇒◌, rows, leq, kind, zero_byte, number, Signature, signature_of}
-use Rattle.rules.specs.Prelude.{is_object, ok14, ok15}
+use Rattle.calculus.specs.Security.{Property}
+use Rattle.rules.specs.Answer.{Bytes, ◌⇒◌}
+use Rattle.rules.specs.Groups.{rows, leq}
+use Rattle.rules.specs.Script.{kind, zero_byte, number, Signature, signature_of, is_object, ok14, ok15}
 use Rattle.records.specs.declared.Kind.{Kind}
 use Rattle.records.specs.Kinds as kinds
 use Rattle.records.specs.Numbers.{kind_number}

@@ -3,9 +3,10 @@ use Rattle.std.proofs.Common.{◌≡◌, refl, ap, sym, ◌∙◌, ℕ, suc, ◌
 use Rattle.std.proofs.Common.{◌∷◌, length, get_or, nat_eq, nat_le, arith}
 use Rattle.std.specs.List.{list_all}
 use Rattle.std.proofs.Math.Bool.{and_assoc}
-use Rattle.rules.specs.Prelude.{Bytes, ask, accepted, first_from, is_absent, all_below, script_width, script_limit}
-use Rattle.rules.specs.Prelude.{q13_of, q13}
-use Rattle.rules.proofs.Prelude.{ask_true}
+use Rattle.rules.specs.Answer.{Bytes, ask, accepted, first_from, is_absent, all_below}
+use Rattle.rules.specs.Limits.{script_width, script_limit}
+use Rattle.rules.specs.Script.{q13_of, q13}
+use Rattle.rules.proofs.Asked.{ask_true}
 
 -- a test of all elements is one of all indexes
 from : (test : ℕ → Bool) (xs : List ℕ) (at : ℕ → ℕ) (i : ℕ) → ((k : ℕ) → at (i + k) ≡ get_or xs k 0)

@@ -1,10 +1,15 @@
 -- The questions in order, and the answer from what was asked.
 use Rattle.std.proofs.Common.{◌≡◌, sym, ap, ◌∙◌, true, false, [], ℕ, ◌*◌, ◌/◌, ◌≤◌, ◌<◌, arith, le-leb, ltb-true}
 use Rattle.std.proofs.Common.{nat_le, nat_lt, length}
-use Rattle.rules.specs.Prelude.{is_value, Bytes, Octets, Answer, accepted, refused, ask, ◌>>◌, sheet_width, group_limit}
-use Rattle.rules.specs.Prelude.{rows, q2, encode, term, sheet, groups_check, types_check, script_check, q25, q26, q27}
-use Rattle.rules.specs.Prelude.{sheet_call, sheet_records, sheet_after}
-use Rattle.rules.proofs.Prelude.{ask_true, and_then, regroup, few_rows}
+use Rattle.calculus.specs.Terms.{is_value}
+use Rattle.rules.specs.Answer.{Bytes, Octets, Answer, accepted, refused, ask, ◌>>◌}
+use Rattle.rules.specs.Limits.{sheet_width, group_limit}
+use Rattle.rules.specs.Groups.{rows, q2}
+use Rattle.rules.specs.Script.{encode, term}
+use Rattle.rules.specs.Sheet.{sheet}
+use Rattle.rules.specs.Calls.{groups_check, types_check, script_check, q25, q26, q27, sheet_call, sheet_records}
+use Rattle.rules.specs.Calls.{sheet_after}
+use Rattle.rules.proofs.Asked.{ask_true, and_then, regroup, few_rows}
 use Rattle.promises.proofs.Checked.{script_passed}
 use Rattle.memory.specs.Splice.{splice}
 use Rattle.memory.proofs.Laws.{splice_front}
@@ -41,7 +46,7 @@ pub record Paged (o : Answer Bytes) (old : Bytes) (a : Answer ℕ) (new : Bytes)
 
 no_sheet : (o : Answer Bytes) (old : Bytes) (q p : ℕ) → o ≡ refused q p → Paged o old (refused q p) old
 unfolding sheet_records
-no_sheet o old q p e = record { answer = rw e; after = rw e }
+no_sheet o old q p e = record { answer = sym (ap sheet_records e); after = sym (ap (λ x. sheet_after x old) e) }
 
 the_sheet : (o : Answer Bytes) (b old new : Bytes) (n : ℕ) → o ≡ accepted b → length b ≡ sheet_width * n → new ≡ splice 0 b old → Paged o old (accepted n) new
 unfolding sheet_records
@@ -83,4 +88,6 @@ module _ (g t s : Bytes) (group : ℕ) (old : Bytes) where
 
     -- a group of the table is a byte
     pub narrow : Octets s → group < 256
-    narrow o = grind (arith, all_of, few_of, script_passed)
+    narrow o =
+        let a = all_of g t s group yes in
+        omega (arith, a.1, few_of g t (script_passed [] g t s o a.0).types)

@@ -1,6 +1,8 @@
 -- The questions that are asked before the value is looked at.
 use Rattle.std.specs.Prelude.{[], ℕ}
-use Rattle.rules.specs.Prelude.{Bytes, Answer, ◌>>◌, rows, script_check, q25}
+use Rattle.rules.specs.Answer.{Bytes, Answer, ◌>>◌}
+use Rattle.rules.specs.Groups.{rows}
+use Rattle.rules.specs.Calls.{script_check, q25}
 
 -- questions 2 to 19 and 25
 unfoldable pub before_26 : Bytes → Bytes → Bytes → ℕ → Answer (Unit {0})

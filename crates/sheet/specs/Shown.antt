@@ -1,6 +1,8 @@
 -- An object's record on the sheet, from its record in the script.
 use Rattle.std.specs.Prelude.{Bool, if◌then◌else◌, ℕ, nat_eq}
-use Rattle.rules.specs.Prelude.{Bytes, kind, r, ir, number, shown_record}
+use Rattle.rules.specs.Answer.{Bytes}
+use Rattle.rules.specs.Script.{kind, r, ir, number}
+use Rattle.rules.specs.Sheet.{shown_record}
 use Rattle.records.specs.Kinds as kinds
 use Rattle.sheet.specs.declared.Line.{Line}
 use Rattle.sheet.specs.declared.Shown.{Shown}

@@ -1,6 +1,11 @@
 -- A value that stands in a script: what looking it over tells, and what writing its sheet is given.
 use Rattle.std.specs.Prelude.{◌≡◌, Bool, true, if◌then◌else◌, ℕ, ◌+◌, Option, Some, None}
-use Rattle.rules.specs.Prelude.{Term, unit, lam, pair, inj, literal, is_value, Bytes, leq, size, sheet}
+use Rattle.calculus.specs.Terms.{Term, var, unit, lam, pair, inj, app, proj, case, protect, mu, literal, reckon}
+use Rattle.calculus.specs.Terms.{is_value}
+use Rattle.rules.specs.Answer.{Bytes}
+use Rattle.rules.specs.Groups.{leq}
+use Rattle.rules.specs.Script.{size}
+use Rattle.rules.specs.Sheet.{sheet}
 use Rattle.records.specs.Place.{At}
 use Rattle.memory.specs.Written.{Room, Written}
 use Rattle.memory.specs.declared.Writer.{Writer}

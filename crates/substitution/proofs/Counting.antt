@@ -1,8 +1,12 @@
 -- A node from its operands, as a walk passes them one after the other, counted.
-use Rattle.std.proofs.Common.{◌≡◌, refl, ap, ◌∙◌, cond, List, [], ◌∷◌, ◌++◌, ℕ, suc, ◌+◌, ◌*◌}
+use Rattle.std.proofs.Common.{◌≡◌, refl, sym, ap, ◌∙◌, Bool, true, false, cond, List, [], ◌∷◌, ◌++◌, ℕ, suc, ◌+◌, ◌*◌}
 use Rattle.std.proofs.Common.{◌≤◌, ◌<◌, max, arith, nat_eq, length}
-use Rattle.rules.specs.Prelude.{Term, substitute, Bytes, size, depth, kind, number}
-use Rattle.rules.proofs.Prelude.{total, total_append, term_operands, term_size_is, two_bytes}
+use Rattle.calculus.specs.Terms.{Term, var, substitute}
+use Rattle.rules.specs.Answer.{Bytes}
+use Rattle.rules.specs.Script.{size, depth, kind, number}
+use Rattle.rules.proofs.Prefix.{total}
+use Rattle.rules.proofs.Parts.{total_append}
+use Rattle.rules.proofs.TermCode.{term_operands, term_size_is}
 use Rattle.records.specs.Place.{At}
 use Rattle.records.specs.Kinds as kinds
 use Rattle.records.proofs.Passing.{Passed, Ahead, started, passed_more, operand_here, split_at, whole}
@@ -12,15 +16,17 @@ use Rattle.records.proofs.WeightOf.{weight_of}
 use Rattle.substitution.specs.Substituted.{value_limit, Sizes, Measured}
 use Rattle.substitution.specs.declared.Extent.{Extent}
 use Rattle.substitution.specs.declared.Size.{Size}
-use Rattle.substitution.proofs.Nodes.{greatest, greatest_append, variable, under, under_append}
-use Rattle.substitution.proofs.Nodes.{subst_size, subst_depth, operand_size, operand_depth, greatest_records}
+use Rattle.substitution.proofs.Nodes.{greatest, greatest_append, View, variable, node, view, under, under_append}
+use Rattle.substitution.proofs.Nodes.{subst_var, subst_size, subst_depth, operand_size, operand_depth, greatest_records}
 use Rattle.substitution.proofs.Nodes.{under_bound}
-use Rattle.records.proofs.Made.{number_at}
+use Rattle.substitution.proofs.Reading.{variable_at}
 
 -- the operands passed, with v for the node's variable n, and one more
 pub under_more : (k n : ℕ) (v : Term) (before : List Term) (j : ℕ) (d : Term) (level : ℕ) → length before ≡ j → level ≡ n + binds k j
     → under k n v 0 (before ++ d ∷ []) ≡ under k n v 0 before ++ substitute level v d ∷ []
-under_more k n v before j d level c h = grind (arith, under_append)
+under_more k n v before j d level c h =
+    let z : 0 + length before ≡ j = omega arith in
+    under_append k n v 0 before (d ∷ []) ∙ rw (z, h)
 
 -- their records and depth so far
 pub record Counted (i n : ℕ) (e v : Term) (j next sum below : ℕ) : Type 0 where
@@ -45,7 +51,12 @@ module _ {i n : ℕ} {e v : Term} {j next sum below : ℕ} (p : Counted i n e v 
       }
 
   pub counted_bound : size v ≤ value_limit → (sum ≤ value_limit * size e) × (below < 2 * sum)
-  counted_bound small = grind (arith, under_bound, kind_of, term_size_is, total, total_append, greatest_records, under)
+  counted_bound small =
+      let q = p.passed in (
+        omega
+            (arith, p.sum_is, under_bound v small q.before (kind_of e) n 0, term_size_is e, ap (total size) q.split, total_append size q.before q.after),
+        omega (arith, p.sum_is, p.below_is, greatest_records (under (kind_of e) n v 0 q.before)),
+      )
 
   pub counted_all : (kind_of e ≡ kinds.variable → ⊥) → j ≡ length (term_operands e) → (weight : ℕ) → weight ≡ weight_of e
       → Measured i n e v (record { next = next; size = record { records = sum; depth = below + weight } })
@@ -76,10 +87,20 @@ operand_sizes q p a level l = record {
 -- a variable
 pub measured_variable : (s : Bytes) (i n : ℕ) (e v : Term) → At s i e → kind s i ≡ kinds.variable → (records deep : ℕ) → records ≡ size v → deep ≡ depth v → (x : Extent)
     → x.next ≡ i + 1 → x.size.records ≡ cond (nat_eq (number s i) n) records 1 → x.size.depth ≡ cond (nat_eq (number s i) n) deep 1 → Measured i n e v x
-unfolding size depth substitute
-measured_variable s i n e v a k records deep hr hd x e1 e2 e3 =
-    record {
-      next = grind (arith, stands_kind s i e a);
-      records = grind (arith, stands_kind s i e a, number_at a, two_bytes);
-      deep = grind (arith, stands_kind s i e a, number_at a, two_bytes);
-    }
+unfolding size depth
+measured_variable s i n e v a k records deep hr hd x e1 e2 e3 = go e (view e) a
+  where
+    by : (b : Bool) (m : ℕ) → (cond b records 1 ≡ size (cond b v (var m))) × (cond b deep 1 ≡ depth (cond b v (var m)))
+    by true m = (hr, hd)
+    by false m = (refl, refl)
+
+    go : (e : Term) → View e → At s i e → Measured i n e v x
+    go e (variable m) a =
+        let y = by (nat_eq m n) m in
+        let z = variable_at a in
+        record {
+          next = e1;
+          records = e2 ∙ ap (λ l. cond (nat_eq l n) records 1) z ∙ y.0 ∙ ap size (sym (subst_var n v m));
+          deep = e3 ∙ ap (λ l. cond (nat_eq l n) deep 1) z ∙ y.1 ∙ ap depth (sym (subst_var n v m));
+        }
+    go e (node h) a = absurd (h (sym (stands_kind _ _ _ a) ∙ k))

@@ -1,10 +1,12 @@
 -- Substitution, records and depth of a node by its operands, whatever its kind.
-use Rattle.std.proofs.Common.{◌≡◌, refl, ap, ap₂, ◌∙◌, Bool, cond, List, [], ◌∷◌, ◌++◌, ℕ, suc, ◌+◌, ◌*◌}
+use Rattle.std.proofs.Common.{◌≡◌, refl, ap, ap₂, ◌∙◌, Bool, true, false, cond, List, [], ◌∷◌, ◌++◌, ℕ, suc, ◌+◌, ◌*◌}
 use Rattle.std.proofs.Common.{◌≤◌, max, arith, add-one, add-zero, nat_eq, length}
-use Rattle.rules.specs.Prelude.{first, plus, Term, var, unit, inj, proj, literal, reckon, substitute, encode, size}
-use Rattle.rules.specs.Prelude.{depth}
-use Rattle.rules.proofs.Prelude.{All, joined, total, all_of, total_append, term_operands, term_head, term_induction}
-use Rattle.rules.proofs.Prelude.{term_size_is, term_encode_is}
+use Rattle.calculus.specs.Terms.{first, second, plus, less, Term, var, unit, lam, pair, inj, app, proj, case, protect}
+use Rattle.calculus.specs.Terms.{mu, literal, reckon, substitute}
+use Rattle.rules.specs.Script.{encode, size, depth}
+use Rattle.rules.proofs.Prefix.{All, joined, total}
+use Rattle.rules.proofs.Parts.{all_of, total_append}
+use Rattle.rules.proofs.TermCode.{term_operands, term_head, term_induction, term_size_is, term_encode_is}
 use Rattle.records.specs.Kinds as kinds
 use Rattle.records.proofs.Stands.{kind_of}
 use Rattle.records.proofs.Weights.{weights}
@@ -22,19 +24,35 @@ greatest_append f (x ∷ xs) ys = omega (arith, greatest_append f xs ys)
 
 pub term_depth_is : (e : Term) → depth e ≡ weight_of e + greatest depth (term_operands e)
 unfolding depth
-term_depth_is e = grind arith
+term_depth_is (var n) = refl
+term_depth_is (unit k) = refl
+term_depth_is (literal k n) = refl
+term_depth_is _ = omega arith
 
 -- a variable, or a node of another kind
 pub data View : Term → Type 0 where
   variable : (m : ℕ) → View (var m)
   node : {e : Term} → (kind_of e ≡ kinds.variable → ⊥) → View e
 
+positive : (k : ℕ) → suc k ≡ 0 → ⊥
+positive k h = omega arith
+
 pub view : (e : Term) → View e
 view (var m) = variable m
-view (inj first k i e) = node (λ h. omega arith)
-view (proj first w e) = node (λ h. omega arith)
-view (reckon plus w a b) = node (λ h. omega arith)
-view _ = node (λ h. omega arith)
+view (unit k) = node (positive 0)
+view (lam k i e) = node (positive 1)
+view (pair k a b) = node (positive 2)
+view (inj first k i e) = node (positive 3)
+view (inj second k i e) = node (positive 4)
+view (app w f a) = node (positive 5)
+view (proj first w e) = node (positive 6)
+view (proj second w e) = node (positive 7)
+view (case w i e a b) = node (positive 8)
+view (protect m e) = node (positive 9)
+view (mu w i e) = node (positive 10)
+view (literal k n) = node (positive 11)
+view (reckon plus w a b) = node (positive 12)
+view (reckon (less i) w a b) = node (positive 13)
 
 -- operands from the j-th on of a node of kind k, with v for the node's variable n
 abbrev pub under : ℕ → ℕ → Term → ℕ → List Term → List Term
@@ -43,7 +61,9 @@ under k n v j (e ∷ es) = substitute (n + binds k j) v e ∷ under k n v (suc j
 
 pub under_append : (k n : ℕ) (v : Term) (j : ℕ) (xs ys : List Term) → under k n v j (xs ++ ys) ≡ under k n v j xs ++ under k n v (j + length xs) ys
 under_append k n v j [] ys = let z : j + 0 ≡ j = omega arith in rw z
-under_append k n v j (x ∷ xs) ys = grind (arith, under_append k n v (suc j) xs ys)
+under_append k n v j (x ∷ xs) ys =
+    let z : suc j + length xs ≡ j + suc (length xs) = omega arith in
+    ap (λ es. substitute (n + binds k j) v x ∷ es) (under_append k n v (suc j) xs ys ∙ rw z)
 
 -- Substitution keeps a node's record and goes to its operands.
 pub record Node (n : ℕ) (v e : Term) : Type 0 where
@@ -55,11 +75,14 @@ pub subst_node : (n : ℕ) (v e : Term) → (kind_of e ≡ kinds.variable → �
 unfolding substitute binds
 subst_node n v (var m) h = absurd (h refl)
 subst_node n v (unit k) h = record { head = refl; weight = refl; operands = refl }
+subst_node n v (lam k i e) h = record { head = refl; weight = refl; operands = rw (add-one n) }
+subst_node n v (inj first k i e) h = record { head = refl; weight = refl; operands = rw (add-zero n) }
+subst_node n v (proj first w e) h = record { head = refl; weight = refl; operands = rw (add-zero n) }
+subst_node n v (case w i e a b) h = record { head = refl; weight = refl; operands = rw (add-zero n, add-one n) }
+subst_node n v (mu w i e) h = record { head = refl; weight = refl; operands = rw (add-one n) }
 subst_node n v (literal k m) h = record { head = refl; weight = refl; operands = refl }
-subst_node n v (inj first k i e) h = record { head = refl; weight = refl; operands = simp (add-one, add-zero) }
-subst_node n v (proj first w e) h = record { head = refl; weight = refl; operands = simp (add-one, add-zero) }
-subst_node n v (reckon plus w a b) h = record { head = refl; weight = refl; operands = simp (add-one, add-zero) }
-subst_node n v _ h = record { head = refl; weight = refl; operands = simp (add-one, add-zero) }
+subst_node n v (reckon plus w a b) h = record { head = refl; weight = refl; operands = rw (add-zero n) }
+subst_node n v _ h = record { head = refl; weight = refl; operands = rw (add-zero n) }
 
 pub subst_var : (n : ℕ) (v : Term) (m : ℕ) → substitute n v (var m) ≡ cond (nat_eq m n) v (var m)
 unfolding substitute
@@ -73,7 +96,9 @@ module _ (n : ℕ) (v e : Term) (h : kind_of e ≡ kinds.variable → ⊥) where
   subst_depth = term_depth_is (substitute n v e) ∙ ap₂ (λ m es. m + greatest depth es) (subst_node n v e h).weight (subst_node n v e h).operands
 
   pub subst_encode : encode (substitute n v e) ≡ term_head e ++ joined encode (under (kind_of e) n v 0 (term_operands e))
-  subst_encode = grind (arith, term_encode_is, subst_node)
+  subst_encode =
+      term_encode_is (substitute n v e) ∙ ap (λ b. b ++ joined encode (term_operands (substitute n v e))) (subst_node n v e h).head
+      ∙ ap (λ es. term_head e ++ joined encode es) (subst_node n v e h).operands
 
 -- an operand's part of its node
 pub operand_size : (e : Term) (before : List Term) (d : Term) (after : List Term) → term_operands e ≡ before ++ d ∷ after
@@ -106,10 +131,13 @@ module _ (v : Term) (small : size v ≤ value_limit) where
 
   bound_var : (b : Bool) (m : ℕ) → size (cond b v (var m)) ≤ value_limit * size (var m)
   unfolding size
-  bound_var b m = grind arith
+  bound_var true m = small
+  bound_var false m = omega arith
 
   bound_view : (e : Term) → View e → All Bound (term_operands e) → (n : ℕ) → size (substitute n v e) ≤ value_limit * size e
-  bound_view e x h n = grind (arith, subst_var, bound_var, subst_size, term_size_is, bound_under, term_operands, kind_of)
+  bound_view e (variable m) h n = rw (subst_var n v m) (bound_var (nat_eq m n) m)
+  bound_view e (node k) h n =
+      omega (arith, subst_size n v e k, term_size_is e, bound_under (term_operands e) h (kind_of e) n 0)
 
   pub subst_bound : (e : Term) (n : ℕ) → size (substitute n v e) ≤ value_limit * size e
   unfolding Bound
@@ -135,7 +163,8 @@ module _ (v : Term) (one : size v ≡ 1) (low : depth v ≡ 1) where
 
   same_var : (b : Bool) (m : ℕ) → (size (cond b v (var m)) ≡ size (var m)) × (depth (cond b v (var m)) ≡ depth (var m))
   unfolding size depth
-  same_var b m = grind arith
+  same_var true m = (one, low)
+  same_var false m = (refl, refl)
 
   same_view : (e : Term) → View e → All Same (term_operands e) → (n : ℕ) → (size (substitute n v e) ≡ size e) × (depth (substitute n v e) ≡ depth e)
   same_view e (variable m) h n = rw (subst_var n v m) (same_var (nat_eq m n) m)

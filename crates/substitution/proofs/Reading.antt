@@ -6,11 +6,16 @@ use Rattle.records.specs.Numbers.{kind_number}
 use Rattle.records.specs.declared.Kind.{Kind}
 use Rattle.records.specs.declared.Kind.TheVariants.{Variable}
 use Rattle.records.specs.contracts.Kind.{the_type}
-use Rattle.rules.specs.Prelude.{Term, Bytes, script_width, encode, size, kind, arity}
-use Rattle.rules.proofs.Prelude.{encode_length, size_positive, term_code, term_operands}
+use Rattle.calculus.specs.Terms.{Term, var}
+use Rattle.rules.specs.Answer.{Bytes}
+use Rattle.rules.specs.Limits.{script_width}
+use Rattle.rules.specs.Script.{encode, size, kind, number, arity}
+use Rattle.rules.proofs.PrefixLaws.{encode_length, size_positive}
+use Rattle.rules.proofs.TermCode.{term_code, term_operands, two_bytes}
 use Rattle.records.specs.Place.{At}
 use Rattle.records.specs.Kinds as kinds
 use Rattle.records.specs.Binders.{binds}
+use Rattle.records.proofs.Made.{number_at}
 use Rattle.records.proofs.Numbered.{tests_numbers}
 use Rattle.records.proofs.Stands.{kind_of, stands_kind, stands_arity}
 
@@ -19,6 +24,9 @@ term_length e = encode_length term_code e
 
 pub size_from : (e : Term) → 1 ≤ size e
 size_from e = size_positive term_code e
+
+pub variable_at : {s : Bytes} {i m : ℕ} → At s i (var m) → number s i ≡ m
+variable_at {m = m} a = number_at a ∙ two_bytes m
 
 pub variable_kind : (k : Kind) {n : ℕ} → true ≡ sameb the_type k Variable → kind_number k ≡ n → n ≡ kinds.variable
 variable_kind k same is = sym is ∙ eqb-true _ _ (sym (tests_numbers k Variable) ∙ sym same)

@@ -1,8 +1,12 @@
 -- A node from its operands, as a walk passes them one after the other, written.
-use Rattle.std.proofs.Common.{◌≡◌, sym, ap, ◌∙◌, List, [], ◌∷◌, ◌++◌, append_assoc, append-nil, ℕ, suc, ◌+◌, ◌≤◌}
-use Rattle.std.proofs.Common.{arith, length, subst as transport}
-use Rattle.rules.specs.Prelude.{Term, substitute, Bytes, encode, size, kind, number}
-use Rattle.rules.proofs.Prelude.{joined, total, joined_append, term_operands, term_head, term_size_is, two_bytes}
+use Rattle.std.proofs.Common.{◌≡◌, refl, sym, ap, ◌∙◌, List, [], ◌∷◌, ◌++◌, append_assoc, append-nil, ℕ, suc, ◌+◌, ◌≤◌}
+use Rattle.std.proofs.Common.{arith, length, subst as transport, eq-eqb, ne_eqb}
+use Rattle.calculus.specs.Terms.{Term, substitute}
+use Rattle.rules.specs.Answer.{Bytes}
+use Rattle.rules.specs.Script.{encode, size, kind, number}
+use Rattle.rules.proofs.Prefix.{joined, total}
+use Rattle.rules.proofs.Parts.{joined_append}
+use Rattle.rules.proofs.TermCode.{term_operands, term_head, term_size_is}
 use Rattle.records.specs.Place.{At}
 use Rattle.memory.specs.Written.{Room, Written}
 use Rattle.memory.specs.declared.Writer.{Writer}
@@ -12,9 +16,9 @@ use Rattle.records.proofs.Passing.{Passed, Ahead, started, split_at, operand_her
 use Rattle.records.proofs.Stands.{kind_of, stands_kind}
 use Rattle.records.specs.Binders.{binds}
 use Rattle.substitution.specs.Substituted.{Substitution, Substituted}
-use Rattle.substitution.proofs.Nodes.{variable, under, under_append, subst_encode}
+use Rattle.substitution.proofs.Nodes.{View, variable, node, view, under, under_append, subst_var, subst_encode}
 use Rattle.substitution.proofs.Nodes.{operand_depth}
-use Rattle.records.proofs.Made.{number_at}
+use Rattle.substitution.proofs.Reading.{variable_at}
 use Rattle.substitution.proofs.Counting.{under_more}
 
 -- The operands passed, with v for the node's variable n, are written.
@@ -54,7 +58,17 @@ abbrev apart : (n : ℕ) (e v : Term) (before : List Term) (d : Term) (later : L
     → term_operands e ≡ before ++ d ∷ later → length before ≡ j → level ≡ n + binds (kind_of e) j
     → encode (substitute n v e)
     ≡ (term_head e ++ joined encode (under (kind_of e) n v 0 before)) ++ (encode (substitute level v d) ++ joined encode (under (kind_of e) n v (suc j) later))
-apart n e v before d later j level h s c l = grind (arith, subst_encode, under_append, joined_append, append_assoc)
+apart n e v before d later j level h s c l =
+    let k = kind_of e in
+    let us = under k n v 0 before in
+    let z : 0 + length before ≡ j = omega arith in
+    let u : under k n v 0 (before ++ d ∷ later) ≡ us ++ (substitute level v d ∷ under k n v (suc j) later) =
+    under_append k n v 0 before (d ∷ later) ∙ rw (z, l) in
+    subst_encode n v e h
+    ∙ ap (λ es. term_head e ++ joined encode (under k n v 0 es)) s
+    ∙ ap (λ es. term_head e ++ joined encode es) u
+    ∙ ap (λ (b : Bytes). term_head e ++ b) (joined_append encode us (substitute level v d ∷ under k n v (suc j) later))
+    ∙ sym (append_assoc (term_head e) (joined encode us) (encode (substitute level v d) ++ joined encode (under k n v (suc j) later)))
 
 -- what writing an operand is given
 abbrev pub operand_given : {s : Bytes} {i : ℕ} {f m b : Bytes} {n : ℕ} {w₀ : Writer} (q : Substitution s i f m b n w₀) {w : Writer} {j next : ℕ} {w' : Writer}
@@ -77,12 +91,20 @@ operand_given {n = n} {w₀ = w₀} q {j = j} {w' = w'} p a level r h l g =
 -- a variable: the one that the value is put for, or another
 module _ {s : Bytes} {i : ℕ} {e : Term} (a : At s i e) (k : kind s i ≡ 0) (n : ℕ) (v : Term) where
   pub variable_here : number s i ≡ n → (substitute n v e ≡ v) × (size e ≡ 1)
-  unfolding size substitute
-  variable_here h = grind (arith, stands_kind s i e a, number_at a, two_bytes)
+  unfolding size
+  variable_here h = go e (view e) a
+    where
+      go : (e : Term) → View e → At s i e → (substitute n v e ≡ v) × (size e ≡ 1)
+      go e (variable m) a = (subst_var n v m ∙ rw (eq-eqb m n (sym (variable_at a) ∙ h)), refl)
+      go e (node g) a = absurd (g (sym (stands_kind _ _ _ a) ∙ k))
 
   pub variable_else : (number s i ≡ n → ⊥) → (substitute n v e ≡ e) × (encode e ≡ term_head e) × (size e ≡ 1)
-  unfolding size encode substitute
-  variable_else h = grind (arith, stands_kind s i e a, number_at a, two_bytes)
+  unfolding size encode
+  variable_else h = go e (view e) a
+    where
+      go : (e : Term) → View e → At s i e → (substitute n v e ≡ e) × (encode e ≡ term_head e) × (size e ≡ 1)
+      go e (variable m) a = (subst_var n v m ∙ rw (ne_eqb m n (λ z. h (variable_at a ∙ z))), refl, refl)
+      go e (node g) a = absurd (g (sym (stands_kind _ _ _ a) ∙ k))
 
   pub written_here : number s i ≡ n → {w w' : Writer} {b : Bytes} → b ≡ encode v → Written b w w' → Substituted i n e v w (i + 1) w'
   written_here h {w} {w'} p m =

@@ -1,7 +1,10 @@
 -- A closed value put for a variable of a term that stands in a script: what counting and writing it are given, and what
 -- they tell.
 use Rattle.std.specs.Prelude.{◌≡◌, ◌++◌, ℕ, ◌+◌, ◌*◌, ◌≤◌, take, drop}
-use Rattle.rules.specs.Prelude.{Term, substitute, Bytes, script_width, script_limit, depth_limit, encode, size, depth}
+use Rattle.calculus.specs.Terms.{Term, substitute}
+use Rattle.rules.specs.Answer.{Bytes}
+use Rattle.rules.specs.Limits.{script_width, script_limit, depth_limit}
+use Rattle.rules.specs.Script.{encode, size, depth}
 use Rattle.records.specs.Place.{At}
 use Rattle.memory.specs.Written.{Room, Written}
 use Rattle.memory.specs.declared.Writer.{Writer}

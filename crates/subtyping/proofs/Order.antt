@@ -1,11 +1,15 @@
 -- The order on types as a walk sees it: the first records, the left sides, the right sides. Once for both directions.
-use Rattle.std.proofs.Common.{◌≡◌, ℕ, ◌+◌, ◌*◌, ◌≤◌, Bool, true, false, cond, ◌&&◌, Option, Some, None, nat_eq}
+use Rattle.std.proofs.Common.{◌≡◌, ℕ, ◌+◌, ◌*◌, ◌≤◌, ◌<◌, Bool, true, false, cond, ◌&&◌, Option, Some, None, nat_eq}
 use Rattle.std.proofs.Common.{length, refl, ap, ap₂, sym, ◌∙◌, arith, eqb-true, eq-eqb, ne_eqb, true≢false}
 use Rattle.std.proofs.Math.Bool.{and-eq-true_iff}
-use Rattle.rules.specs.Prelude.{Security, one, sum, product, function, Ty, leaf, node, top, size_t, Direction, below}
-use Rattle.rules.specs.Prelude.{above, opposite, leftward, le_toward, subtype, Bytes, type_width, former_kind}
-use Rattle.rules.specs.Prelude.{leaf_kind, sides, equal_properties, equal_types}
-use Rattle.rules.proofs.Prelude.{subtype_sound, subtype_opposite, subtype_size}
+use Rattle.calculus.specs.Security.{Security}
+use Rattle.calculus.specs.Types.{one, number, sum, product, function, Ty, leaf, node, top, size_t}
+use Rattle.calculus.specs.Subtyping.{Direction, below, above, opposite, leftward, le_toward, subtype}
+use Rattle.calculus.proofs.Subtyping.{subtype_sound, subtype_opposite, subtype_size}
+use Rattle.rules.specs.Answer.{Bytes}
+use Rattle.rules.specs.Limits.{type_width}
+use Rattle.rules.specs.Types.{former_kind, leaf_kind, sides}
+use Rattle.rules.specs.Comparison.{equal_properties, equal_types}
 use Rattle.subtyping.specs.declared.Related.{Related}
 use Rattle.types.specs.declared.Kind.{Kind}
 use Rattle.types.specs.declared.Kind.TheVariants.{Function}
@@ -60,10 +64,12 @@ module _ (S : Security) where
   firsts_above s t = ap (λ b. b && S.le (top t) (top s)) (eqb_comm (kind_of_type s) (kind_of_type t))
 
   and_assoc : (a b c : Bool) → a && (b && c) ≡ (a && b) && c
-  and_assoc a b c = grind arith
+  and_assoc true b c = refl
+  and_assoc false b c = refl
 
   and_true : (a : Bool) → a ≡ a && true
-  and_true a = grind arith
+  and_true true = refl
+  and_true false = refl
 
   subtype_is : (d : Direction) (s t : Ty) → subtype S d s t ≡ firsts d s t && sides_below d s t
   unfolding subtype sides_below
@@ -109,7 +115,9 @@ module _ (S : Security) where
 
   both_cond : (b p q x y : Bool) (n m : ℕ)
       → both b (cond p (walked x n) None) (cond q (walked y m) None) ≡ cond (p && q) (walked (b && (x && y)) (1 + (n + m))) None
-  both_cond b p q x y n m = grind arith
+  both_cond b true true x y n m = refl
+  both_cond b true false x y n m = refl
+  both_cond b false q x y n m = refl
 
   pub of_both : (d : Direction) (s t : Ty) → sides (kind_of_type s) ≡ 2 → firsts d s t ≡ true
       → both (equal_properties (top s) (top t)) (relation_of S (turned s d) (left_of s) (left_of t)) (relation_of S d (right_of s) (right_of t))

@@ -1,7 +1,8 @@
 -- The part that the look-up hands back, and a script that passes 13, 14 and 17.
 use Rattle.std.proofs.Common.{◌≡◌, ap, sym, ℕ, []}
-use Rattle.rules.specs.Prelude.{Bytes, Octets, accepted, encode, term, part_if, slice, subterm, term_end, q13, q14, q17}
-use Rattle.rules.proofs.Prelude.{whole}
+use Rattle.rules.specs.Answer.{Bytes, Octets, accepted}
+use Rattle.rules.specs.Script.{encode, term, part_if, slice, subterm, term_end, q13, q14, q17}
+use Rattle.rules.proofs.Scripts.{whole}
 use Rattle.syntax.specs.Check.{shape_check}
 
 pub encoded : (s : Bytes) → Octets s → q13 [] s ≡ accepted tt → accepted tt ≡ q14 s → accepted tt ≡ q17 s → encode (term s) ≡ s

@@ -3,10 +3,12 @@ use Rattle.std.proofs.Common.{◌≡◌, refl, ◌∙◌, List, [], ◌∷◌, �
 use Rattle.std.proofs.Common.{◌<◌, length, length-append, arith}
 use Rattle.std.proofs.Math.Option.{some, some-injective, none-ne-some}
 use Rattle.std.proofs.lemmas.Bool.{eq-eqb}
-use Rattle.calculus.specs.Prelude.{Property, Reader, Indirect, Security, Ty, Side, Operation, Term, var, unit, lam}
-use Rattle.calculus.specs.Prelude.{pair, inj, app, proj, case, protect, literal, reckon, substitute, lookup, HasType}
-use Rattle.calculus.proofs.Prelude.{nearer, subst_nothing}
-use Rattle.calculus.proofs.Substitution.{substitution}
+use Rattle.calculus.specs.Security.{Property, Reader, Indirect, Security}
+use Rattle.calculus.specs.Types.{Ty}
+use Rattle.calculus.specs.Terms.{Side, Operation, Term, var, unit, lam, pair, inj, app, proj, case, protect, literal}
+use Rattle.calculus.specs.Terms.{reckon, substitute}
+use Rattle.calculus.specs.Typing.{lookup, HasType}
+use Rattle.calculus.proofs.Substitution.{nearer, subst_nothing, substitution}
 
 -- e with γ for its variables, under d binders
 unfoldable pub close : ℕ → List Term → Term → Term

@@ -1,18 +1,28 @@
 -- A lemma a rule: where its operands end in reducible values, so does the whole.
-use Rattle.std.proofs.Common.{◌≡◌, refl, [], ℕ, zero, IsTrue, rules}
+use Rattle.std.proofs.Common.{◌≡◌, refl, [], ℕ, zero, IsTrue}
 use Rattle.std.proofs.Math.Bool.{false≢true}
 use Rattle.std.proofs.Math.Option.{Option, none, some}
-use Rattle.calculus.specs.Prelude.{Property, Reader, Indirect, Security, Laws, one, number, sum, product, function, Ty}
-use Rattle.calculus.specs.Prelude.{leaf, node, raise_t, secure_t, exists, below, Side, first, second, choose, Operation}
-use Rattle.calculus.specs.Prelude.{Term, unit, lam, pair, inj, app, proj, case, protect, literal, reckon, is_value}
-use Rattle.calculus.specs.Prelude.{substitute, raise_value, Literal, literal_of, of_both, reckon_result, Reckons, c_app}
-use Rattle.calculus.specs.Prelude.{c_proj, c_case, c_reckon, c_protect, hole, app_left, app_right, in_proj, in_inj}
-use Rattle.calculus.specs.Prelude.{pair_left, pair_right, in_protect, in_case, reckon_left, reckon_right, plug, HasType}
-use Rattle.calculus.specs.Prelude.{t_app, t_proj, t_reckon, Table}
-use Rattle.calculus.proofs.Prelude.{choose_both, both, and_left, and_right, Directed, d_leaf, d_node, Inferred, i_lam}
-use Rattle.calculus.proofs.Prelude.{i_pair, i_inj, i_app, i_proj, i_case, i_literal, i_reckon, sc_empty, secure_parts}
-use Rattle.calculus.proofs.Prelude.{side_secure, table_parts, typed_secure, subsumption, n_empty, typed_inferred}
-use Rattle.calculus.proofs.Prelude.{closed_typed, canonical_numbers, literal_some, raised_stands, reckoned_stands}
+use Rattle.calculus.specs.Security.{Property, Reader, Indirect, Security, Laws}
+use Rattle.calculus.specs.Types.{one, number, sum, product, function, Ty, leaf, node, raise_t, secure_t, exists}
+use Rattle.calculus.specs.Subtyping.{below}
+use Rattle.calculus.specs.Terms.{Side, first, second, choose, Operation, Term, unit, lam, pair, inj, app, proj, case}
+use Rattle.calculus.specs.Terms.{protect, literal, reckon, is_value, substitute, raise_value}
+use Rattle.calculus.specs.Numbers.{Literal, literal_of, of_both, less_side, reckon_result, Reckons, a_number, a_flag}
+use Rattle.calculus.specs.Reduction.{c_app, c_proj, c_case, c_reckon, c_protect, hole, app_left, app_right, in_proj}
+use Rattle.calculus.specs.Reduction.{in_inj, pair_left, pair_right, in_protect, in_case, reckon_left, reckon_right}
+use Rattle.calculus.specs.Reduction.{plug}
+use Rattle.calculus.specs.Typing.{HasType, t_app, t_proj, t_reckon, Table}
+use Rattle.calculus.proofs.Sides.{choose_both}
+use Rattle.calculus.proofs.Booleans.{both, and_left, and_right}
+use Rattle.calculus.proofs.Directed.{Directed, d_leaf, d_node}
+use Rattle.calculus.proofs.Inferred.{Inferred, i_lam, i_pair, i_inj, i_app, i_proj, i_case, i_literal, i_reckon}
+use Rattle.calculus.proofs.SecureTyping.{sc_empty, secure_parts, side_secure, table_parts, typed_secure}
+use Rattle.calculus.proofs.Soundness.{subsumption}
+use Rattle.calculus.proofs.Completeness.{n_empty, typed_inferred}
+use Rattle.calculus.proofs.TypedContexts.{closed_typed}
+use Rattle.calculus.proofs.Progress.{canonical_numbers}
+use Rattle.calculus.proofs.Numbers.{literal_some}
+use Rattle.calculus.proofs.Values.{raised_stands, reckoned_stands}
 use Rattle.termination.proofs.Reaching.{Reaches, here, reaches_then, reaches_plug, reaches_contraction, reaches_typed}
 use Rattle.termination.proofs.Reducibility.{ReachesValue, PairOf, pair_of, InjectionOf, first_of, second_of, Argument}
 use Rattle.termination.proofs.Reducibility.{FunctionOf, function_of, Reducible, reducible_raised}
@@ -89,7 +99,8 @@ module _ {S : Security} {tab : ℕ → Ty} (L : Laws S) (T : Table S tab) where
   injection_of : (d : Side) (k l : Property) (i : ℕ) (s t : Ty) (v : Term) → Reducible S tab (choose d s t) v
       → Reducible S tab (node sum k s t) (inj d l i v)
   unfolding Reducible
-  injection_of d k l i s t v x = search (rules, first_of, second_of)
+  injection_of first k l i s t v x = first_of x
+  injection_of second k l i s t v x = second_of x
 
   pub inj_ends : (d : Side) (k : Property) (i : ℕ) (s t : Ty) (e : Term) → EndsAt (choose d s t) e → EndsAt (node sum k s t) (inj d k i e)
   unfolding plug is_value
@@ -116,7 +127,8 @@ module _ {S : Security} {tab : ℕ → Ty} (L : Laws S) (T : Table S tab) where
 
   chosen_ends : (d : Side) (s t : Ty) (a b : Term) → IsTrue (is_value a) → IsTrue (is_value b) → Reducible S tab s a → Reducible S tab t b
       → EndsAt (choose d s t) (choose d a b)
-  chosen_ends d s t a b x y p q = search (rules, value_ends)
+  chosen_ends first s t a b x y p q = value_ends s a x p
+  chosen_ends second s t a b x y p q = value_ends t b y q
 
   project_ends : (s t : Ty) {u : Ty} {v : Term} (d : Side) (w : Reader) (n : Indirect) → HasType S tab [] (proj d w v) u → IsTrue (is_value v)
       → PairOf (Reducible S tab s) (Reducible S tab t) v → EndsAt (raise_t S (choose d s t) n) (proj d w v)
@@ -182,7 +194,8 @@ module _ {S : Security} {tab : ℕ → Ty} (L : Laws S) (T : Table S tab) where
 
   reckoned_reducible : {o : Operation} {t : Ty} {k : Property} (l : Property) (m n : ℕ) → Reckons tab o k t → Reducible S tab t (reckon_result tab o l m n)
   unfolding reckon_result Reducible
-  reckoned_reducible l m n r = search (rules, flag_reducible)
+  reckoned_reducible l m n a_number = tt
+  reckoned_reducible l m n (a_flag {i = i} {k = k} {p = p} {q = q} e) = flag_reducible (less_side m n) k l i p q _
 
   pub reckon_ends : (o : Operation) (w : Reader) (k l : Property) (t : Ty) (a b : Term) → IsTrue (S.permits k w) → IsTrue (S.permits l w)
       → Reckons tab o (of_both S w k l) t → HasType S tab [] a (leaf number k) → HasType S tab [] b (leaf number l)

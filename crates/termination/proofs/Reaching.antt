@@ -1,8 +1,12 @@
 -- Runs of any length: put together, made inside a context, and typed throughout.
 use Rattle.std.proofs.Common.{[], ℕ, suc, zero}
-use Rattle.calculus.specs.Prelude.{Security, Laws, Ty, Term, Contracts, Context, plug, Reduces, Runs, runs_end, runs_on}
-use Rattle.calculus.specs.Prelude.{HasType, Table}
-use Rattle.calculus.proofs.Prelude.{reduces_plug, contracts_reduces}
+use Rattle.calculus.specs.Security.{Security, Laws}
+use Rattle.calculus.specs.Types.{Ty}
+use Rattle.calculus.specs.Terms.{Term}
+use Rattle.calculus.specs.Reduction.{Contracts, Context, plug, Reduces}
+use Rattle.calculus.specs.Runs.{Runs, runs_end, runs_on}
+use Rattle.calculus.specs.Typing.{HasType, Table}
+use Rattle.calculus.proofs.Agreement.{reduces_plug, contracts_reduces}
 use Rattle.calculus.proofs.Preservation.{preservation}
 
 pub data Reaches (S : Security) (tab : ℕ → Ty) : Term → Term → Type 0 where

@@ -1,13 +1,19 @@
 -- A typed closed term without a recursion comes to a value after some number of steps of the rules.
-use Rattle.std.proofs.Common.{List, [], ◌∷◌, ℕ, zero, arith, IsTrue}
+use Rattle.std.proofs.Common.{◌≡◌, List, [], ◌∷◌, ℕ, zero, arith, IsTrue}
 use Rattle.std.proofs.Math.Bool.{false≢true}
-use Rattle.calculus.specs.Prelude.{Security, Laws, Ty, Term, is_value, substitute, Runs, HasType, t_sub, t_var, t_unit}
-use Rattle.calculus.specs.Prelude.{t_lam, t_pair, t_inj, t_app, t_proj, t_case, t_protect, t_mu, t_literal, t_reckon}
-use Rattle.calculus.specs.Prelude.{Table}
+use Rattle.std.proofs.Math.Option.{some}
+use Rattle.calculus.specs.Security.{Security, Laws}
+use Rattle.calculus.specs.Types.{Ty}
+use Rattle.calculus.specs.Terms.{Term, is_value, substitute}
+use Rattle.calculus.specs.Runs.{Runs}
+use Rattle.calculus.specs.Typing.{HasType, t_sub, t_var, t_unit, t_lam, t_pair, t_inj, t_app, t_proj, t_case, t_protect}
+use Rattle.calculus.specs.Typing.{t_mu, t_literal, t_reckon, Table, infer}
 use Rattle.termination.specs.Profile.{recursion_free}
 use Rattle.termination.specs.Termination.{Terminates}
-use Rattle.calculus.proofs.Prelude.{and_left, and_right, subtype_directed, SecureContext, sc_empty, sc_extend}
-use Rattle.calculus.proofs.Prelude.{secure_parts, typed_secure}
+use Rattle.calculus.proofs.Booleans.{and_left, and_right}
+use Rattle.calculus.proofs.Directed.{subtype_directed}
+use Rattle.calculus.proofs.SecureTyping.{SecureContext, sc_empty, sc_extend, secure_parts, typed_secure}
+use Rattle.calculus.proofs.Soundness.{infer_sound}
 use Rattle.termination.proofs.Reaching.{reaches_runs}
 use Rattle.termination.proofs.Closing.{close, close_unit, close_lam, close_pair, close_inj, close_app, close_proj}
 use Rattle.termination.proofs.Closing.{close_case, close_protect, close_literal, close_reckon, Values, v_empty}
@@ -71,6 +77,10 @@ module _ {S : Security} {tab : ℕ → Ty} (L : Laws S) (T : Table S tab) where
       let x = instance_ends sc_empty h r v_empty in
       let y = reaches_runs x.reaches in
       (y.0, x.value, y.1, x.stands)
+
+  pub infer_termination : (e : Term) (t : Ty) → infer S tab [] e ≡ some t → IsTrue (recursion_free e)
+      → (n : ℕ) × (v : Term) × Runs S tab n e v × IsTrue (is_value v)
+  infer_termination e t h r = termination e t (infer_sound L T e t sc_empty h) r
 
 pub terminates : Terminates
 unfolding Terminates

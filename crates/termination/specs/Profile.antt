@@ -1,6 +1,6 @@
 -- The scripts of the profile: those without a recursion (manual, 7.6).
 use Rattle.std.specs.Prelude.{Bool, true, false, ◌&&◌}
-use Rattle.calculus.specs.Prelude.{Term, var, unit, lam, pair, inj, app, proj, case, protect, mu, literal, reckon}
+use Rattle.calculus.specs.Terms.{Term, var, unit, lam, pair, inj, app, proj, case, protect, mu, literal, reckon}
 
 -- does no recursion stand in the term, also not where it won't run?
 unfoldable pub recursion_free : Term → Bool

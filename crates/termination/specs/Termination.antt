@@ -1,6 +1,10 @@
 -- A typed closed term without a recursion comes to a value.
 use Rattle.std.specs.Prelude.{[], ℕ, IsTrue}
-use Rattle.calculus.specs.Prelude.{Security, Laws, Ty, Term, is_value, Runs, HasType, Table}
+use Rattle.calculus.specs.Security.{Security, Laws}
+use Rattle.calculus.specs.Types.{Ty}
+use Rattle.calculus.specs.Terms.{Term, is_value}
+use Rattle.calculus.specs.Runs.{Runs}
+use Rattle.calculus.specs.Typing.{HasType, Table}
 use Rattle.termination.specs.Profile.{recursion_free}
 
 -- over any properties that obey the laws and any table of secure types: there is a number of steps after which a value

@@ -4,7 +4,8 @@ use Rattle.std.proofs.Common.{inr, arith, lt-ltb, le-ltb, append-nil}
 use Rattle.std.specs.Fmt as std
 use Rattle.std.proofs.lemmas.Bool.{cases_lt}
 use Rattle.std.proofs.lemmas.Fmt.{PrependsLastDigit, decimal_from_prepends, length-decimal-le}
-use Rattle.rules.specs.Prelude.{Bytes, digits, decimal_digits}
+use Rattle.rules.specs.Answer.{Bytes}
+use Rattle.rules.specs.Report.{digits, decimal_digits}
 
 prepends : PrependsLastDigit digits
 unfolding digits

@@ -2,7 +2,9 @@
 use Rattle.std.proofs.Common.{◌≡◌, ℕ, ◌*◌, ◌≤◌, [], ◌∷◌, length, take, drop, refl, ap, ◌∙◌, arith, length-take}
 use Rattle.std.proofs.Common.{length-drop}
 use Rattle.std.proofs.Math.Seq.{take-nil}
-use Rattle.rules.specs.Prelude.{Bytes, word_width, word_limit, words_length, letters, word}
+use Rattle.rules.specs.Answer.{Bytes}
+use Rattle.rules.specs.Limits.{word_width, word_limit, words_length}
+use Rattle.rules.specs.Words.{letters, word}
 use Rattle.words.proofs.WordBytes.{letters_few}
 
 -- no word has more than 12 letters

@@ -1,9 +1,13 @@
 -- What stands at the front of a slice that starts with a type, and where its sides start.
-use Rattle.std.proofs.Common.{◌≡◌, refl, ap, sym, ◌∙◌, ◌++◌, append_assoc, ℕ, ◌+◌, ◌*◌, ◌-◌, ◌≤◌, arith, length}
+use Rattle.std.proofs.Common.{◌≡◌, refl, ap, sym, ◌∙◌, ◌++◌, append_assoc, ℕ, ◌+◌, ◌*◌, ◌-◌, ◌≤◌, ◌<◌, arith, length}
 use Rattle.std.proofs.Common.{take, drop, length-append, length-drop, length-set, take_all, drop_at, drop-drop}
-use Rattle.rules.specs.Prelude.{Property, Indirect, Security, Leaf, Ty, leaf, node, top, raise_t, size_t, Bytes, byte}
-use Rattle.rules.specs.Prelude.{type_width, sides, leaf_kind, encode_type}
-use Rattle.rules.proofs.Prelude.{encode_length, size_positive, unique, type_code, type_prefix}
+use Rattle.calculus.specs.Security.{Property, Indirect, Security}
+use Rattle.calculus.specs.Types.{Leaf, one, number, Ty, leaf, node, top, raise_t, size_t}
+use Rattle.rules.specs.Answer.{Bytes, byte}
+use Rattle.rules.specs.Limits.{type_width}
+use Rattle.rules.specs.Types.{sides, leaf_kind, encode_type}
+use Rattle.rules.proofs.PrefixLaws.{encode_length, size_positive, unique}
+use Rattle.rules.proofs.TypeCode.{type_code, type_prefix}
 use Rattle.types.specs.Held.{Held, Starts, TwoSided, LeftSize, kind_of_type, left_of, right_of, type_property}
 use Rattle.types.specs.Held.{with_property}
 
@@ -22,7 +26,8 @@ starts_of {s} {t} h = record { type = t; held = h }
 
 -- a type without sides has not two
 pub sideless : (b : Leaf) → sides (leaf_kind b) ≡ 2 → ⊥
-sideless b h = grind arith
+sideless one h = omega arith
+sideless number h = omega arith
 
 -- a type's own record and its sides
 pub sides_size : (t : Ty) → sides (kind_of_type t) ≡ 2 → size_t t ≡ 1 + (size_t (left_of t) + size_t (right_of t))
@@ -40,16 +45,15 @@ module _ {s : Bytes} where
   pub starts_long : Starts s → type_width ≤ length s
   starts_long w = long w.held
 
-  pub sided_long : TwoSided s → type_width ≤ length s
-  sided_long w = long w.held
-
   pub kind_is : (t : Ty) → Held s t → byte s 0 ≡ kind_of_type t
   unfolding encode_type
-  kind_is t h = grind (arith, h.is)
+  kind_is (leaf b k) h = ap (λ l. byte l 0) h.is
+  kind_is (node f k a b) h = ap (λ l. byte l 0) h.is
 
   pub reader_is : (t : Ty) → Held s t → byte s 1 ≡ (top t).r
   unfolding encode_type
-  reader_is t h = grind (arith, h.is)
+  reader_is (leaf b k) h = ap (λ l. byte l 1) h.is
+  reader_is (node f k a b) h = ap (λ l. byte l 1) h.is
 
   pub property_is : (t : Ty) → Held s t → type_property s 0 ≡ top t
   unfolding encode_type

@@ -1,7 +1,10 @@
 -- A slice that starts with an encoded type, and the parts of a type.
 use Rattle.std.specs.Prelude.{◌≡◌, ◌++◌, ℕ, ◌+◌, ◌*◌, set}
-use Rattle.rules.specs.Prelude.{Property, Ty, leaf, node, size_t, Bytes, type_width, type_r, type_ir, type_c, type_ic}
-use Rattle.rules.specs.Prelude.{sides, leaf_kind, former_kind, encode_type}
+use Rattle.calculus.specs.Security.{Property}
+use Rattle.calculus.specs.Types.{Ty, leaf, node, size_t}
+use Rattle.rules.specs.Answer.{Bytes}
+use Rattle.rules.specs.Limits.{type_width}
+use Rattle.rules.specs.Types.{type_r, type_ir, type_c, type_ic, sides, leaf_kind, former_kind, encode_type}
 
 -- s starts with the records of t
 pub record Held (s : Bytes) (t : Ty) : Type 0 where

@@ -188,7 +188,6 @@ pub fn part_from(types: &[u8], index: usize) -> &[u8]
 }
 
 /// The kind of the type that a part starts with.
-#[tactic(auto, using(crate::proofs::Parts::starts_long))]
 pub fn kind_of(part: &[u8]) -> Kind
     requires { Starts part.now }
     ensures { (t : Ty) → Held part.now t → type_kind_number result ≡ kind_of_type t }
@@ -197,7 +196,6 @@ pub fn kind_of(part: &[u8]) -> Kind
 }
 
 /// Are the types that two parts start with of one kind?
-#[tactic(auto, using(crate::proofs::Parts::starts_long))]
 pub fn of_one_kind(part: &[u8], other: &[u8]) -> bool
     requires first { Starts part.now }
     requires second { Starts other.now }
@@ -207,7 +205,6 @@ pub fn of_one_kind(part: &[u8], other: &[u8]) -> bool
 }
 
 /// The group r of the type that a part starts with.
-#[tactic(auto, using(crate::proofs::Parts::starts_long))]
 pub fn reader(part: &[u8]) -> Reader
     requires { Starts part.now }
     ensures { (t : Ty) → Held part.now t → result.0 ≡ (top t).r }
@@ -216,7 +213,6 @@ pub fn reader(part: &[u8]) -> Reader
 }
 
 /// The property of the type that a part starts with.
-#[tactic(auto, using(crate::proofs::Parts::starts_long))]
 pub fn property(part: &[u8]) -> Property
     requires { Starts part.now }
     ensures { (t : Ty) → Held part.now t → said_property result ≡ top t }
@@ -239,7 +235,6 @@ pub fn type_records(part: &[u8]) -> usize
 }
 
 /// The part that starts with the left side of the type that `part` starts with.
-#[tactic(auto, using(crate::proofs::Parts::sided_long))]
 pub fn left_side(part: &[u8]) -> &[u8]
     requires { TwoSided part.now }
     ensures side { (t : Ty) → Held part.now t → Held result.now (left_of t) }
@@ -261,7 +256,6 @@ pub fn right_side(part: &[u8], count: usize) -> &[u8]
 
 /// Raises the type that a part starts with by an influence: joined into r and ir of its first record and met into its
 /// c and ic, and nowhere deeper. Every other byte stays.
-#[tactic(auto, using(crate::proofs::Parts::starts_long))]
 pub fn raise(groups: &[u8], part: &mut [u8], by: Influence)
     requires { Starts part.old }
     ensures raised { (t : Ty) (h : Held part.old t)

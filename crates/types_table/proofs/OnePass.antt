@@ -3,10 +3,12 @@ use Rattle.std.proofs.Common.{◌≡◌, ℕ, ◌+◌, ◌-◌, ◌≤◌, ◌<�
 use Rattle.std.proofs.Common.{arith, add-one, eq-eqb, ne_eqb}
 use Rattle.std.proofs.Math.Decide.{ℕ_discrete, dec_lt}
 use Rattle.std.proofs.Math.Option.{none, some}
-use Rattle.rules.specs.Prelude.{type_limit, Bytes, accepted, ask, each, ◌⇒◌, ◌>>◌, type_count, type_kind, type_end}
-use Rattle.rules.specs.Prelude.{pending, ok11, ok12}
-use Rattle.rules.proofs.Prelude.{ask_true, implied, each_accepted, each_refused, runs_out, comes_to_end}
-use Rattle.rules.proofs.PrefixLaws.{next_record}
+use Rattle.calculus.specs.Types.{type_limit}
+use Rattle.rules.specs.Answer.{Bytes, accepted, ask, each, ◌⇒◌, ◌>>◌}
+use Rattle.rules.specs.Types.{type_count, type_kind, type_end, pending, ok11, ok12}
+use Rattle.rules.proofs.Asked.{ask_true, implied}
+use Rattle.rules.proofs.Search.{each_accepted, each_refused}
+use Rattle.rules.proofs.PrefixLaws.{next_record, runs_out, comes_to_end}
 use Rattle.types.proofs.Counting.{ops, walk, at_most_two}
 
 -- After record i - 1, with `p` sides to come, in the outermost type that starts at `start`.
@@ -69,16 +71,20 @@ module _ (ok : ℕ → Bool) (t : Bytes) (start p i : ℕ) (l : i < type_count t
         started = omega (arith, w.started);
         before = w.before;
         outer = w.outer;
-        inner = λ k a b c. elim (ℕ_discrete k i) [ yes e ↦ omega (arith, h.count, ap (pending t) e) | no n ↦ w.inner k a (omega arith) c ];
+        inner = λ k a b c. last k (ℕ_discrete k i) a b c;
         rest = w.rest ∙ sym (next_record (ops t) (type_count t) p i (ops t i) l q refl);
       }
+    where
+      last : (k : ℕ) → Dec (k ≡ i) → start < k → k < i + 1 → pending t k ≡ 0 → ⊥
+      last k (yes e) a b c = omega (arith, h.count, ap (pending t) e)
+      last k (no n) a b c = (h.within q).inner k a (omega arith) c
 
   read_there : Inside ok t (next_start start p i) (next_pending t p i) (i + 1)
-  read_there =
-      elim (ℕ_discrete p 0) [
-        | yes e ↦ rw (eq-eqb p 0 e) (begun e)
-        | no n ↦ rw (ne_eqb p 0 n) (onward (omega arith))
-      ]
+  read_there = by (ℕ_discrete p 0)
+    where
+      by : Dec (p ≡ 0) → Inside ok t (next_start start p i) (next_pending t p i) (i + 1)
+      by (yes e) = rw (eq-eqb p 0 e) (begun e)
+      by (no n) = rw (ne_eqb p 0 n) (onward (omega arith))
 
   -- record i is read
   pub read : (start' p' : ℕ) → start' ≡ next_start start p i → p' ≡ next_pending t p i → Inside ok t start' p' (i + 1)
@@ -91,11 +97,15 @@ Skips ok t = (k : ℕ) → (pending t k ≡ 0 → ⊥) → ok k ≡ true
 -- where the type that the pass is in has passed too, all records have
 pub all_passed : (ok : ℕ → Bool) (t : Bytes) (start p i : ℕ) → Skips ok t → Inside ok t start p i → ok start ≡ true
     → (k : ℕ) → k < i → ok k ≡ true
-all_passed ok t start p i skips w o k l =
-    elim (ℕ_discrete k start) [
-      | yes e ↦ ap ok e ∙ o
-      | no n ↦ elim (dec_lt k start) [ yes b ↦ w.before k b | no b ↦ skips k (w.inner k (omega arith) l) ]
-    ]
+all_passed ok t start p i skips w o k l = by (ℕ_discrete k start)
+  where
+    by : Dec (k ≡ start) → ok k ≡ true
+    by (yes e) = ap ok e ∙ o
+    by (no n) = side (dec_lt k start) n
+      where
+        side : Dec (k < start) → (k ≡ start → ⊥) → ok k ≡ true
+        side (yes b) n = w.before k b
+        side (no b) n = skips k (w.inner k (omega arith) l)
 
 pub again : (ok : ℕ → Bool) (t : Bytes) (start p i : ℕ) → Skips ok t → Inside ok t start p i → (p ≡ 0 → ok start ≡ true)
     → Passing ok t start p i
@@ -123,17 +133,17 @@ module _ (t : Bytes) where
   pub asked_11 : (start p i : ℕ) → Passing (ok11 t) t start p i → type_count t ≤ i → i ≤ type_count t
       → ask 11 start (nat_eq p 0) ≡ each 11 (type_count t) (ok11 t)
   unfolding ok11
-  asked_11 start p i h l m =
-      elim (ℕ_discrete p 0) [
-        | yes e ↦ rw (eq-eqb p 0 e) (sym (each_accepted 11 (type_count t) (ok11 t) (λ k b. h.passed e k (omega arith))))
-        | no n ↦
-            let q : 0 < p = omega arith in
-            let w = h.within q in
-            rw (ne_eqb p 0 n)
-            (sym
-            (each_refused 11 (type_count t) (ok11 t) start (omega (arith, w.started)) w.before
-            (rw (eq-eqb (pending t start) 0 w.outer, unended (ok11 t) t start p i w q l))))
-      ]
+  asked_11 start p i h l m = by (ℕ_discrete p 0)
+    where
+      by : Dec (p ≡ 0) → ask 11 start (nat_eq p 0) ≡ each 11 (type_count t) (ok11 t)
+      by (yes e) = rw (eq-eqb p 0 e) (sym (each_accepted 11 (type_count t) (ok11 t) (λ k b. h.passed e k (omega arith))))
+      by (no n) =
+          let q : 0 < p = omega arith in
+          let w = h.within q in
+          rw (ne_eqb p 0 n)
+          (sym
+          (each_refused 11 (type_count t) (ok11 t) start (omega (arith, w.started)) w.before
+          (rw (eq-eqb (pending t start) 0 w.outer, unended (ok11 t) t start p i w q l))))
 
   -- Question 12.
   pub skips_12 : Skips (ok12 t) t
@@ -150,8 +160,7 @@ module _ (t : Bytes) where
   pub asked_12 : (start p i : ℕ) → Inside (ok12 t) t start p i → i ≤ type_count t
       → ◌>>◌ (ask 12 start (nat_eq p 0 ⇒ nat_le (i - start) type_limit)) (each 12 (type_count t) (ok12 t)) ≡ each 12 (type_count t) (ok12 t)
   unfolding ok12
-  asked_12 start p i w m =
-      elim (ℕ_discrete p 0) [ yes e ↦ rw (eq-eqb p 0 e) (long e (nat_le (i - start) type_limit) refl) | no n ↦ rw (ne_eqb p 0 n) ]
+  asked_12 start p i w m = by (ℕ_discrete p 0)
     where
       long : p ≡ 0 → (b : Bool) → nat_le (i - start) type_limit ≡ b → ◌>>◌ (ask 12 start b) (each 12 (type_count t) (ok12 t)) ≡ each 12 (type_count t) (ok12 t)
       long e true l = refl
@@ -160,14 +169,20 @@ module _ (t : Bytes) where
           (each_refused 12 (type_count t) (ok12 t) start (omega (arith, w.started)) w.before
           (rw (eq-eqb (pending t start) 0 w.outer, ended (ok12 t) t start p i w e) l))
 
+      by : Dec (p ≡ 0) → ◌>>◌ (ask 12 start (nat_eq p 0 ⇒ nat_le (i - start) type_limit)) (each 12 (type_count t) (ok12 t)) ≡ each 12 (type_count t) (ok12 t)
+      by (yes e) = rw (eq-eqb p 0 e) (long e (nat_le (i - start) type_limit) refl)
+      by (no n) = rw (ne_eqb p 0 n)
+
   -- an unfinished last type is question 11's
   pub accepted_12 : (start p i : ℕ) → Passing (ok12 t) t start p i → type_count t ≤ i → (k : ℕ) → k < i → ok12 t k ≡ true
   unfolding ok12
-  accepted_12 start p i h l =
-      elim (ℕ_discrete p 0) [
-        | yes e ↦ h.passed e
-        | no n ↦ let q : 0 < p = omega arith in all_passed (ok12 t) t start p i skips_12 (h.within q) (last q)
-      ]
+  accepted_12 start p i h l = by (ℕ_discrete p 0)
     where
       last : 0 < p → ok12 t start ≡ true
       last q = let w = h.within q in rw (eq-eqb (pending t start) 0 w.outer, unended (ok12 t) t start p i w q l)
+
+      by : Dec (p ≡ 0) → (k : ℕ) → k < i → ok12 t k ≡ true
+      by (yes e) = h.passed e
+      by (no n) =
+          let q : 0 < p = omega arith in
+          all_passed (ok12 t) t start p i skips_12 (h.within q) (last q)

@@ -1,7 +1,11 @@
 -- A types table that passes holds a type at each of its records, and none has more than 63 records.
 use Rattle.std.proofs.Common.{◌≡◌, ℕ, ◌*◌, ◌≤◌, ◌<◌, drop}
-use Rattle.rules.specs.Prelude.{size_t, type_limit, Bytes, accepted, type_width, type_count, type_at, types_check}
-use Rattle.rules.proofs.Prelude.{passes, standing, every_short}
+use Rattle.calculus.specs.Types.{size_t, type_limit}
+use Rattle.rules.specs.Answer.{Bytes, accepted}
+use Rattle.rules.specs.Limits.{type_width}
+use Rattle.rules.specs.Types.{type_count, type_at}
+use Rattle.rules.specs.Calls.{types_check}
+use Rattle.rules.proofs.TypeTables.{passes, standing, every_short}
 use Rattle.types.specs.Held.{Held}
 use Rattle.types_table.proofs.Questions.{all_yes}
 

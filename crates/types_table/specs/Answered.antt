@@ -1,6 +1,6 @@
 -- The rules' answer to a comparison.
 use Rattle.std.specs.Prelude.{if◌then◌else◌, Option, Some, None, Result, Ok, Err}
-use Rattle.rules.specs.Prelude.{Answer, accepted, refused}
+use Rattle.rules.specs.Answer.{Answer, accepted, refused}
 use Rattle.rules.specs.Comparison as rules
 use Rattle.answer.specs.declared.Refusal.{Refusal}
 use Rattle.answer.specs.Numbers.{question_number}

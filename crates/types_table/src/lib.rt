@@ -162,10 +162,7 @@ pub fn question_12(types: &[u8]) -> Checked
     let mut pass = Pass::default();
     for i in 0..types::type_count(types) {
         pass = pass.after(types, i);
-        let short = answer::ask(Question::TypeLengths, pass.start, pass.is_short(i + 1));
-        let Ok(()) = short else {
-            return short;
-        };
+        answer::ask(Question::TypeLengths, pass.start, pass.is_short(i + 1))?;
     }
     Ok(())
 }
@@ -217,7 +214,6 @@ fn told(found: Option<Related>) -> Comparison
 /// How the type at record `first` stands to the type at record `second`. Refused where the tables fail their check
 /// (questions 2 to 12 and 36), and by question 25, `Given`, where an index is past the table: place 0 for the first,
 /// 1 for the second. The indexes are looked at as they come, before they are narrowed.
-#[tactic(auto, using(answer::proofs::Passed::then_asked, crate::proofs::Questions::passed_on), unfolding(rules::specs::Calls::compare_call))]
 pub fn compare(groups: &[u8], types: &[u8], first: u64, second: u64) -> Result<Comparison, Refusal>
     ensures { comparison_answer result ≡ compare_call groups.now types.now first second }
 {

@@ -2,9 +2,15 @@
 use Rattle.std.proofs.Common.{◌≡◌, refl, sym, subst, false, ◌||◌, eqb-true, [], ℕ, suc, ◌≤◌, ◌<◌, arith, ltb-true}
 use Rattle.std.proofs.Common.{nat_lt, length, length-drop, IsTrue}
 use Rattle.std.proofs.Math.Bool.{and-eq-true_iff}
-use Rattle.rules.specs.Prelude.{finds_own, plus, less, Term, var, unit, lam, pair, inj, app, proj, case, protect, mu}
-use Rattle.rules.specs.Prelude.{literal, reckon, work_length, Bytes, Octets, accepted, sum, former_kind, type_count}
-use Rattle.rules.specs.Prelude.{type_kind, sum_of_units, term, types_check, script_check}
+use Rattle.calculus.specs.Typing.{finds_own}
+use Rattle.calculus.specs.Terms.{plus, less, Term, var, unit, lam, pair, inj, app, proj, case, protect, mu, literal}
+use Rattle.calculus.specs.Terms.{reckon}
+use Rattle.rules.specs.Limits.{work_length}
+use Rattle.rules.specs.Answer.{Bytes, Octets, accepted}
+use Rattle.calculus.specs.Types.{sum}
+use Rattle.rules.specs.Types.{former_kind, type_count, type_kind}
+use Rattle.rules.specs.Script.{sum_of_units, term}
+use Rattle.rules.specs.Calls.{types_check, script_check}
 use Rattle.promises.proofs.Formed.{Formed as FormedOver}
 use Rattle.promises.proofs.Checked.{Passed, script_passed}
 use Rattle.types_table.proofs.Table.{type_held, type_short}

@@ -2,12 +2,19 @@
 -- them.
 use Rattle.std.proofs.Common.{◌≡◌, refl, sym, ap, ◌∙◌, Bool, true, false, cond, List, [], ◌∷◌, ◌++◌, append-nil, ℕ, suc}
 use Rattle.std.proofs.Common.{◌+◌, ◌*◌, ◌≤◌, max, arith, length, drop}
-use Rattle.rules.specs.Prelude.{Ty, finds_own, first, second, plus, less, Term, var, unit, lam, pair, inj, app, proj}
-use Rattle.rules.specs.Prelude.{case, protect, mu, literal, reckon, answer_length, script_width, Bytes, kind, encode}
-use Rattle.rules.specs.Prelude.{size, depth}
+use Rattle.calculus.specs.Types.{Ty}
+use Rattle.calculus.specs.Typing.{finds_own}
+use Rattle.calculus.specs.Terms.{first, second, plus, less, Term, var, unit, lam, pair, inj, app, proj, case, protect}
+use Rattle.calculus.specs.Terms.{mu, literal, reckon}
 use Rattle.records.specs.Kinds as kinds
 use Rattle.inference.proofs.Shapes.{Several, is_pair, is_app, is_case, is_reckon, several}
-use Rattle.rules.proofs.Prelude.{total, joined, operand_at, encode_length, term_code, term_operands}
+use Rattle.rules.specs.Limits.{answer_length, script_width}
+use Rattle.rules.specs.Answer.{Bytes}
+use Rattle.rules.specs.Script.{kind, encode, size, depth}
+use Rattle.rules.proofs.Prefix.{total, joined}
+use Rattle.rules.proofs.Nodes.{operand_at}
+use Rattle.rules.proofs.PrefixLaws.{encode_length}
+use Rattle.rules.proofs.TermCode.{term_code, term_operands}
 use Rattle.records.specs.Place.{At}
 use Rattle.records.specs.Binders.{binds}
 use Rattle.records.proofs.Weights.{weights}
@@ -23,8 +30,10 @@ pub data Three : Term → Type 0 where
 
 three_of : {e : Term} → Several e → operand_count e ≡ 3 → Three e
 unfolding operand_count
+three_of is_pair o = absurd (omega arith)
+three_of is_app o = absurd (omega arith)
 three_of is_case o = is_three
-three_of _ o = absurd (omega arith)
+three_of is_reckon o = absurd (omega arith)
 
 pub three : (e : Term) → operand_count e ≡ 3 → Three e
 three e o = three_of (several e (omega arith)) o
@@ -64,13 +73,20 @@ module _ (s : Bytes) where
 -- the last operand ends where the term does
 first_ends : (e : Term) → operand_count e ≡ 1 → size e ≡ 1 + size (first_operand e)
 unfolding operand_count size
-first_ends (lam k i e) one = omega arith
-first_ends _ one = omega arith
+first_ends (lam k i e) o = omega arith
+first_ends (inj d k i e) o = omega arith
+first_ends (proj d w e) o = omega arith
+first_ends (protect m e) o = omega arith
+first_ends (mu w i e) o = omega arith
+first_ends (reckon o w a b) d = absurd (omega arith)
+first_ends _ o = absurd (omega arith)
 
 second_ends : {e : Term} → Several e → operand_count e ≡ 2 → size e ≡ 1 + size (first_operand e) + size (second_operand e)
 unfolding operand_count size
-second_ends is_pair two = omega arith
-second_ends _ two = omega arith
+second_ends is_pair o = omega arith
+second_ends is_app o = omega arith
+second_ends is_case o = absurd (omega arith)
+second_ends is_reckon o = omega arith
 
 third_ends : {e : Term} → Three e → size e ≡ 1 + size (first_operand e) + size (second_operand e) + size (third_operand e)
 unfolding size
@@ -129,9 +145,11 @@ first_formed t tab Γ _ o f = absurd (omega arith)
 
 pub second_formed : (t : Bytes) (Γ : List Ty) (u : Ty) {e : Term} → Several e → WellFormed t (length Γ) e → WellFormed t (length (second_context Γ e u)) (second_operand e)
 unfolding WellFormed second_context
+second_formed t Γ u is_pair f = f.1
+second_formed t Γ u is_app f = f.1
 second_formed t Γ u is_case f = f.1.1.0
+second_formed t Γ u (is_reckon {o = plus}) f = f.1
 second_formed t Γ u (is_reckon {o = less i}) f = f.1.1
-second_formed t Γ u _ f = f.1
 
 pub third_formed : (t : Bytes) (b : ℕ) {e : Term} → Three e → WellFormed t b e → WellFormed t (suc b) (third_operand e)
 unfolding WellFormed
@@ -146,7 +164,9 @@ first_room tab Γ e = omega arith
 pub second_room : (Γ : List Ty) (u : Ty) {e : Term} → Several e → kept_between (operand_count e) + answer_length * length (second_context Γ e u) ≤ answer_length * (length Γ + 1)
 unfolding operand_count second_context
 second_room Γ u is_pair = omega arith
-second_room Γ u _ = omega arith
+second_room Γ u is_app = omega arith
+second_room Γ u is_case = omega arith
+second_room Γ u is_reckon = omega arith
 
 -- A case that finds its own type weighs two: one level is spent on the binder's slot, the other on the first branch's
 -- type.
@@ -162,7 +182,9 @@ third_room {i = i} {x = x} {y = y} {z = z} q = rw q (go (finds_own i))
 pub several_front : {e : Term} → Several e → kept_front e ≡ 0
 unfolding kept_front
 several_front is_pair = refl
-several_front _ = refl
+several_front is_app = refl
+several_front is_case = refl
+several_front is_reckon = refl
 
 pub at_most_three : (e : Term) → operand_count e ≤ 3
 unfolding operand_count

@@ -3,3 +3,4 @@ pub mod Below
 pub mod Steps
 pub mod Accepted
 pub mod Outcome
+pub mod Course

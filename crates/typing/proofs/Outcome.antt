@@ -1,10 +1,15 @@
 -- What checking answers and leaves, by the question that ends it.
 use Rattle.std.proofs.Common.{Result, Ok, Err, IsErrAnd, ◌≡◌, refl, sym, ap, subst, ◌∙◌, true, false, cond, ◌&&◌, ◌↔◌}
 use Rattle.std.proofs.Common.{[], ℕ, ◌≤◌, nat_le, length}
-use Rattle.rules.specs.Prelude.{Ty, size_t, Bytes, Octets, Answer, accepted, refused, work_length, answer_length}
-use Rattle.rules.specs.Prelude.{properties_of, type_at, records, term, of_typing, typing, zeros, q1, script_check}
-use Rattle.rules.specs.Prelude.{check_call, type_records, answer_after, work_after, ok39, q39, profile_checking}
-use Rattle.rules.specs.Answer.{◌>>◌ as then}
+use Rattle.calculus.specs.Types.{Ty, size_t}
+use Rattle.rules.specs.Answer.{Bytes, Octets, Answer, accepted, refused, ◌>>◌ as then}
+use Rattle.rules.specs.Limits.{work_length, answer_length}
+use Rattle.rules.specs.Groups.{properties_of}
+use Rattle.rules.specs.Types.{type_at}
+use Rattle.rules.specs.Script.{records, term}
+use Rattle.rules.specs.Typing.{of_typing, typing}
+use Rattle.rules.specs.Calls.{zeros, q1, script_check, check_call, type_records, answer_after, work_after}
+use Rattle.rules.specs.Profile.{ok39, q39, profile_checking}
 use Rattle.promises.proofs.Answers.{accepted_inj, accepted≢refused, number_inj}
 use Rattle.promises.proofs.Deciding.{Own, own_yes, own_no, ask_own, each_own}
 use Rattle.promises.proofs.EveryCallAnswers.{every_call_answers, script_early}
@@ -128,20 +133,18 @@ reported x work work' answer answer' {call} {verdict} same h =
 
 -- With buffers as long as question 1 asks a check reports what it promises.
 module _ (g t s work answer : Bytes) (G : Octets g) (O : Octets s) (x : Result ℕ Refusal) (work' answer' : Bytes) where
-  pub judged : Outcome (checked g t s work answer) x work work' answer answer' → record {
-    outcome : Outcome (checked g t s work answer) x work work' answer answer';
-    promise : work_length ≤ length work → answer_length ≤ length answer → Judged g t s answer (answer_of x) answer';
-  }
-  judged h = record {
-    outcome = h;
-    promise = λ l m. record { promise = accepted_by_the_rules g t s G O; reports = reported x work work' answer answer' (longer_same g t s (length work) (length answer) l m) h };
-  }
+  pub judged : Outcome (checked g t s work answer) x work work' answer answer'
+      → work_length ≤ length work → answer_length ≤ length answer → Judged g t s answer (answer_of x) answer'
+  judged h l m =
+      record {
+        promise = accepted_by_the_rules g t s G O;
+        reports = reported x work work' answer answer' (longer_same g t s (length work) (length answer) l m) h;
+      }
 
-  pub judged_in_profile : Outcome (profiled g t s work answer) x work work' answer answer' → record {
-    outcome : Outcome (profiled g t s work answer) x work work' answer answer';
-    promise : work_length ≤ length work → answer_length ≤ length answer → JudgedInProfile g t s answer (answer_of x) answer';
-  }
-  judged_in_profile h = record {
-    outcome = h;
-    promise = λ l m. record { promise = page_scripts g t s G O; reports = reported x work work' answer answer' (longer_in_profile g t s (length work) (length answer) l m) h };
-  }
+  pub judged_in_profile : Outcome (profiled g t s work answer) x work work' answer answer'
+      → work_length ≤ length work → answer_length ≤ length answer → JudgedInProfile g t s answer (answer_of x) answer'
+  judged_in_profile h l m =
+      record {
+        promise = page_scripts g t s G O;
+        reports = reported x work work' answer answer' (longer_in_profile g t s (length work) (length answer) l m) h;
+      }

@@ -1,6 +1,7 @@
 -- What a found type hands over.
 use Rattle.std.specs.Prelude.{ℕ, Result}
-use Rattle.rules.specs.Prelude.{Ty, Bytes, Answer}
+use Rattle.calculus.specs.Types.{Ty}
+use Rattle.rules.specs.Answer.{Bytes, Answer}
 use Rattle.answer.specs.declared.Refusal.{Refusal}
 use Rattle.inference.specs.Memory.{Meets}
 

@@ -1,7 +1,11 @@
 -- What a call that checks leaves, and what it promises.
 use Rattle.std.specs.Prelude.{◌≡◌, ◌↔◌, ℕ}
-use Rattle.rules.specs.Prelude.{Ty, size_t, Bytes, Answer, accepted, encode_type, type_records, work_after}
-use Rattle.rules.specs.Prelude.{answer_after, fill_front, Accepted, AcceptedInProfile}
+use Rattle.calculus.specs.Types.{Ty, size_t}
+use Rattle.rules.specs.Answer.{Bytes, Answer, accepted}
+use Rattle.rules.specs.Types.{encode_type}
+use Rattle.rules.specs.Calls.{type_records, work_after, answer_after, fill_front}
+use Rattle.rules.specs.Reach.{Accepted}
+use Rattle.rules.specs.Profile.{AcceptedInProfile}
 use Rattle.promises.specs.Promises.{AcceptedByTheRules}
 use Rattle.promises.specs.Profile.{InProfile}
 

@@ -1,6 +1,9 @@
 -- The part of the script that an operand is, and the part of the work buffer that is lent for it.
 use Rattle.std.specs.Prelude.{◌≡◌, if◌then◌else◌, ℕ, ◌+◌, ◌*◌, length, nat_eq}
-use Rattle.rules.specs.Prelude.{Term, Bytes, script_width, answer_length, size}
+use Rattle.calculus.specs.Terms.{Term}
+use Rattle.rules.specs.Answer.{Bytes}
+use Rattle.rules.specs.Limits.{script_width, answer_length}
+use Rattle.rules.specs.Script.{size}
 use Rattle.records.specs.Place.{At}
 
 -- where the second operand's part of the work buffer starts, of a node of o operands

@@ -60,7 +60,6 @@ fn kept_between(o: usize) -> usize
 // The type of the node whose part of the script is `part`, whose record is record `place` of the script, under
 // `binders` binders: operands first, left to right, with `inference`'s questions before, between and after them. A rest
 // of the work buffer is lent on for each operand's type.
-#[tactic(auto, using(inference::proofs::Shapes::long))]
 fn type_node(
     groups: &[u8],
     types: &[u8],

@@ -1,7 +1,10 @@
 -- What the exported preview and move pass on.
 use Rattle.std.proofs.Common.{◌≡◌, refl, ap, ◌∙◌, false, true, ℕ, nat_eq, length, eq-eqb}
-use Rattle.rules.specs.Prelude.{Bytes, Answer, accepted, refused, ◌>>=◌, records, End, moves, end_number, end_count}
-use Rattle.rules.specs.Prelude.{step_call, step_report, written_after, Preview, preview_call, move_call, moved_steps}
+use Rattle.rules.specs.Answer.{Bytes, Answer, accepted, refused, ◌>>=◌}
+use Rattle.rules.specs.Script.{records}
+use Rattle.rules.specs.Step.{End, at_value, moves, may_not, wrong_kind, too_big, end_number, end_count}
+use Rattle.rules.specs.Calls.{step_call, step_report, written_after}
+use Rattle.rules.specs.Preview.{Preview, preview_call, move_call, moved_steps}
 use Rattle.promises.proofs.Preview.{preview_then_move}
 use Rattle.packing.specs.Packed.{packed_number, step_lower, preview_lower, steps_in, steps_of, steps_left}
 use Rattle.wigneld.specs.Exported.{handed_back, Followed}

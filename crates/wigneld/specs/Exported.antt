@@ -1,13 +1,16 @@
 -- What the exported run and move leave; what is promised of a run, in the exported run's words; what the exported
 -- preview tells, and what it promises its move.
 use Rattle.std.specs.Prelude.{◌≡◌, false, if◌then◌else◌, ℕ, ◌+◌, min, nat_eq, length}
-use Rattle.rules.specs.Prelude.{Ty, Bytes, Answer, accepted, refused, End, Ran, Report, step_call, step_report}
-use Rattle.rules.specs.Prelude.{written_after, run_report, first_after, scratch_after, Preview, preview_call}
-use Rattle.rules.specs.Prelude.{largest_steps, moved_steps}
+use Rattle.calculus.specs.Types.{Ty}
+use Rattle.rules.specs.Answer.{Bytes, Answer, accepted, refused}
+use Rattle.rules.specs.Step.{End}
+use Rattle.rules.specs.Run.{Ran}
+use Rattle.rules.specs.Calls.{Report, step_call, step_report, written_after, run_report, first_after, scratch_after}
+use Rattle.rules.specs.Preview.{Preview, preview_call, largest_steps, moved_steps}
 use Rattle.promises.specs.Promises.{AcceptedRun}
 use Rattle.promises.specs.Preview.{PreviewThenMove}
-use Rattle.packing.specs.Packed.{packed_number, unpacked_answer, step_lower, run_lower, end_read, count_read}
-use Rattle.packing.specs.Packed.{steps_in, steps_of, steps_left, steps_after}
+use Rattle.packing.specs.Packed.{packed_number, step_lower, run_lower, end_of, count_of, steps_in, steps_of, steps_left}
+use Rattle.packing.specs.Packed.{steps_after}
 
 -- the steps of a report, in a lent slice
 abbrev pub steps_told : Answer Report → Bytes → Bytes
@@ -34,8 +37,7 @@ pub record PromisedRun (g t s : Bytes) (type : Ty) (budget : ℕ) (first scratch
 
 -- the preview that a caller reads off a number, with the number of steps so far
 abbrev pub read_off : ℕ → ℕ → Preview
-read_off n steps =
-    record { end = end_read (unpacked_answer n); count = count_read (unpacked_answer n); steps = steps }
+read_off n steps = record { end = end_of n; count = count_of n; steps = steps }
 
 -- the preview that a move is given: its end and its count as numbers, the steps in a lent slice
 abbrev pub handed_back : ℕ → ℕ → Bytes → Preview

@@ -1,11 +1,11 @@
-// The functions that the desktop editor calls, on numbers and byte slices. An answer is one number: its low half is 0
-// where the call accepts, and the upper half what the call counts; of a refusal the low half is the question and the
-// upper half the place. `packing` has that definition, and that a caller reads the same answer off it again. All bytes,
-// all lengths and all numbers get an answer.
+// The five functions that the desktop editor calls, on numbers and byte slices. An answer is one number: refused is
+// question * 2^32 + place; otherwise the upper half is 0 and the lower half is what the call answers. `packing` has
+// that definition, and that a caller reads the same answer off it again. All bytes, all lengths and all numbers get
+// an answer.
 
 #![tactic(auto)]
 
-ghost use Rattle.std.specs.Prelude.{◌≡◌, ℕ, ◌≤◌, length, IsTrue};
+ghost use Rattle.std.specs.Prelude.{◌≡◌, ℕ, ◌≤◌, ◌<◌, length};
 ghost use Rattle.calculus.specs.Types.{Ty};
 ghost use Rattle.rules.specs.Limits.{work_length, answer_length};
 ghost use Rattle.rules.specs.Answer.{accepted};
@@ -15,16 +15,10 @@ ghost use Rattle.rules.specs.Preview.{preview_call, move_call};
 ghost use Rattle.typing.specs.Judged.{Judged};
 ghost use Rattle.reduction.specs.Previews.{said_preview, said_move, said_steps};
 ghost use Rattle.evaluation.specs.Runs.{said_run};
-ghost use Rattle.packing.specs.Packed.{packed_number, unpacked_answer, is_accepted, step_lower, run_lower, preview_lower, steps_left};
+ghost use Rattle.packing.specs.Packed.{half, packed_number, unpacked_answer, step_lower, run_lower, preview_lower, steps_left};
 ghost use Rattle.packing.specs.Packed.{StepCounted, RunCounted, PreviewCounted};
 ghost use Rattle.packing.specs.Tells.{TellsCheck};
-ghost use Rattle.rules.specs.Strip.{strip_script, strip_types};
-ghost use Rattle.editing.specs.Parts.{part_call, starts_after};
-ghost use Rattle.editing.specs.Turns.{redex_call, LocatesStep};
-ghost use Rattle.editing.specs.Strips.{strip_script_call, strip_types_call, stripped_after};
 ghost use Rattle.wigneld.specs.Exported.{steps_told, TellsRun, PromisedRun, read_off, handed_back, TellsMove, Followed};
-
-mod readers;
 
 use answer::Refusal;
 use evaluation::Halt;
@@ -115,7 +109,7 @@ pub extern "C" fn wigneld_run(
 /// Refuses, in this order: a groups table, types table or value that isn't well made (questions 2 to 19 and 36, with
 /// the place in what is asked); and at place 0 a group that isn't in the groups table (25), a script that is no value
 /// (26), and a `sheet` that is too short (27). A refusal writes nothing.
-#[tactic(auto, using(packing::proofs::Exported::number_small, packing::proofs::Exported::place_held, crate::proofs::Reports::sheet_holds))]
+#[tactic(auto, using(packing::proofs::Bounds::place_small, packing::proofs::Bounds::page_bounded, packing::proofs::Exported::sheet_bounded))]
 #[unsafe(no_mangle)]
 pub extern "C" fn wigneld_sheet(
     groups: &[u8],
@@ -130,73 +124,6 @@ pub extern "C" fn wigneld_sheet(
         ≡ sheet_after (sheet_call groups.now types.now value.now group (length sheet.old)) sheet.old }
 {
     packing::answer(sheet::page(groups, types, value, group, sheet))
-}
-
-/// The number of records of the term that starts at record `index` of a script. `starts` takes the records at which its
-/// operands start, in order, in 2 bytes each, lowest byte first, and 65,535 where the kind has no such operand: as many
-/// of these 6 bytes as it has. Later bytes are kept.
-///
-/// Refuses, in this order: a groups table, types table or script that isn't well made (questions 2 to 19 and 36, with
-/// the place in what is asked); and a record that isn't in the script (25, place 0). A refusal writes nothing.
-#[tactic(auto, using(packing::proofs::Exported::number_small, packing::proofs::Exported::place_held, editing::proofs::Starts::part_holds))]
-#[unsafe(no_mangle)]
-pub extern "C" fn wigneld_part(
-    groups: &[u8],
-    types: &[u8],
-    script: &[u8],
-    index: u64,
-    starts: &mut [u8],
-) -> u64
-    ensures answer { result ≡ packed_number (part_call groups.now types.now script.now index) }
-    ensures starts { starts.new
-        ≡ starts_after (part_call groups.now types.now script.now index) script.now index starts.old }
-{
-    packing::answer(editing::part(groups, types, script, index, starts))
-}
-
-/// Where the next step of a script happens. The answer is the record of the node whose turn it is, and 65,535 where the
-/// script is a value. Where the term doesn't move it is the node at which it stands still.
-///
-/// Refuses a groups table, types table or script that isn't well made (questions 2 to 19 and 36, in this order, with
-/// the place in what is asked).
-///
-/// `promise` is of the answer that a caller reads off the number: 65,535 is told exactly of a value; where a step moves
-/// the script, it contracts the part at the told record and keeps all others; where a reader may not read or a kind is
-/// wrong, it is at that part.
-#[unsafe(no_mangle)]
-pub extern "C" fn wigneld_redex(groups: &[u8], types: &[u8], script: &[u8]) -> u64
-    ensures answer { result ≡ packed_number (redex_call groups.now types.now script.now) }
-    ensures promise { LocatesStep groups.now types.now script.now (unpacked_answer result) }
-{
-    packing::answer(editing::redex(groups, types, script))
-}
-
-/// Sets every group of every record of a script to 0, in place. Every other byte is kept. The answer is the number of
-/// records.
-///
-/// Refuses a script that isn't 1 to 8,192 whole records of 8 bytes (question 13, place 0), and changes nothing then.
-/// Nothing else is asked.
-#[tactic(auto, using(packing::proofs::Exported::number_small, packing::proofs::Exported::place_held, editing::proofs::Strips::script_holds))]
-#[unsafe(no_mangle)]
-pub extern "C" fn wigneld_strip_script(script: &mut [u8]) -> u64
-    ensures answer { result ≡ packed_number (strip_script_call script.old) }
-    ensures script { script.new ≡ stripped_after (strip_script_call script.old) (strip_script script.old) script.old }
-{
-    packing::answer(editing::strip_script(script))
-}
-
-/// Sets every group of every record of a types table to 0, in place. Every other byte is kept. The answer is the number
-/// of records.
-///
-/// Refuses a table that isn't 1 to 4,096 whole records of 6 bytes (question 8, place 0), and changes nothing then.
-/// Nothing else is asked.
-#[tactic(auto, using(packing::proofs::Exported::number_small, packing::proofs::Exported::place_held, editing::proofs::Strips::types_holds))]
-#[unsafe(no_mangle)]
-pub extern "C" fn wigneld_strip_types(types: &mut [u8]) -> u64
-    ensures answer { result ≡ packed_number (strip_types_call types.old) }
-    ensures types { types.new ≡ stripped_after (strip_types_call types.old) (strip_types types.old) types.old }
-{
-    packing::answer(editing::strip_types(types))
 }
 
 // A preview's end and record count, or its refusal.
@@ -231,7 +158,7 @@ pub extern "C" fn wigneld_preview(
 ) -> u64
     ensures answer { (steps : ℕ)
         → result ≡ packed_number (preview_lower (preview_call groups.now types.now script.now written_length steps)) }
-    ensures read_off { (steps : ℕ) → IsTrue (is_accepted (unpacked_answer result))
+    ensures read_off { (steps : ℕ) → result < half
         → preview_call groups.now types.now script.now written_length steps ≡ accepted (read_off result steps) }
 {
     preview_number(reduction::preview(groups, types, script, written_length as usize, 0))

@@ -2,19 +2,28 @@
 -- holds either.
 use Rattle.std.proofs.Common.{◌≡◌, refl, sym, ◌∙◌, subst, Bool, true, false, cond, [], ◌∷◌, ℕ, ◌/◌, ◌≤◌, min, arith}
 use Rattle.std.proofs.Common.{nat_eq, nat_le, nat_lt, length}
-use Rattle.rules.specs.Prelude.{Ty, function, top, subtype, below, is_value, Bytes, Octets, Answer, accepted, refused}
-use Rattle.rules.specs.Prelude.{◌>>=◌, ◌>>◌, ask, work_length, depth_limit, script_width, script_limit, sheet_width}
-use Rattle.rules.specs.Prelude.{rows, properties_of, type_at, records, term, size, depth, q13, has_form, left, q21}
-use Rattle.rules.specs.Prelude.{typing, Ran, run, sheet, q25, q26, own_check, script_check, ok39, q39, application}
-use Rattle.rules.specs.Prelude.{q1_work, q39_if, q37, q38, before_typing, application_check, desk_check, Packet}
-use Rattle.rules.specs.Prelude.{packet_of_run, packet_call, packet_count, packet_report}
-use Rattle.rules.proofs.Prelude.{and_then}
+use Rattle.calculus.specs.Types.{Ty, function, top}
+use Rattle.calculus.specs.Subtyping.{subtype, below}
+use Rattle.calculus.specs.Terms.{is_value}
+use Rattle.rules.specs.Answer.{Bytes, Octets, Answer, accepted, refused, ◌>>=◌, ◌>>◌, ask}
+use Rattle.rules.specs.Limits.{work_length, depth_limit, script_width, script_limit, sheet_width}
+use Rattle.rules.specs.Groups.{rows, properties_of}
+use Rattle.rules.specs.Types.{type_at}
+use Rattle.rules.specs.Script.{records, term, size, depth, q13}
+use Rattle.rules.specs.Typing.{has_form, left, q21, typing}
+use Rattle.rules.specs.Run.{Ran, run}
+use Rattle.rules.specs.Sheet.{sheet}
+use Rattle.rules.specs.Calls.{q25, q26, q27, own_check, script_check}
+use Rattle.rules.specs.Profile.{ok39, q39}
+use Rattle.rules.specs.Packet.{application, q1_work, q39_if, q37, q38, before_typing, application_check, desk_check}
+use Rattle.rules.specs.Packet.{Packet, packet_of_run, packet_call, packet_count, packet_report}
+use Rattle.rules.proofs.Asked.{and_then}
 use Rattle.promises.proofs.Answers.{go_on}
 use Rattle.promises.proofs.Checked.{script_passed}
 use Rattle.promises.proofs.Packet.{packet_by_hand, ready}
 use Rattle.promises.proofs.PacketQuestions.{issuing_is}
 use Rattle.packing.specs.Packed.{Bounded, bounded_yes, bounded_no, counted_yes, counted_no, RunCounted}
-use Rattle.packing.proofs.Bounds.{then, front, each_bounded, at_13, own_bounded, script_bounded, own_records}
+use Rattle.packing.proofs.Bounds.{then, front, each_bounded, at_13, at_27, own_bounded, script_bounded, own_records}
 use Rattle.packing.proofs.Bounds.{script_records, typing_bounded}
 use Rattle.packing.proofs.Exported.{run_ends}
 use Rattle.sheet.proofs.Sheets.{sheet_length}

@@ -1,5 +1,6 @@
 -- What the exported packet tells of its steps.
-use Rattle.rules.specs.Prelude.{Bytes, Answer, accepted, refused, Report}
+use Rattle.rules.specs.Answer.{Bytes, Answer, accepted, refused}
+use Rattle.rules.specs.Calls.{Report}
 use Rattle.packing.specs.Packed.{steps_in}
 
 -- the steps of a report, in a lent slice; nothing on a refusal

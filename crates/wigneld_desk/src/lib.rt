@@ -1,26 +1,17 @@
-// The function that the loan desk calls, on numbers and byte slices. An answer is one number: its low half is 0 where
-// the call accepts, and the upper half has the end and a record count; of a refusal the low half is the question and
-// the upper half the place.
+// The function that the loan desk calls, on numbers and byte slices. An answer is one number: refused is question *
+// 2^32 + place; otherwise the upper half is 0, and the lower half has the end and a record count.
 
 #![tactic(auto)]
 
 ghost use Rattle.std.specs.Prelude.{◌≡◌, length};
 ghost use Rattle.rules.specs.Packet.{packet_call, packet_report};
 ghost use Rattle.promises.specs.Packet.{PacketByHand};
-ghost use Rattle.packing.specs.Packed.{version, packed_number, run_lower, RunCounted};
+ghost use Rattle.packing.specs.Packed.{packed_number, run_lower, RunCounted};
 ghost use Rattle.packet.specs.Reports.{said_packet, LeavesPacket};
 ghost use Rattle.wigneld_desk.specs.Exported.{steps_told};
 
 use answer::Refusal;
 use packet::Packet;
-
-/// The version of the surface for C: a plain number.
-#[unsafe(no_mangle)]
-pub extern "C" fn wigneld_desk_version() -> u32
-    ensures { result ≡ version }
-{
-    packing::version()
-}
 
 // A packet's end and record count, with its steps written apart, or the refusal, with nothing written.
 fn packet_number(outcome: Result<Packet, Refusal>, steps: &mut [u8]) -> u64

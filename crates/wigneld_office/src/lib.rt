@@ -1,7 +1,6 @@
-// The functions that the office's programs call, on numbers and byte slices. Each answer is packed as the editor's are:
-// the low half is 0 where the call accepts, and the upper half what it counts; of a refusal the low half is the
-// question and the upper half the place. A call that asks no question accepts. All bytes, all lengths and all numbers
-// get an answer.
+// The functions that the office's programs call, on numbers and byte slices. A call that asks questions answers packed,
+// as the editor's do: refused is question * 2^32 + place; otherwise the upper half is 0 and the lower half is what the
+// call answers. One that asks none answers the plain number. All bytes, all lengths and all numbers get an answer.
 
 #![tactic(auto)]
 
@@ -16,24 +15,11 @@ ghost use Rattle.rules.specs.InForce.{in_force};
 ghost use Rattle.answer.specs.Said.{answer_of};
 ghost use Rattle.types_table.specs.Answered.{comparison_answer};
 ghost use Rattle.typing.specs.Judged.{JudgedInProfile};
-ghost use Rattle.packing.specs.Packed.{packed_number, unpacked_answer, counted_at_most, number_or};
-ghost use Rattle.packing.specs.Packed.{comparison_lower, comparison_refused, in_force_refused, version, Bounded};
-ghost use Rattle.packing.specs.Packed.{BoundedByLists};
-ghost use Rattle.packing.specs.PlaceKinds.{lists_place_kind};
+ghost use Rattle.packing.specs.Packed.{packed_number, unpacked_answer, comparison_lower, Bounded, BoundedByLists};
 ghost use Rattle.packing.specs.Tells.{TellsCheck};
 
 use answer::Refusal;
 use types_table::Comparison;
-
-const MOST_COUNTED: u64 = 4294967295;
-
-/// The version of the surface for C: a plain number.
-#[unsafe(no_mangle)]
-pub extern "C" fn wigneld_office_version() -> u32
-    ensures { result ≡ version }
-{
-    packing::version()
-}
 
 // A comparison's number, or the refusal.
 fn comparison_number(outcome: Result<Comparison, Refusal>) -> u64
@@ -41,14 +27,6 @@ fn comparison_number(outcome: Result<Comparison, Refusal>) -> u64
     ensures { result ≡ packed_number (comparison_lower (comparison_answer outcome)) }
 {
     packing::answer(outcome.map(|comparison| usize::from(comparison.number())))
-}
-
-/// The comparison that an answer of `wigneld_compare` tells, and 255 where the call was refused.
-#[unsafe(no_mangle)]
-pub extern "C" fn wigneld_comparison(answer: u64) -> u32
-    ensures { result ≡ number_or comparison_refused (unpacked_answer answer) }
-{
-    packing::count_or(answer, 255)
 }
 
 /// Is the first of two types of a table the same as the second (2), below it (1), or neither (0)? `first` and
@@ -64,22 +42,15 @@ pub extern "C" fn wigneld_compare(groups: &[u8], types: &[u8], first: u64, secon
     comparison_number(types_table::compare(groups, types, first, second))
 }
 
-// How many records were written, as an accepted answer, whose count stays at the largest of 32 bits.
-fn written_number(count: u64) -> u64
-    ensures { result ≡ packed_number (counted_at_most count) }
-{
-    packing::answer(Ok(count.min(MOST_COUNTED) as usize))
-}
-
 /// Puts r of its type into byte 1 of each recursion whose type is in the table, in place: what brings a script of form
 /// 1 to form 2. `types` has records of 4 bytes and `script` records of 6. Every other byte is kept. The answer is how
-/// many records it wrote, and of more than 4,294,967,295 this number. It asks no question.
+/// many records it wrote. It asks no question.
 #[unsafe(no_mangle)]
 pub extern "C" fn wigneld_write_callers(types: &[u8], script: &mut [u8]) -> u64
-    ensures answer { result ≡ packed_number (counted_at_most (callers_written types.now script.old)) }
+    ensures answer { result ≡ callers_written types.now script.old }
     ensures script { script.new ≡ write_callers types.now script.old }
 {
-    written_number(rewriting::write_callers(types, script))
+    rewriting::write_callers(types, script)
 }
 
 /// Writes a types table of 4-byte records in the present form to the front of `rewritten`, in records of 6 bytes with
@@ -87,7 +58,7 @@ pub extern "C" fn wigneld_write_callers(types: &[u8], script: &mut [u8]) -> u64
 ///
 /// Refuses, in this order: a groups table or types table that isn't well made (questions 2 to 12, with the place in
 /// what is asked); and a `rewritten` that is too short (27, place 0). A refusal writes nothing.
-#[tactic(auto, using(packing::proofs::Exported::number_small, packing::proofs::Exported::place_held, packing::proofs::Exported::types_holds))]
+#[tactic(auto, using(packing::proofs::Bounds::rewriting_types_bounded, packing::proofs::Exported::rewritten_bounded, packing::proofs::Bounds::place_small))]
 #[unsafe(no_mangle)]
 pub extern "C" fn wigneld_rewrite_types(groups: &[u8], types: &[u8], rewritten: &mut [u8]) -> u64
     ensures answer { result
@@ -104,7 +75,7 @@ pub extern "C" fn wigneld_rewrite_types(groups: &[u8], types: &[u8], rewritten: 
 ///
 /// Refuses, in this order: a groups table, types table or script that isn't well made (questions 2 to 19, with the
 /// place in what is asked); and a `rewritten` that is too short (27, place 0). A refusal writes nothing.
-#[tactic(auto, using(packing::proofs::Exported::number_small, packing::proofs::Exported::place_held, packing::proofs::Exported::script_holds))]
+#[tactic(auto, using(packing::proofs::Bounds::rewriting_script_bounded, packing::proofs::Exported::rewritten_bounded, packing::proofs::Bounds::place_small))]
 #[unsafe(no_mangle)]
 pub extern "C" fn wigneld_rewrite_script(
     groups: &[u8],
@@ -176,23 +147,6 @@ pub extern "C" fn wigneld_in_force(
     script_number(amendments::in_force(groups, types, scripts, amendments, index))
 }
 
-/// The script in force that an answer of `wigneld_in_force` tells, and 65,536 where the call was refused.
-#[unsafe(no_mangle)]
-pub extern "C" fn wigneld_script_in_force(answer: u64) -> u32
-    ensures { result ≡ number_or in_force_refused (unpacked_answer answer) }
-{
-    packing::count_or(answer, 65536)
-}
-
-/// What the place counts where `wigneld_in_force` refuses lists of these lengths by this question: as
-/// `wigneld_place_kind`, but 6, a script of the list, for 25, and 0 for 40 where it is asked of the lengths.
-#[unsafe(no_mangle)]
-pub extern "C" fn wigneld_lists_place_kind(question: u32, scripts: u64, amendments: u64) -> u32
-    ensures { result ≡ lists_place_kind question scripts amendments }
-{
-    packing::lists_place_kind(question, scripts, amendments)
-}
-
 /// Writes a script of the old office program, in 10-byte records with names, in the present form to the front of
 /// `script`, in records of 8 bytes. Bytes past them are kept. The answer is the number of records. A variable gets
 /// the number of the nearest binder of its name, and every record group 0 as creators and as indirect creators.
@@ -201,7 +155,7 @@ pub extern "C" fn wigneld_lists_place_kind(question: u32, scripts: u64, amendmen
 /// (questions 2 to 12 and 36); an `old` that isn't 1 to 6,000 whole records (28); what 14 to 18 ask of the records
 /// without their names; a field that isn't used and isn't 0 (29); a variable without a binder of its name (30); and a
 /// `script` that is too short (27, place 0). A refusal writes nothing.
-#[tactic(auto, using(packing::proofs::Exported::number_small, packing::proofs::Exported::place_held, packing::proofs::Exported::import_holds))]
+#[tactic(auto, using(packing::proofs::Bounds::importing_bounded, packing::proofs::Exported::rewritten_bounded, packing::proofs::Bounds::place_small))]
 #[unsafe(no_mangle)]
 pub extern "C" fn wigneld_import(groups: &[u8], types: &[u8], old: &[u8], script: &mut [u8]) -> u64
     ensures answer { result
@@ -218,7 +172,7 @@ pub extern "C" fn wigneld_import(groups: &[u8], types: &[u8], old: &[u8], script
 /// Refuses, in this order: a groups table, types table or script that isn't well made (questions 2 to 19 and 36, with
 /// the place in what is asked); and at place 0 a script of more than 6,000 records (28), and an `old` that is too
 /// short (27). A refusal writes nothing.
-#[tactic(auto, using(packing::proofs::Exported::number_small, packing::proofs::Exported::place_held, packing::proofs::Exported::export_holds))]
+#[tactic(auto, using(packing::proofs::Bounds::exporting_bounded, packing::proofs::Exported::rewritten_bounded, packing::proofs::Bounds::place_small))]
 #[unsafe(no_mangle)]
 pub extern "C" fn wigneld_export(groups: &[u8], types: &[u8], script: &[u8], old: &mut [u8]) -> u64
     ensures answer { result
@@ -234,8 +188,8 @@ pub extern "C" fn wigneld_export(groups: &[u8], types: &[u8], script: &[u8], old
 /// how many records it wrote. It asks no question.
 #[unsafe(no_mangle)]
 pub extern "C" fn wigneld_write_office_callers(types: &[u8], old: &mut [u8]) -> u64
-    ensures answer { result ≡ packed_number (counted_at_most (office_callers_written types.now old.old)) }
+    ensures answer { result ≡ office_callers_written types.now old.old }
     ensures old { old.new ≡ write_office_callers types.now old.old }
 {
-    written_number(rewriting::write_office_callers(types, old))
+    rewriting::write_office_callers(types, old)
 }

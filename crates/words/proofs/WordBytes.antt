@@ -8,9 +8,10 @@ use Rattle.std.specs.Bool.{one_answer, Decides}
 use Rattle.std.specs.List.{AllWithin, HoldsAt}
 use Rattle.std.proofs.lemmas.Bool.{lt-leb, cases_lt}
 use Rattle.std.proofs.Math.Option as math
-use Rattle.rules.specs.Prelude.{Bytes, first_below, ◌⇒◌, word_width, word_limit, words_length, word_byte, is_letter}
-use Rattle.rules.specs.Prelude.{or_12, letters, word, zeros_from, same_word, ok33}
-use Rattle.rules.proofs.Prelude.{from_none, from_some, all_below_true, all_below_all, found}
+use Rattle.rules.specs.Answer.{Bytes, first_below, ◌⇒◌}
+use Rattle.rules.specs.Limits.{word_width, word_limit, words_length}
+use Rattle.rules.specs.Words.{word_byte, is_letter, or_12, letters, word, zeros_from, same_word, ok33}
+use Rattle.rules.proofs.Search.{from_none, from_some, all_below_true, all_below_all, found}
 
 -- x is word i of a whole table.
 pub record IsWord (w : Bytes) (i : ℕ) (x : Bytes) : Type 0 where

@@ -9,7 +9,7 @@ pub mod records;
 pub mod runs;
 
 use wigneld_tests::calls::{
-    self, Lent, MoveReport, PacketReport, Part, Preview, Request, RunReport, StepReport,
+    self, Lent, MoveReport, PacketReport, Preview, Request, RunReport, StepReport,
 };
 use wigneld_tests::cases::Inputs;
 use wigneld_tests::limits::{ANSWER_BYTES, REPORT_RUN_BYTES, SCRIPT_BYTES, TYPE_BYTES, WORK_BYTES};
@@ -88,43 +88,6 @@ pub fn strip_types(types: &mut [u8]) {
     calls::strip_types(types);
     #[cfg(feature = "engine")]
     compared::strip_types(&before, types);
-}
-
-/// A part, with room for `room` bytes of where its operands start.
-pub fn part_with(inputs: &Inputs, record: u64, room: usize) -> Answer<Part> {
-    let Inputs { groups, types, script } = inputs;
-    let answer = calls::part(groups, types, script, record);
-    #[cfg(feature = "engine")]
-    compared::part(inputs, record, room, &answer);
-    #[cfg(not(feature = "engine"))]
-    let _ = room;
-    answer
-}
-
-pub fn redex_of(inputs: &Inputs) -> Answer<u16> {
-    let Inputs { groups, types, script } = inputs;
-    let answer = calls::redex(groups, types, script);
-    #[cfg(feature = "engine")]
-    compared::redex(inputs, &answer);
-    answer
-}
-
-pub fn strip_whole_script(script: &mut [u8]) -> Answer<u32> {
-    #[cfg(feature = "engine")]
-    let before = script.to_vec();
-    let answer = calls::strip_whole_script(script);
-    #[cfg(feature = "engine")]
-    compared::strip_whole_script(&before, &answer, script);
-    answer
-}
-
-pub fn strip_whole_types(types: &mut [u8]) -> Answer<u32> {
-    #[cfg(feature = "engine")]
-    let before = types.to_vec();
-    let answer = calls::strip_whole_types(types);
-    #[cfg(feature = "engine")]
-    compared::strip_whole_types(&before, &answer, types);
-    answer
 }
 
 pub fn write_callers(types: &[u8], script: &mut [u8]) -> u64 {
@@ -451,11 +414,9 @@ pub fn sheet_in(inputs: &Inputs, group: u64, length: usize) -> (Answer<u32>, Vec
 #[cfg(feature = "engine")]
 mod compared {
     use super::*;
-    use wigneld::Answer as Number;
     use wigneld_tests::engine::{
-        self, lent as c, packed_comparison, packed_count, packed_index, packed_move,
-        packed_nothing, packed_packet, packed_part, packed_preview, packed_run, packed_step,
-        packed_written,
+        self, packed_comparison, packed_count, packed_move, packed_nothing, packed_packet,
+        packed_preview, packed_run, packed_script, packed_step,
     };
     use wigneld_tests::steps::End;
 
@@ -524,13 +485,8 @@ mod compared {
         }
     }
 
-    fn answers(found: Number, expected: u64, what: &str) {
-        numbers(found.number(), expected, what);
-    }
-
-    /// The same of a probe, which answers its number as it is.
-    fn numbers(found: u64, expected: u64, what: &str) {
-        let words = |answer: u64| format!("{}:{}", answer as u32, answer >> 32);
+    fn answers(found: u64, expected: u64, what: &str) {
+        let words = |answer: u64| format!("{}:{}", answer >> 32, answer as u32);
         assert_eq!(
             words(found),
             words(expected),
@@ -540,13 +496,13 @@ mod compared {
 
     pub fn groups_check(groups: &[u8], expected: &Answer<()>) {
         let mut given = Guarded::new(groups);
-        numbers(engine::groups_check(given.lend()), packed_nothing(expected), "groups check");
+        answers(engine::groups_check(given.lend()), packed_nothing(expected), "groups check");
         same(given.take("groups"), groups, "groups are only read");
     }
 
     pub fn types_check(groups: &[u8], types: &[u8], expected: &Answer<()>) {
         let (mut one, mut two) = (Guarded::new(groups), Guarded::new(types));
-        numbers(
+        answers(
             engine::types_check(one.lend(), two.lend()),
             packed_nothing(expected),
             "types check",
@@ -557,7 +513,7 @@ mod compared {
 
     pub fn compare(groups: &[u8], types: &[u8], i: u64, j: u64, expected: &Answer<Comparison>) {
         let (mut one, mut two) = (Guarded::new(groups), Guarded::new(types));
-        let found = c::compare(one.lend(), two.lend(), i, j);
+        let found = engine::compare(one.lend(), two.lend(), i, j);
         answers(found, packed_comparison(expected), "comparison");
         same(one.take("groups"), groups, "groups are only read");
         same(two.take("types"), types, "types are only read");
@@ -568,8 +524,8 @@ mod compared {
         let mut lent = given.map(|bytes| Guarded::new(bytes));
         let [groups, types, scripts, amendments] = &mut lent;
         let found =
-            c::in_force(groups.lend(), types.lend(), scripts.lend(), amendments.lend(), index);
-        answers(found, packed_index(expected), "the script in force");
+            engine::in_force(groups.lend(), types.lend(), scripts.lend(), amendments.lend(), index);
+        answers(found, packed_script(expected), "the script in force");
         for (after, before) in lent.iter().zip(given) {
             same(after.take("a list or a table"), before, "lists and tables are only read");
         }
@@ -582,7 +538,7 @@ mod compared {
             let before = filled(length);
             let mut copy = Guarded::new(&before);
             let found = engine::subterm(given.lend(), index, copy.lend());
-            numbers(found, expected.len() as u64, "subterm");
+            answers(found, expected.len() as u64, "subterm");
             let kept = length.min(expected.len());
             let after = [&expected[..kept], &before[kept..]].concat();
             same(copy.take("copy"), &after, "subterm");
@@ -602,46 +558,10 @@ mod compared {
         same(given.take("types"), expected, "strip types");
     }
 
-    pub fn part(inputs: &Inputs, record: u64, room: usize, expected: &Answer<Part>) {
-        let mut given = Given::of(inputs);
-        let before = filled(room);
-        let mut starts = Guarded::new(&before);
-        let (groups, types) = (given.groups.lend(), given.types.lend());
-        let found = c::part(groups, types, given.script.lend(), record, starts.lend());
-        answers(found, packed_part(expected), "part");
-        let mut after = before;
-        if let Ok(part) = expected {
-            let told: Vec<u8> = part.starts.iter().flat_map(|start| start.to_le_bytes()).collect();
-            let kept = room.min(told.len());
-            after[..kept].copy_from_slice(&told[..kept]);
-        }
-        same(starts.take("starts"), &after, "part: starts of its operands");
-        given.unchanged(inputs);
-    }
-
-    pub fn redex(inputs: &Inputs, expected: &Answer<u16>) {
-        let mut given = Given::of(inputs);
-        let found = c::redex(given.groups.lend(), given.types.lend(), given.script.lend());
-        answers(found, packed_index(expected), "redex");
-        given.unchanged(inputs);
-    }
-
-    pub fn strip_whole_script(before: &[u8], expected: &Answer<u32>, after: &[u8]) {
-        let mut given = Guarded::new(before);
-        answers(c::strip_script(given.lend()), packed_count(expected), "strip a script");
-        same(given.take("script"), after, "strip a script");
-    }
-
-    pub fn strip_whole_types(before: &[u8], expected: &Answer<u32>, after: &[u8]) {
-        let mut given = Guarded::new(before);
-        answers(c::strip_types(given.lend()), packed_count(expected), "strip a types table");
-        same(given.take("types"), after, "strip a types table");
-    }
-
     pub fn write_callers(types: &[u8], before: &[u8], expected: u64, after: &[u8]) {
         let (mut own, mut script) = (Guarded::new(types), Guarded::new(before));
-        let found = c::write_callers(own.lend(), script.lend());
-        answers(found, packed_written(expected), "write callers: records written");
+        let found = engine::write_callers(own.lend(), script.lend());
+        answers(found, expected, "write callers: records written");
         same(script.take("script"), after, "write callers");
         same(own.take("types"), types, "types are only read");
     }
@@ -655,7 +575,7 @@ mod compared {
     ) {
         let (mut one, mut two) = (Guarded::new(groups), Guarded::new(types));
         let mut rewritten = Guarded::new(lent);
-        let found = c::rewrite_types(one.lend(), two.lend(), rewritten.lend());
+        let found = engine::rewrite_types(one.lend(), two.lend(), rewritten.lend());
         answers(found, packed_count(expected), "rewrite types");
         same(rewritten.take("rewritten"), after, "rewrite types");
         same(one.take("groups"), groups, "groups are only read");
@@ -665,7 +585,7 @@ mod compared {
     pub fn rewrite_script(old: &Inputs, lent: &[u8], expected: &Answer<u32>, after: &[u8]) {
         let mut given = Given::of(old);
         let mut rewritten = Guarded::new(lent);
-        let found = c::rewrite_script(
+        let found = engine::rewrite_script(
             given.groups.lend(),
             given.types.lend(),
             given.script.lend(),
@@ -679,8 +599,12 @@ mod compared {
     pub fn import(old: &Inputs, lent: &[u8], expected: &Answer<u32>, after: &[u8]) {
         let mut given = Given::of(old);
         let mut script = Guarded::new(lent);
-        let found =
-            c::import(given.groups.lend(), given.types.lend(), given.script.lend(), script.lend());
+        let found = engine::import(
+            given.groups.lend(),
+            given.types.lend(),
+            given.script.lend(),
+            script.lend(),
+        );
         answers(found, packed_count(expected), "import");
         same(script.take("script"), after, "import");
         given.unchanged(old);
@@ -689,8 +613,12 @@ mod compared {
     pub fn export(inputs: &Inputs, lent: &[u8], expected: &Answer<u32>, after: &[u8]) {
         let mut given = Given::of(inputs);
         let mut old = Guarded::new(lent);
-        let found =
-            c::export(given.groups.lend(), given.types.lend(), given.script.lend(), old.lend());
+        let found = engine::export(
+            given.groups.lend(),
+            given.types.lend(),
+            given.script.lend(),
+            old.lend(),
+        );
         answers(found, packed_count(expected), "export");
         same(old.take("old"), after, "export");
         given.unchanged(inputs);
@@ -698,16 +626,16 @@ mod compared {
 
     pub fn write_office_callers(types: &[u8], before: &[u8], expected: u64, after: &[u8]) {
         let (mut own, mut old) = (Guarded::new(types), Guarded::new(before));
-        let found = c::write_office_callers(own.lend(), old.lend());
-        answers(found, packed_written(expected), "write office callers: records written");
+        let found = engine::write_office_callers(own.lend(), old.lend());
+        answers(found, expected, "write office callers: records written");
         same(old.take("old"), after, "write office callers");
         same(own.take("types"), types, "types are only read");
     }
 
-    type Check = fn(&[u8], &[u8], &[u8], &mut [u8], &mut [u8]) -> Number;
+    type Check = fn(&[u8], &[u8], &[u8], &mut [u8], &mut [u8]) -> u64;
 
     pub fn check(inputs: &Inputs, lent: [&[u8]; 2], expected: &Answer<u32>, after: [&[u8]; 2]) {
-        checked(c::check, "check", inputs, lent, expected, after);
+        checked(engine::check, "check", inputs, lent, expected, after);
     }
 
     pub fn check_profile(
@@ -716,7 +644,7 @@ mod compared {
         expected: &Answer<u32>,
         after: [&[u8]; 2],
     ) {
-        checked(c::check_profile, "profile check", inputs, lent, expected, after);
+        checked(engine::check_profile, "profile check", inputs, lent, expected, after);
     }
 
     fn checked(
@@ -755,7 +683,7 @@ mod compared {
         let [mut first, mut scratch] = lent.map(Guarded::new);
         let before = filled(length);
         let mut steps = Guarded::new(&before);
-        let found = c::run(
+        let found = engine::run(
             given.groups.lend(),
             given.types.lend(),
             given.script.lend(),
@@ -795,19 +723,17 @@ mod compared {
         let mut lent = buffers(desk).map(|bytes| Guarded::new(&bytes));
         let mut steps = Guarded::new(&before);
         let [work, first, scratch, sheet] = &mut lent;
-        let found = c::packet(
-            groups.lend(),
-            types.lend(),
-            script.lend(),
-            entry.lend(),
-            request.group,
-            request.budget,
-            request.profile,
-            work.lend(),
-            first.lend(),
-            scratch.lend(),
+        let found = engine::packet(
+            [groups.lend(), types.lend()],
+            [script.lend(), entry.lend()],
+            request,
+            Lent {
+                work: work.lend(),
+                first: first.lend(),
+                scratch: scratch.lend(),
+                sheet: sheet.lend(),
+            },
             steps.lend(),
-            sheet.lend(),
         );
         answers(found, packed_packet(expected), "packet");
         let mut count = before;
@@ -840,7 +766,7 @@ mod compared {
             given.script.lend(),
             written.lend(),
         );
-        numbers(found, packed_step(expected), "step");
+        answers(found, packed_step(expected), "step");
         same(written.take("written"), after, "step: written buffer");
         given.unchanged(inputs);
     }
@@ -848,7 +774,7 @@ mod compared {
     pub fn preview(inputs: &Inputs, length: u64, expected: &Answer<Preview>) {
         let mut given = Given::of(inputs);
         let found =
-            c::preview(given.groups.lend(), given.types.lend(), given.script.lend(), length);
+            engine::preview(given.groups.lend(), given.types.lend(), given.script.lend(), length);
         answers(found, packed_preview(expected), "preview");
         given.unchanged(inputs);
     }
@@ -868,12 +794,11 @@ mod compared {
         let mut given = Given::of(inputs);
         let mut written = Guarded::new(lent);
         let mut steps = Guarded::new(&before);
-        let found = c::move_on(
+        let found = engine::move_on(
             given.groups.lend(),
             given.types.lend(),
             given.script.lend(),
-            preview.end,
-            preview.records,
+            preview,
             written.lend(),
             steps.lend(),
         );
@@ -895,7 +820,7 @@ mod compared {
     pub fn sheet(inputs: &Inputs, group: u64, lent: &[u8], expected: &Answer<u32>, after: &[u8]) {
         let mut given = Given::of(inputs);
         let mut sheet = Guarded::new(lent);
-        let found = c::sheet(
+        let found = engine::sheet(
             given.groups.lend(),
             given.types.lend(),
             given.script.lend(),

@@ -1,6 +1,7 @@
 -- The entries before e pass, and the two sets hold what they name.
 use Rattle.std.proofs.Common.{◌≡◌}
-use Rattle.rules.specs.Prelude.{accepted, entries_check}
+use Rattle.rules.specs.Answer.{accepted}
+use Rattle.rules.specs.InForce.{entries_check}
 use Rattle.amendments.specs.Seen.{Before}
 use Rattle.amendments.proofs.entries_check.Given as goal
 

@@ -1,5 +1,5 @@
 use Rattle.std.proofs.Common.{true, false, not, sym, ap, arith}
-use Rattle.rules.proofs.Prelude.{from_none, from_some}
+use Rattle.rules.proofs.Search.{from_none, from_some}
 use Rattle.answer.proofs.first_failing.Goals as goal
 
 pub returns-then-not-passes : goal.returns-then-not-passes

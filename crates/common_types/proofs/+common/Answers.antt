@@ -1,6 +1,6 @@
 -- The walk calls itself at records further on, and `Stages` has its laws.
 use Rattle.std.proofs.Common.{ℕ, ◌+◌, ap, ◌∙◌, arith}
-use Rattle.rules.specs.Prelude.{properties_of}
+use Rattle.rules.specs.Groups.{properties_of}
 use Rattle.types.specs.Held.{right_of}
 use Rattle.common_types.specs.Directions.{said_direction}
 use Rattle.common_types.specs.Walks.{TwoTypes}

@@ -1,6 +1,7 @@
 -- The common property, stored over the first record's.
 use Rattle.std.proofs.Common.{ap, sym, ◌∙◌}
-use Rattle.rules.specs.Prelude.{nearest_property, properties_of}
+use Rattle.calculus.specs.Common.{nearest_property}
+use Rattle.rules.specs.Groups.{properties_of}
 use Rattle.lattice.specs.Said.{said_property}
 use Rattle.common_types.specs.declared.Direction.{Direction}
 use Rattle.common_types.specs.Directions.{said_direction}

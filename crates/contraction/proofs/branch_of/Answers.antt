@@ -1,6 +1,7 @@
 -- The injection of a case stands after it, and the injected value after that.
 use Rattle.std.proofs.Common.{◌≡◌, sym, ap, ◌∙◌, inr, ℕ, ◌+◌}
-use Rattle.rules.specs.Prelude.{Bytes, size}
+use Rattle.rules.specs.Answer.{Bytes}
+use Rattle.rules.specs.Script.{size}
 use Rattle.records.specs.Kinds as kinds
 use Rattle.records.specs.Numbers.{kind_number}
 use Rattle.records.specs.Operands.{first_operand}

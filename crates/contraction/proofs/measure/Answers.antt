@@ -1,5 +1,8 @@
 use Rattle.std.proofs.Common.{◌≡◌, sym, ◌∙◌, arith, ℕ, ◌+◌, ◌≤◌, subst as transport}
-use Rattle.rules.specs.Prelude.{Term, substitute, Bytes, script_limit, depth_limit, size, depth}
+use Rattle.calculus.specs.Terms.{Term, substitute}
+use Rattle.rules.specs.Answer.{Bytes}
+use Rattle.rules.specs.Limits.{script_limit, depth_limit}
+use Rattle.rules.specs.Script.{size, depth}
 use Rattle.records.specs.Place.{At}
 use Rattle.records.proofs.Stands.{there}
 use Rattle.records.proofs.Made.{influence_of}

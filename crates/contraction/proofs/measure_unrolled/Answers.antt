@@ -1,6 +1,10 @@
 use Rattle.std.proofs.Common.{arith, ℕ, ◌+◌, []}
-use Rattle.rules.specs.Prelude.{top, mu, unrolled_function, Bytes, properties_of}
-use Rattle.rules.proofs.Prelude.{public}
+use Rattle.calculus.specs.Types.{top}
+use Rattle.calculus.specs.Terms.{mu}
+use Rattle.calculus.specs.Reduction.{unrolled_function}
+use Rattle.calculus.proofs.Erased.{public}
+use Rattle.rules.specs.Answer.{Bytes}
+use Rattle.rules.specs.Groups.{properties_of}
 use Rattle.records.specs.Place.{At}
 use Rattle.records.proofs.Stands.{there, at_first}
 use Rattle.redex.specs.Fates.{contractum}

@@ -1,6 +1,7 @@
 -- A destructor's operand stands after it, and that operand's own after that.
 use Rattle.std.proofs.Common.{◌≡◌, sym, ap, ◌∙◌, ◌⊎◌, inl, inr, ℕ, arith, IsTrue}
-use Rattle.rules.specs.Prelude.{Bytes, kind}
+use Rattle.rules.specs.Answer.{Bytes}
+use Rattle.rules.specs.Script.{kind}
 use Rattle.records.specs.Numbers.{kind_number}
 use Rattle.records.specs.declared.Kind.{Kind}
 use Rattle.records.specs.declared.Kind.TheVariants.{Application, FirstProjection, SecondProjection, Protect, Recursion}
@@ -32,7 +33,8 @@ module _ {s : Bytes} {at : ℕ} {k : Kind} (q : Fires s at) (kind_is : kind_numb
   applied_taken h = taken q.stands q.left (rw (is_kind h) application_reads)
 
   reckoning_kind : (k ≡ Sum) ⊎ (k ≡ Less) → IsTrue (is_reckoning (kind_of q.tree))
-  reckoning_kind h = grind (arith, is_kind)
+  reckoning_kind (inl h) = rw (is_kind h)
+  reckoning_kind (inr h) = rw (is_kind h)
 
 -- what is left is a case
 abbrev case_left : (c : In_default) → Fires c.args.script.now c.args.at → CaseRedex c.args.script.now c.args.at

@@ -1,6 +1,6 @@
 -- The record that is made is the value's own, raised.
 use Rattle.std.proofs.Common.{ap₂, ◌∙◌, arith}
-use Rattle.rules.specs.Prelude.{properties_of}
+use Rattle.rules.specs.Groups.{properties_of}
 use Rattle.records.specs.Labels.{influence_at}
 use Rattle.records.proofs.Made.{number_at}
 use Rattle.records.proofs.Stands.{stands_kind, there}

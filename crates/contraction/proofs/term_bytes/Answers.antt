@@ -1,5 +1,6 @@
 use Rattle.std.proofs.Common.{◌*◌, ◌-◌, ap, ◌∙◌, arith, take, take_at}
-use Rattle.rules.specs.Prelude.{script_width, encode}
+use Rattle.rules.specs.Limits.{script_width}
+use Rattle.rules.specs.Script.{encode}
 use Rattle.records.proofs.Stands.{inside}
 use Rattle.substitution.proofs.Reading.{term_length}
 use Rattle.contraction.proofs.term_bytes.Goals as goal

@@ -1,5 +1,5 @@
 use Rattle.std.proofs.Common.{◌≡◌, ◌∙◌, [], ◌++◌, append-nil, arith}
-use Rattle.rules.specs.Prelude.{Bytes}
+use Rattle.rules.specs.Answer.{Bytes}
 use Rattle.records.proofs.Stands.{here}
 use Rattle.contraction.proofs.Plans.{protect_room, inner_room, protect_written}
 use Rattle.contraction.proofs.write_body.Goals as goal

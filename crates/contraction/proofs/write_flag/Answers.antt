@@ -1,6 +1,9 @@
 -- The two records are the injection's and its unit's.
 use Rattle.std.proofs.Common.{◌≡◌, refl, sym, ap, ◌∙◌, Bool, cond, ◌++◌, ℕ, ◌+◌, subst as transport}
-use Rattle.rules.specs.Prelude.{Property, Bytes, type_at, object_record, encode}
+use Rattle.calculus.specs.Security.{Property}
+use Rattle.rules.specs.Answer.{Bytes}
+use Rattle.rules.specs.Types.{type_at}
+use Rattle.rules.specs.Script.{object_record, encode}
 use Rattle.lattice.specs.Said.{said_property}
 use Rattle.records.specs.Kinds as kinds
 use Rattle.types.specs.Held.{type_property}

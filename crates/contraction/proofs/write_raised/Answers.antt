@@ -1,7 +1,11 @@
 -- The raised value's own record, and then the bytes of the value's operands.
 use Rattle.std.proofs.Common.{◌≡◌, sym, ap, ◌∙◌, ◌++◌, ◌-◌, arith, length, take, drop, length-drop, take_all}
 use Rattle.std.proofs.Common.{subst as transport}
-use Rattle.rules.specs.Prelude.{raise_value, Bytes, script_width, properties_of, encode}
+use Rattle.calculus.specs.Terms.{raise_value}
+use Rattle.rules.specs.Answer.{Bytes}
+use Rattle.rules.specs.Limits.{script_width}
+use Rattle.rules.specs.Groups.{properties_of}
+use Rattle.rules.specs.Script.{encode}
 use Rattle.records.specs.Labels.{influence_at}
 use Rattle.records.proofs.Stands.{there, here}
 use Rattle.memory.specs.Written.{Room, Written}

@@ -1,7 +1,12 @@
 -- The two literals stand after the node, and the result has its groups from theirs and the node's.
 use Rattle.std.proofs.Common.{◌≡◌, sym, ap, ap₂, ◌∙◌, ℕ, ◌+◌, ◌<◌, arith, min, nat_lt, subst as transport}
-use Rattle.rules.specs.Prelude.{Property, plus, less, of_both, number_limit, reckon_result, Bytes, properties_of}
-use Rattle.rules.specs.Prelude.{type_at, records, r, number, object_record, encode}
+use Rattle.calculus.specs.Security.{Property}
+use Rattle.calculus.specs.Terms.{plus, less}
+use Rattle.calculus.specs.Numbers.{of_both, number_limit, reckon_result}
+use Rattle.rules.specs.Answer.{Bytes}
+use Rattle.rules.specs.Groups.{properties_of}
+use Rattle.rules.specs.Types.{type_at}
+use Rattle.rules.specs.Script.{records, r, number, object_record, encode}
 use Rattle.records.specs.Kinds as kinds
 use Rattle.records.specs.Labels.{property_at}
 use Rattle.records.proofs.Stands.{there, here}

@@ -1,6 +1,12 @@
 use Rattle.std.proofs.Common.{◌≡◌, ◌∙◌, [], ◌++◌, ℕ, ◌+◌, ◌<◌, arith}
-use Rattle.rules.specs.Prelude.{Property, top, Term, mu, unrolled_function, Bytes, properties_of, type_count, type_at}
-use Rattle.rules.specs.Prelude.{r, number, object_record, encode}
+use Rattle.calculus.specs.Security.{Property}
+use Rattle.calculus.specs.Types.{top}
+use Rattle.calculus.specs.Terms.{Term, mu}
+use Rattle.calculus.specs.Reduction.{unrolled_function}
+use Rattle.rules.specs.Answer.{Bytes}
+use Rattle.rules.specs.Groups.{properties_of}
+use Rattle.rules.specs.Types.{type_count, type_at}
+use Rattle.rules.specs.Script.{r, number, object_record, encode}
 use Rattle.records.specs.Kinds as kinds
 use Rattle.records.specs.Place.{At}
 use Rattle.records.proofs.Stands.{there, here, at_first}

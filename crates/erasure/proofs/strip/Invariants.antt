@@ -1,6 +1,6 @@
 -- The bytes before i are stripped.
 use Rattle.std.proofs.Common.{◌≡◌}
-use Rattle.rules.specs.Prelude.{strip_from}
+use Rattle.rules.specs.Strip.{strip_from}
 use Rattle.erasure.proofs.Stripped.{stored}
 use Rattle.erasure.proofs.strip.Given as goal
 

@@ -1,6 +1,8 @@
 use Rattle.std.proofs.Common.{◌≡◌, sym, ap, ◌∙◌, [], ◌∷◌, ℕ, ◌≤◌, min, arith, length, subst as transport}
 use Rattle.std.proofs.lemmas.Result.{err_from_is_err_and}
-use Rattle.rules.specs.Prelude.{Bytes, Octets, accepted, term, script_check}
+use Rattle.rules.specs.Answer.{Bytes, Octets, accepted}
+use Rattle.rules.specs.Script.{term}
+use Rattle.rules.specs.Calls.{script_check}
 use Rattle.promises.proofs.Checked.{script_passed}
 use Rattle.reduction.specs.Steps.{Startable}
 use Rattle.evaluation.specs.Runs.{front_term, Loaded}

@@ -1,7 +1,9 @@
 use Rattle.std.proofs.Common.{◌≡◌, ap, ◌∙◌, ◌++◌, ◌*◌, ◌/◌, ◌≤◌, arith, length, take, drop, length-append, length-drop}
 use Rattle.std.proofs.Common.{length-take-le, subst as transport}
 use Rattle.std.proofs.Math.Seq.{take-append-le}
-use Rattle.rules.specs.Prelude.{script_width, Ran, zeros}
+use Rattle.rules.specs.Limits.{script_width}
+use Rattle.rules.specs.Run.{Ran}
+use Rattle.rules.specs.Calls.{zeros}
 use Rattle.evaluation.specs.Runs.{Halted}
 use Rattle.evaluation.proofs.Buffers.{cleared}
 use Rattle.evaluation.proofs.Rooms.{run_within}

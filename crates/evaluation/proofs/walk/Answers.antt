@@ -1,5 +1,5 @@
 use Rattle.std.proofs.Common.{◌≡◌, sym, ap, ◌∙◌, ◌*◌, ◌/◌, arith, length}
-use Rattle.rules.specs.Prelude.{script_width}
+use Rattle.rules.specs.Limits.{script_width}
 use Rattle.evaluation.proofs.Gathered.{begins_so, run_ends, gathers, gathered}
 use Rattle.evaluation.proofs.walk.Goals as goal
 

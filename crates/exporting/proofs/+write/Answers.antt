@@ -1,8 +1,10 @@
 -- The record is written, and the first j operands.
-use Rattle.std.proofs.Common.{◌≡◌, ◌+◌, ◌∙◌, arith, length, subst as transport}
-use Rattle.rules.specs.Prelude.{Bytes}
-use Rattle.rules.proofs.Prelude.{term_operands}
+use Rattle.std.proofs.Common.{◌≡◌, ℕ, ◌+◌, ◌∙◌, sym, arith, length, subst as transport}
+use Rattle.rules.specs.Answer.{Bytes}
+use Rattle.rules.specs.Limits.{office_width}
+use Rattle.rules.proofs.TermCode.{term_operands}
 use Rattle.memory.specs.Written.{Written}
+use Rattle.records.specs.Place.{At}
 use Rattle.records.proofs.Passing.{ahead, operand_here}
 use Rattle.records.proofs.Stands.{there}
 use Rattle.substitution.proofs.Reading.{count_is, level_is, size_from}

@@ -1,6 +1,6 @@
 -- The loop has written the first j operands. A call's record falls to the right in the script.
 use Rattle.std.proofs.Common.{◌-◌, length}
-use Rattle.rules.specs.Prelude.{Term}
+use Rattle.calculus.specs.Terms.{Term}
 use Rattle.records.specs.Place.{At}
 use Rattle.exporting.proofs.Writing.{Copied}
 use Rattle.exporting.proofs.+write.Given as goal

@@ -1,9 +1,14 @@
 -- A refusal is the answer; after a yes the term is written.
-use Rattle.std.proofs.Common.{rules, ◌≡◌, refl, ap, ◌∙◌, [], ◌*◌, ◌/◌, length, arith, nat_le}
-use Rattle.rules.specs.Prelude.{Octets, accepted, ◌>>◌, ask, office_width, office_limit, term, script_check, q27}
-use Rattle.rules.specs.Prelude.{fill_front, rewritten_records, rewritten_after, export_of, q28_of_export, export_call}
+use Rattle.std.proofs.Common.{rules, ◌≡◌, refl, sym, ap, ◌∙◌, [], ◌*◌, ◌/◌, length, arith, nat_le}
+use Rattle.rules.specs.Answer.{Bytes, Octets, Answer, accepted, ◌>>◌, ask}
+use Rattle.rules.specs.Limits.{office_width, office_limit}
+use Rattle.rules.specs.Script.{term, records}
+use Rattle.rules.specs.Calls.{script_check, q27, fill_front}
+use Rattle.rules.specs.Rewriting.{rewritten_records, rewritten_after}
+use Rattle.rules.specs.Office.{export_of, q28_of_export, export_call}
 use Rattle.answer.specs.Said.{answer_of}
 use Rattle.answer.proofs.Passed.{returned}
+use Rattle.memory.specs.Splice.{splice}
 use Rattle.memory.proofs.Laws.{splice_front}
 use Rattle.records.proofs.Stands.{at_start}
 use Rattle.rewriting.specs.Widened.{after_27}

@@ -1,5 +1,6 @@
 use Rattle.std.proofs.Common.{rules}
-use Rattle.rules.specs.Prelude.{first_from, ok6}
+use Rattle.rules.specs.Answer.{first_from}
+use Rattle.rules.specs.Groups.{ok6}
 use Rattle.groups_table.specs.Pairs.{pair6}
 use Rattle.groups_table.proofs.has_joins.Goals as goal
 

@@ -1,5 +1,7 @@
 use Rattle.std.proofs.Common.{ℕ, ap, ◌∙◌}
-use Rattle.rules.specs.Prelude.{first_from, first_below, group_limit, bit, holds_number, ok4}
+use Rattle.rules.specs.Answer.{first_from, first_below}
+use Rattle.rules.specs.Limits.{group_limit}
+use Rattle.rules.specs.Groups.{bit, holds_number, ok4}
 use Rattle.groups_table.proofs.Rows.{lowest_is}
 use Rattle.groups_table.proofs.lowest_is_own.Goals as goal
 

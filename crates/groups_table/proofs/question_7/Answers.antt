@@ -1,5 +1,6 @@
 use Rattle.std.proofs.Common.{rules, ap, ◌∙◌}
-use Rattle.rules.specs.Prelude.{ask, first_from, row, bit, ok7}
+use Rattle.rules.specs.Answer.{ask, first_from}
+use Rattle.rules.specs.Groups.{row, bit, ok7}
 use Rattle.groups_table.proofs.question_7.Goals as goal
 
 pub returns : goal.returns

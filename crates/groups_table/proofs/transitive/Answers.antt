@@ -1,5 +1,6 @@
 use Rattle.std.proofs.Common.{rules}
-use Rattle.rules.specs.Prelude.{first_from, ok5}
+use Rattle.rules.specs.Answer.{first_from}
+use Rattle.rules.specs.Groups.{ok5}
 use Rattle.groups_table.specs.Pairs.{pair5}
 use Rattle.groups_table.proofs.transitive.Goals as goal
 

@@ -1,5 +1,6 @@
 use Rattle.std.proofs.Common.{arith}
-use Rattle.rules.specs.Prelude.{first_from, rows, row, ok3}
+use Rattle.rules.specs.Answer.{first_from}
+use Rattle.rules.specs.Groups.{rows, row, ok3}
 use Rattle.groups_table.proofs.Rows.{bits_below}
 use Rattle.groups_table.proofs.within_table.Goals as goal
 

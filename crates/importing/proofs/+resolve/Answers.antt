@@ -1,14 +1,16 @@
 -- The loop has scanned and written the first j operands.
-use Rattle.std.proofs.Common.{◌≡◌, ap, ◌∙◌, ◌+◌, ◌-◌, length, arith, subst as transport}
-use Rattle.rules.specs.Prelude.{Bytes}
+use Rattle.std.proofs.Common.{◌≡◌, refl, sym, ap, ◌∙◌, ℕ, ◌+◌, ◌-◌, length, arith, subst as transport}
+use Rattle.rules.specs.Answer.{Bytes}
 use Rattle.answer.specs.Said.{answer_of}
 use Rattle.answer.proofs.Passed.{returned}
-use Rattle.rules.proofs.Prelude.{term_operands, term_head_length}
+use Rattle.rules.proofs.TermCode.{term_operands, term_head, term_head_length}
 use Rattle.memory.specs.Written.{Written}
+use Rattle.memory.specs.declared.Writer.{Writer}
 use Rattle.records.specs.Kinds as kinds
+use Rattle.records.specs.Place.{At}
 use Rattle.records.proofs.Made.{own_record}
 use Rattle.records.proofs.Passing.{ahead, operand_here}
-use Rattle.records.proofs.Stands.{stands_kind, there}
+use Rattle.records.proofs.Stands.{kind_of, stands_kind, there}
 use Rattle.substitution.proofs.Reading.{variable_kind, other_kind, count_is, size_from}
 use Rattle.importing.specs.Scope.{scope}
 use Rattle.importing.proofs.Walks.{reach, end, all_written}

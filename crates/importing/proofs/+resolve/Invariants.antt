@@ -1,7 +1,7 @@
 -- The loop has scanned and written the first j operands; the names over the record stay. A call's record falls to the
 -- right in the script.
-use Rattle.std.proofs.Common.{◌≡◌, ◌-◌, ◌≤◌, length}
-use Rattle.rules.specs.Prelude.{Term}
+use Rattle.std.proofs.Common.{◌≡◌, ℕ, ◌-◌, ◌≤◌, length}
+use Rattle.calculus.specs.Terms.{Term}
 use Rattle.records.specs.Place.{At}
 use Rattle.importing.specs.Scope.{scope}
 use Rattle.importing.proofs.Walks.{Reached}

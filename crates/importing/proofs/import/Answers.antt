@@ -1,6 +1,9 @@
 -- A refusal is the answer; after a yes to all but room, what was imported is handed over.
-use Rattle.std.proofs.Common.{◌≡◌, refl, sym, ap, ◌∙◌, ◌*◌, length, length-take-le, arith}
-use Rattle.rules.specs.Prelude.{Bytes, Octets, ◌>>◌, script_width, office_records, nameless, q30, import_of}
+use Rattle.std.proofs.Common.{◌≡◌, refl, sym, ap, ◌∙◌, ◌*◌, length, take, length-take-le, arith}
+use Rattle.rules.specs.Answer.{Bytes, Octets, ◌>>◌}
+use Rattle.rules.specs.Limits.{script_width}
+use Rattle.rules.specs.Script.{encode, term, depth}
+use Rattle.rules.specs.Office.{office_records, nameless, q30, import_of}
 use Rattle.answer.specs.Said.{answer_of}
 use Rattle.answer.proofs.Passed.{returned}
 use Rattle.rewriting.specs.Widened.{after_27}

@@ -1,5 +1,7 @@
 use Rattle.std.proofs.Common.{ap, ◌∙◌}
-use Rattle.rules.specs.Prelude.{◌>>◌, types_check, form_check, nameless, q28, q29}
+use Rattle.rules.specs.Answer.{◌>>◌}
+use Rattle.rules.specs.Calls.{types_check, form_check}
+use Rattle.rules.specs.Office.{nameless, q28, q29}
 use Rattle.answer.proofs.Passed.{then_asked, stopped}
 use Rattle.importing.specs.Check.{office_check}
 use Rattle.importing.proofs.Asked.{nameless_front}

@@ -1,6 +1,8 @@
-use Rattle.std.proofs.Common.{◌≡◌, refl, ap, ap₂, ◌∙◌, ℕ, rules}
+use Rattle.std.proofs.Common.{◌≡◌, refl, sym, ap, ap₂, ◌∙◌, ℕ, length, rules}
 use Rattle.std.specs.Borrow.{MutBor}
-use Rattle.rules.specs.Prelude.{Bytes, term, import_of}
+use Rattle.rules.specs.Answer.{Bytes}
+use Rattle.rules.specs.Script.{term}
+use Rattle.rules.specs.Office.{import_of}
 use Rattle.answer.specs.Said.{answer_of}
 use Rattle.answer.proofs.Passed.{returned}
 use Rattle.memory.specs.Splice.{splice}

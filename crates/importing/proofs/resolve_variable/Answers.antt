@@ -1,8 +1,8 @@
 use Rattle.std.proofs.Common.{◌≡◌, ap, ◌∙◌, sym, arith}
-use Rattle.rules.specs.Prelude.{nearest}
+use Rattle.rules.specs.Names.{nearest}
 use Rattle.answer.specs.Said.{answer_of}
 use Rattle.answer.proofs.Passed.{returned}
-use Rattle.records.proofs.Stands.{stands_kind, there}
+use Rattle.records.proofs.Stands.{stands_kind, there, inside}
 use Rattle.substitution.proofs.Reading.{size_from}
 use Rattle.importing.specs.Scope.{scope}
 use Rattle.importing.proofs.Walks.{variable_refused, variable_written}

@@ -1,6 +1,9 @@
 -- Both properties are read from the type.
 use Rattle.std.proofs.Common.{ap, ◌∙◌}
-use Rattle.rules.specs.Prelude.{Property, Security, top, properties_of, right}
+use Rattle.calculus.specs.Security.{Property, Security}
+use Rattle.calculus.specs.Types.{top}
+use Rattle.rules.specs.Groups.{properties_of}
+use Rattle.rules.specs.Typing.{right}
 use Rattle.lattice.specs.Said.{said_property}
 use Rattle.inference.proofs.absorbs.Goals as goal
 

@@ -1,6 +1,6 @@
 -- Where question 22 is answered yes, the type of t is copied to the front.
 use Rattle.std.proofs.Common.{refl, ap, ◌∙◌}
-use Rattle.rules.specs.Prelude.{ask, accepted}
+use Rattle.rules.specs.Answer.{ask, accepted}
 use Rattle.inference.proofs.Regions.{written}
 use Rattle.inference.proofs.Rules.{passed, stopped}
 use Rattle.inference.proofs.adopt.Goals as goal

@@ -1,6 +1,10 @@
 -- The slot's two sides stand one after the other, and the right one is moved to its start.
 use Rattle.std.proofs.Common.{◌≡◌, refl, sym, ap, ◌∙◌, subst, ℕ, ◌+◌, ◌-◌, ◌*◌, arith, length, take, drop, drop-drop}
-use Rattle.rules.specs.Prelude.{Ty, size_t, Bytes, type_width, answer_length, encode_type, left, right}
+use Rattle.calculus.specs.Types.{Ty, size_t}
+use Rattle.rules.specs.Answer.{Bytes}
+use Rattle.rules.specs.Limits.{type_width, answer_length}
+use Rattle.rules.specs.Types.{encode_type}
+use Rattle.rules.specs.Typing.{left, right}
 use Rattle.types.specs.Held.{Held}
 use Rattle.inference.specs.Memory.{high, Slot, Beside}
 use Rattle.types.proofs.Parts.{to_end}

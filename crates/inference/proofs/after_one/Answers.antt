@@ -1,6 +1,12 @@
 -- The node's shape from its fields, then the callee's answer for that shape.
 use Rattle.std.proofs.Common.{◌≡◌, ◌⊎◌, ℕ, ◌*◌, ◌<◌, drop, refl, sym, ap, ◌∙◌, subst}
-use Rattle.rules.specs.Prelude.{Property, Security, Side, Term, inj, Ty, Bytes, type_width, type_count, kind, number}
+use Rattle.calculus.specs.Security.{Property, Security}
+use Rattle.calculus.specs.Terms.{Side, Term, inj}
+use Rattle.calculus.specs.Types.{Ty}
+use Rattle.rules.specs.Answer.{Bytes}
+use Rattle.rules.specs.Limits.{type_width}
+use Rattle.rules.specs.Types.{type_count}
+use Rattle.rules.specs.Script.{kind, number}
 use Rattle.types.specs.Held.{Held, Starts}
 use Rattle.records.specs.Kinds as kinds
 use Rattle.records.specs.Numbers.{kind_number}
@@ -64,15 +70,21 @@ is_recursion c =
     let o = c.in_default in
     sym (recursion_left _ (arity_of v.tree v.is c.kind_of-kind.ensures ∙ v.one) o.not-Function o.not-FirstInjection o.not-SecondInjection o.not-FirstProjection o.not-SecondProjection o.not-Protect) ∙ c.kind_of-kind.ensures
 
-pub named-requires-clause-in_table : goal.named-requires-clause-in_table
-named-requires-clause-in_table c = within _ _ (function_named c.requires c.in-Function.ensures)
+pub named-requires : goal.named-requires
+named-requires c =
+    let v = c.requires in
+    record { node = long v.tree v.is; in_table = within _ _ (function_named v c.in-Function.ensures) }
 
-pub function-requires-clause-parameter : goal.function-requires-clause-parameter
-function-requires-clause-parameter c = named c.requires.table (function_named c.requires c.in-Function.ensures) c.named.ensures
-
-pub function-requires-clause-body : goal.function-requires-clause-body
+pub function-requires : goal.function-requires
 unfolding kept_front
-function-requires-clause-body c = record { type = c.requires.type; sized = in_front c.requires (shape c.requires c.in-Function.ensures refl) refl }
+function-requires c =
+    let v = c.requires in
+    let f = c.in-Function.ensures in
+    record {
+      parameter = named v.table (function_named v f) c.named.ensures;
+      body = record { type = v.type; sized = in_front v (shape v f refl) refl };
+      room = v.room;
+    }
 
 pub returns-in-Function : goal.returns-in-Function
 unfolding after_one kept_front
@@ -81,14 +93,21 @@ returns-in-Function c v =
     let e = shape v f c.property.ensures in
     gives_of (rule v _ _ _ e) (c.function.ensures _ v.type (named_slot v.table (function_named v f) c.named.ensures) (in_front v e refl))
 
-pub named-t-requires-clause-in_table : goal.named-t-requires-clause-in_table
-named-t-requires-clause-in_table c = within _ _ (injection_named c.requires c.kind_of-kind.ensures c.in-FirstInjection.is refl refl)
+pub named-t-requires : goal.named-t-requires
+named-t-requires c =
+    let v = c.requires in
+    record { node = long v.tree v.is; in_table = within _ _ (injection_named v c.kind_of-kind.ensures c.in-FirstInjection.is refl refl) }
 
-pub inject-requires-clause-sum : goal.inject-requires-clause-sum
-inject-requires-clause-sum c = sum_named c.requires c.kind_of-kind.ensures c.in-FirstInjection.is refl refl c.named-t.ensures
-
-pub inject-requires-clause-operand : goal.inject-requires-clause-operand
-inject-requires-clause-operand c = record { type = c.requires.type; held = behind c.requires c.kind_of-kind.ensures c.in-FirstInjection.is refl refl }
+pub inject-requires : goal.inject-requires
+inject-requires c =
+    let v = c.requires in
+    let f = c.kind_of-kind.ensures in
+    let z = c.in-FirstInjection.is in
+    record {
+      sum = sum_named v f z refl refl c.named-t.ensures;
+      operand = record { type = v.type; held = behind v f z refl refl };
+      room = v.room;
+    }
 
 pub returns-in-FirstInjection : goal.returns-in-FirstInjection
 unfolding after_one
@@ -99,9 +118,14 @@ returns-in-FirstInjection c v =
     let y = c.of.ensures in
     gives_of (rule v _ _ _ (injection v f z y e)) (c.inject.ensures _ v.type (named_slot v.table (injection_named v f z y e) c.named-t.ensures) (behind v f z y e))
 
-pub project-requires-clause-starts : goal.project-requires-clause-starts
+pub project-requires : goal.project-requires
 unfolding kept_front
-project-requires-clause-starts c = starts c.requires (shape c.requires c.kind_of-kind.ensures refl ∙ projected _ _ c.requires.tree c.in-FirstProjection.is refl) refl
+project-requires c =
+    let v = c.requires in
+    record {
+      starts = starts v (shape v c.kind_of-kind.ensures refl ∙ projected _ _ v.tree c.in-FirstProjection.is refl) refl;
+      room = v.room;
+    }
 
 pub returns-in-FirstProjection : goal.returns-in-FirstProjection
 unfolding after_one kept_front

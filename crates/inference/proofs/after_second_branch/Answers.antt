@@ -1,8 +1,11 @@
 -- The result type is raised in place.
 use Rattle.std.proofs.Common.{◌≡◌, ℕ, ap, ◌∙◌, arith}
-use Rattle.rules.specs.Prelude.{Indirect, Security, Ty, raise_t, Bytes, Answer, accepted, properties_of, type_at}
-use Rattle.rules.specs.Prelude.{number}
-use Rattle.rules.specs.Answer.{◌>>=◌ as bind}
+use Rattle.calculus.specs.Security.{Indirect, Security}
+use Rattle.calculus.specs.Types.{Ty, raise_t}
+use Rattle.rules.specs.Answer.{Bytes, Answer, accepted, ◌>>=◌ as bind}
+use Rattle.rules.specs.Groups.{properties_of}
+use Rattle.rules.specs.Types.{type_at}
+use Rattle.rules.specs.Script.{number}
 use Rattle.lattice.specs.Said.{said_influence}
 use Rattle.inference.specs.Memory.{meets_type}
 use Rattle.inference.specs.Stages.{result_type, case_type, BranchesTyped}

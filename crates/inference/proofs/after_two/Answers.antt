@@ -1,7 +1,12 @@
 -- The node's shape from its fields, then the callee's answer for that shape.
 use Rattle.std.proofs.Common.{◌≡◌, ℕ, ◌<◌, refl, sym, ap, ◌∙◌, arith}
-use Rattle.rules.specs.Prelude.{Property, sum, Term, Bytes, properties_of, former_kind, type_at, type_count, type_kind}
-use Rattle.rules.specs.Prelude.{sides, kind, r, number}
+use Rattle.calculus.specs.Security.{Property}
+use Rattle.calculus.specs.Types.{sum}
+use Rattle.calculus.specs.Terms.{Term}
+use Rattle.rules.specs.Answer.{Bytes}
+use Rattle.rules.specs.Groups.{properties_of}
+use Rattle.rules.specs.Types.{former_kind, type_at, type_count, type_kind, sides}
+use Rattle.rules.specs.Script.{kind, r, number}
 use Rattle.types.specs.Held.{kind_of_type}
 use Rattle.types.specs.declared.Kind.TheVariants.{Function}
 use Rattle.records.specs.Kinds as kinds
@@ -51,13 +56,24 @@ unfolding after_two
 returns-in-Pair c v =
     gives_of (rule v (shape v c.in-Pair.ensures c.property.ensures)) (c.pair.ensures v.first v.second v.sized v.other)
 
-pub apply-requires-clause-function : goal.apply-requires-clause-function
-apply-requires-clause-function c = record { type = c.requires.first; held = c.requires.sized.held; two = sided c.requires c.in-Application.ensures }
+pub apply-requires : goal.apply-requires
+apply-requires c =
+    let v = c.requires in
+    record {
+      function = record { type = v.first; held = v.sized.held; two = sided v c.in-Application.ensures };
+      argument = record { type = v.second; held = v.other.held };
+      room = v.room;
+    }
 
 pub returns-in-Application : goal.returns-in-Application
 unfolding after_two
 returns-in-Application c v =
     gives_of (rule v (read_shape v c.in-Application.ensures c.reader.ensures)) (c.apply.ensures v.first v.second (slot_of v.sized) v.other.held)
+
+pub total-requires : goal.total-requires
+total-requires c =
+    let v = c.requires in
+    record { left = starts_of v.sized.held; right = starts_of v.other.held; room = omega (arith, v.room) }
 
 pub returns-in-Sum : goal.returns-in-Sum
 unfolding after_two

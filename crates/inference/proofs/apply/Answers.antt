@@ -1,6 +1,8 @@
 -- The argument's type is held to the left side, and the right side is read.
 use Rattle.std.proofs.Common.{ap, ◌∙◌}
-use Rattle.rules.specs.Prelude.{ask, accepted, properties_of, right}
+use Rattle.rules.specs.Answer.{ask, accepted}
+use Rattle.rules.specs.Groups.{properties_of}
+use Rattle.rules.specs.Typing.{right}
 use Rattle.inference.specs.Stages.{reads}
 use Rattle.inference.proofs.Rules.{stopped}
 use Rattle.inference.proofs.apply.Goals as goal

@@ -1,4 +1,4 @@
-use Rattle.rules.specs.Prelude.{left}
+use Rattle.rules.specs.Typing.{left}
 use Rattle.types.proofs.Parts.{to_end}
 use Rattle.inference.proofs.argument_fits.Goals as goal
 

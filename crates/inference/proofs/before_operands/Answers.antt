@@ -1,13 +1,19 @@
 -- A function and a recursion bind the named type, and the questions are a recursion's.
 use Rattle.std.proofs.Common.{◌≡◌, ℕ, ◌+◌, ◌*◌, ◌≤◌, ◌<◌, length, refl, sym, ap, ◌∙◌, subst, arith}
-use Rattle.rules.specs.Prelude.{Security, Term, answer_length, Bytes, properties_of, kind, number, function}
-use Rattle.rules.specs.Prelude.{former_kind, type_at, type_count, type_kind}
+use Rattle.calculus.specs.Security.{Security}
+use Rattle.calculus.specs.Terms.{Term}
+use Rattle.rules.specs.Limits.{answer_length}
+use Rattle.rules.specs.Answer.{Bytes}
+use Rattle.rules.specs.Groups.{properties_of}
+use Rattle.rules.specs.Script.{kind, number}
+use Rattle.calculus.specs.Types.{function}
+use Rattle.rules.specs.Types.{former_kind, type_at, type_count, type_kind}
 use Rattle.records.specs.Kinds as kinds
 use Rattle.records.specs.Labels.{property_at}
 use Rattle.inference.specs.Memory.{CheckerInput}
 use Rattle.inference.specs.Stages.{may_recur, before_first, first_context}
 use Rattle.inference.proofs.Regions.{stayed}
-use Rattle.inference.proofs.Shapes.{Plain, plain, labelled, of_kind, depth_positive}
+use Rattle.inference.proofs.Shapes.{long, Plain, plain, labelled, of_kind, depth_positive}
 use Rattle.inference.proofs.Rules.{enters_as}
 use Rattle.inference.proofs.Names.{within, named_slot, named, named_sided, function_index, recursion_index}
 use Rattle.inference.proofs.before_operands.Goals as goal
@@ -36,8 +42,10 @@ module _ {types s : Bytes} {place b : ℕ} {w : Bytes} (v : CheckerInput types s
   recursion_named : kinds.recursion ≡ kind s 0 → (number s 0 < type_count types) × (type_kind types (number s 0) ≡ former_kind function)
   recursion_named = recursion_index types s b v.tree v.is v.formed
 
-pub named-requires-clause-in_table : goal.named-requires-clause-in_table
-named-requires-clause-in_table c = within _ _ (function_named c.requires c.in-Function.ensures)
+pub named-requires : goal.named-requires
+named-requires c =
+    let v = c.requires in
+    record { node = long v.tree v.is; in_table = within _ _ (function_named v c.in-Function.ensures) }
 
 pub bind-requires : goal.bind-requires
 bind-requires c =
@@ -51,8 +59,10 @@ returns-in-Function c v =
     enters_as (sym (asks v e (properties_of c.args.groups.now))) (context v e)
     (c.bind.ensures v.ctx _ (named_slot v.table (function_named v c.in-Function.ensures) c.named.ensures) v.binders v.holds)
 
-pub named-t-requires-clause-in_table : goal.named-t-requires-clause-in_table
-named-t-requires-clause-in_table c = within _ _ (recursion_named c.requires c.in-Recursion.ensures).0
+pub named-t-requires : goal.named-t-requires
+named-t-requires c =
+    let v = c.requires in
+    record { node = long v.tree v.is; in_table = within _ _ (recursion_named v c.in-Recursion.ensures).0 }
 
 pub may_recur-asked-requires : goal.may_recur-asked-requires
 may_recur-asked-requires c =

@@ -1,6 +1,11 @@
 -- The node's shape from its fields, then the callee's answer for that shape.
 use Rattle.std.proofs.Common.{◌≡◌, ℕ, refl, sym, ap, ◌∙◌, arith}
-use Rattle.rules.specs.Prelude.{Security, Ty, Term, Bytes, properties_of, kind, r, number}
+use Rattle.calculus.specs.Security.{Security}
+use Rattle.calculus.specs.Types.{Ty}
+use Rattle.calculus.specs.Terms.{Term}
+use Rattle.rules.specs.Answer.{Bytes}
+use Rattle.rules.specs.Groups.{properties_of}
+use Rattle.rules.specs.Script.{kind, r, number}
 use Rattle.inference.specs.Operands.{operand_count}
 use Rattle.inference.specs.Memory.{Sized, Beside}
 use Rattle.inference.specs.Stages.{between, second_context, AfterFirst, Aside}

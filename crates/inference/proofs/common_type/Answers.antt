@@ -1,7 +1,9 @@
 -- The walk writes the common type over the first, or the two are apart.
 use Rattle.std.proofs.Common.{ℕ, ◌≤◌, Option, length, ok_or, refl, ap, arith}
 use Rattle.std.proofs.Math.Option as math
-use Rattle.rules.specs.Prelude.{Ty, size_t, type_limit, Bytes, found_or}
+use Rattle.calculus.specs.Types.{Ty, size_t, type_limit}
+use Rattle.rules.specs.Answer.{Bytes}
+use Rattle.rules.specs.Typing.{found_or}
 use Rattle.answer.specs.declared.Question.TheVariants.{CommonType}
 use Rattle.common_types.specs.Walks.{TwoTypes, Walked}
 use Rattle.types.proofs.Parts.{type_length}

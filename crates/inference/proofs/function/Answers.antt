@@ -1,6 +1,7 @@
 -- The body's type is moved up, the parameter's copied before it, the record put in front.
 use Rattle.std.proofs.Common.{sym, ◌∙◌, arith}
-use Rattle.rules.specs.Prelude.{function, node, accepted}
+use Rattle.calculus.specs.Types.{function, node}
+use Rattle.rules.specs.Answer.{accepted}
 use Rattle.lattice.specs.Said.{said_property}
 use Rattle.inference.proofs.Front.{held_bytes, taken_length}
 use Rattle.inference.proofs.Rules.{passed, stopped, asks_24, in_limit, function_given}
@@ -17,6 +18,12 @@ pub slice_bounds-put-end : goal.slice_bounds-put-end
 slice_bounds-put-end c =
     let p = c.requires.parameter in
     sym (taken_length p.slot.held _ (c.type_records-m.ensures p.type p.slot.held))
+
+pub put-requires : goal.put-requires
+put-requires c =
+    let p = c.requires.parameter in
+    let e = c.type_records-m.ensures p.type p.slot.held in
+    omega (arith, taken_length p.slot.held _ e, c.shift.auto.buffer, in_limit 24 c.args.place c.in_ok-ask.ensures, c.requires.room)
 
 pub returns : goal.returns
 returns c s t p q =

@@ -1,13 +1,17 @@
 -- Where question 22 is answered yes, the type is that of t with the injection's property.
 use Rattle.std.proofs.Common.{ap, ◌∙◌}
-use Rattle.rules.specs.Prelude.{sum, node, ask, accepted, left, right}
+use Rattle.calculus.specs.Types.{sum, node}
+use Rattle.rules.specs.Answer.{ask, accepted}
+use Rattle.rules.specs.Typing.{left, right}
 use Rattle.lattice.specs.Said.{said_property}
 use Rattle.types.proofs.Parts.{to_end}
 use Rattle.inference.proofs.Rules.{passed, stopped}
 use Rattle.inference.proofs.inject.Goals as goal
 
-pub is_subtype-fits-requires-clause-second : goal.is_subtype-fits-requires-clause-second
-is_subtype-fits-requires-clause-second c = record { type = _; held = c.side_of.ensures c.requires.sum.type c.requires.sum.slot.held }
+pub is_subtype-fits-requires : goal.is_subtype-fits-requires
+is_subtype-fits-requires c =
+    let p = c.requires.sum in
+    record { first = rw to_end c.requires.operand; second = record { type = _; held = c.side_of.ensures p.type p.slot.held } }
 
 pub returns-in_err-ask : goal.returns-in_err-ask
 returns-in_err-ask c u t p h =

@@ -1,6 +1,9 @@
 -- The node's record tells whether it is an injection.
 use Rattle.std.proofs.Common.{◌≡◌, ℕ, ◌<◌, Bool, cond, sym, ap, ◌∙◌, arith}
-use Rattle.rules.specs.Prelude.{Term, Bytes, type_width, kind, encode}
+use Rattle.calculus.specs.Terms.{Term}
+use Rattle.rules.specs.Answer.{Bytes}
+use Rattle.rules.specs.Limits.{type_width}
+use Rattle.rules.specs.Script.{kind, encode}
 use Rattle.records.specs.Kinds.{is_injection}
 use Rattle.inference.specs.Stages.{kept_front}
 use Rattle.records.specs.Kinds as kinds

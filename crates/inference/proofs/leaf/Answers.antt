@@ -1,7 +1,9 @@
 -- A node without operands is a variable, a literal or a unit.
-use Rattle.std.proofs.Common.{◌≡◌, ℕ, ◌<◌, refl, sym, ap, ◌∙◌, subst}
-use Rattle.calculus.specs.Prelude.{number}
-use Rattle.rules.specs.Prelude.{one, leaf, Term, var, Bytes, encode_type}
+use Rattle.std.proofs.Common.{◌≡◌, ℕ, ◌<◌, refl, sym, ap, ◌∙◌, subst, arith}
+use Rattle.calculus.specs.Types.{one, number, leaf}
+use Rattle.calculus.specs.Terms.{Term, var}
+use Rattle.rules.specs.Answer.{Bytes}
+use Rattle.rules.specs.Types.{encode_type}
 use Rattle.lattice.specs.Said.{said_property}
 use Rattle.inference.specs.Operands.{WellFormed}
 use Rattle.inference.specs.Stages.{leaf_type}
@@ -31,11 +33,17 @@ returns-in-Variable c v =
     let e = of_fields c.args.part.now v.tree _ v.is c.in-Variable.ensures refl c.index.ensures in
     meets_of (ap (leaf_type v.ctx) e) (c.variable.ensures v.ctx v.binders v.holds)
 
+pub one_record-requires : goal.one_record-requires
+one_record-requires c = omega (arith, c.requires.room)
+
 pub returns-in-Literal : goal.returns-in-Literal
 unfolding leaf_type encode_type
 returns-in-Literal c v =
     let e = of_fields c.args.part.now v.tree _ v.is c.in-Literal.ensures c.property.ensures refl in
     meets_of (ap (leaf_type v.ctx) e) (c.one_record.ensures (leaf number (said_property c.property.result)) refl c.args.binders v.room)
+
+pub one_record-requires-in_default : goal.one_record-requires-in_default
+one_record-requires-in_default c = omega (arith, c.requires.room)
 
 pub returns-in_default : goal.returns-in_default
 unfolding leaf_type encode_type

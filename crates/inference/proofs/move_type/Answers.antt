@@ -1,6 +1,8 @@
 -- The type's records are counted, and moved.
 use Rattle.std.proofs.Common.{◌≡◌, ap, ◌∙◌, ℕ, ◌+◌, ◌*◌, ◌≤◌, arith, length, drop}
-use Rattle.rules.specs.Prelude.{size_t, Bytes, type_width}
+use Rattle.calculus.specs.Types.{size_t}
+use Rattle.rules.specs.Answer.{Bytes}
+use Rattle.rules.specs.Limits.{type_width}
 use Rattle.memory.specs.Splice.{splice}
 use Rattle.types.specs.Held.{Starts}
 use Rattle.inference.proofs.Front.{held_bytes, held_within}
@@ -31,6 +33,10 @@ shift-requires c =
     let q = fits c.args.from c.args.work.now p (c.type_records-n.ensures p.type (rw to_end p.held)) in
     record { source = q; target = omega (arith, q) }
 
-pub returns-clause-work : goal.returns-clause-work
-returns-clause-work c t h =
-    c.shift.ensures ∙ ap (λ y. splice c.args.to y c.args.work.now) (held_bytes h _ (c.type_records-n.ensures t (rw to_end h)))
+pub returns : goal.returns
+returns c =
+    record {
+      count = λ t h. c.type_records-n.ensures t (rw to_end h);
+      work = λ t h.
+          c.shift.ensures ∙ ap (λ y. splice c.args.to y c.args.work.now) (held_bytes h _ (c.type_records-n.ensures t (rw to_end h)));
+    }

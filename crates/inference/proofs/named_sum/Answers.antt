@@ -1,6 +1,7 @@
 -- The type of t is copied to the front, and its first record is written anew.
 use Rattle.std.proofs.Common.{refl, sym, ap, ◌∙◌, arith}
-use Rattle.rules.specs.Prelude.{sum, former_kind, type_record}
+use Rattle.calculus.specs.Types.{sum}
+use Rattle.rules.specs.Types.{former_kind, type_record}
 use Rattle.lattice.specs.Said.{said_property}
 use Rattle.memory.specs.Splice.{splice}
 use Rattle.types.proofs.Parts.{two_of}

@@ -1,6 +1,6 @@
 -- A type that is one record is that record.
 use Rattle.std.proofs.Common.{◌≡◌, ap, sym, arith, length}
-use Rattle.rules.specs.Prelude.{size_t}
+use Rattle.calculus.specs.Types.{size_t}
 use Rattle.types.proofs.Parts.{type_length}
 use Rattle.inference.proofs.Regions.{written}
 use Rattle.inference.proofs.one_record.Goals as goal

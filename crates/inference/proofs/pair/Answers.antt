@@ -1,6 +1,8 @@
 -- The first type is moved up by a record, the second down to it, the record put in front.
 use Rattle.std.proofs.Common.{◌≡◌, ◌+◌, ◌*◌, ◌<◌, take, drop, length-take, ap, ◌∙◌, arith}
-use Rattle.rules.specs.Prelude.{accepted, answer_length, type_width, product, node, size_t, type_limit}
+use Rattle.rules.specs.Answer.{accepted}
+use Rattle.rules.specs.Limits.{answer_length, type_width}
+use Rattle.calculus.specs.Types.{product, node, size_t, type_limit}
 use Rattle.lattice.specs.Said.{said_property}
 use Rattle.memory.proofs.Laws.{drop_past}
 use Rattle.inference.proofs.Front.{held_bytes}

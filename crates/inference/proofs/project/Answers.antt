@@ -1,6 +1,7 @@
 -- A type that passes question 20 has two sides, and the named one is read.
 use Rattle.std.proofs.Common.{refl, sym}
-use Rattle.rules.specs.Prelude.{accepted, properties_of}
+use Rattle.rules.specs.Answer.{accepted}
+use Rattle.rules.specs.Groups.{properties_of}
 use Rattle.types.specs.declared.Kind.TheVariants.{Pair}
 use Rattle.inference.specs.Sides.{said_side}
 use Rattle.inference.specs.Stages.{reads, type_side}

@@ -1,4 +1,4 @@
-use Rattle.rules.specs.Prelude.{properties_of}
+use Rattle.rules.specs.Groups.{properties_of}
 use Rattle.lattice.specs.Said.{said_influence}
 use Rattle.inference.specs.Memory.{meets_type}
 use Rattle.inference.proofs.Rules.{raise_wrote, unchanged}

@@ -1,6 +1,9 @@
 -- The side is moved to the front and raised there, by what was read before the move.
 use Rattle.std.proofs.Common.{◌≡◌, refl, ap, ◌∙◌, subst, arith, drop}
-use Rattle.rules.specs.Prelude.{Property, Ty, top, raise_t, Bytes, properties_of}
+use Rattle.calculus.specs.Security.{Property}
+use Rattle.calculus.specs.Types.{Ty, top, raise_t}
+use Rattle.rules.specs.Answer.{Bytes}
+use Rattle.rules.specs.Groups.{properties_of}
 use Rattle.lattice.specs.Said.{said_influence}
 use Rattle.inference.specs.Memory.{Slot, Wrote, meets_type}
 use Rattle.inference.specs.Sides.{said_side}
@@ -11,10 +14,11 @@ use Rattle.types.proofs.Parts.{two_of}
 use Rattle.inference.proofs.Rules.{raise_wrote}
 use Rattle.inference.proofs.read_side.Goals as goal
 
-pub move_type-n-requires-clause-starts : goal.move_type-n-requires-clause-starts
-move_type-n-requires-clause-starts c =
+pub move_type-n-requires : goal.move_type-n-requires
+move_type-n-requires c =
+    let side : Ty → Ty = λ t. type_side (said_side c.args.side) t in
     let p = c.requires.sided in
-    record { type = type_side (said_side c.args.side) p.type; held = c.side_at-from.ensures p.type p.held }
+    record { starts = record { type = side p.type; held = c.side_at-from.ensures p.type p.held }; down = omega arith }
 
 pub raise-requires : goal.raise-requires
 raise-requires c =

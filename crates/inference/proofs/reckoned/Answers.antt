@@ -1,7 +1,11 @@
 -- The questions are put to the right operand's type, and both properties are read.
 use Rattle.std.proofs.Common.{Result, sym, subst, ap, ap₂, ◌∙◌}
-use Rattle.rules.specs.Prelude.{Security, top, of_both, Answer, accepted, answer_length, properties_of}
-use Rattle.rules.specs.Answer.{◌>>=◌ as bind, ◌>>◌ as then}
+use Rattle.calculus.specs.Security.{Security}
+use Rattle.calculus.specs.Types.{top}
+use Rattle.calculus.specs.Numbers.{of_both}
+use Rattle.rules.specs.Answer.{Answer, accepted, ◌>>=◌ as bind, ◌>>◌ as then}
+use Rattle.rules.specs.Limits.{answer_length}
+use Rattle.rules.specs.Groups.{properties_of}
 use Rattle.lattice.specs.Said.{said_property}
 use Rattle.lattice.specs.declared.Property.{Property}
 use Rattle.answer.specs.Said.{answer_of}

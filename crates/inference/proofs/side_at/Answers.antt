@@ -1,6 +1,8 @@
 -- The first side is past the record, the second past the first.
 use Rattle.std.proofs.Common.{◌≡◌, ℕ, ◌+◌, ◌*◌, ◌≤◌, length, arith}
-use Rattle.rules.specs.Prelude.{size_t, Bytes, type_width}
+use Rattle.calculus.specs.Types.{size_t}
+use Rattle.rules.specs.Answer.{Bytes}
+use Rattle.rules.specs.Limits.{type_width}
 use Rattle.types.specs.Held.{TwoSided, left_of}
 use Rattle.inference.proofs.Front.{held_within, held_left, held_right}
 use Rattle.types.proofs.Parts.{two_of}

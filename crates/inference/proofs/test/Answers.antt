@@ -1,6 +1,10 @@
 -- A type that passes question 20 has two sides, and they are moved to the next slot.
 use Rattle.std.proofs.Common.{◌≡◌, refl, sym, ap, ◌∙◌, ◌+◌, ◌-◌, ◌*◌, ◌≤◌, arith, length, take, drop}
-use Rattle.rules.specs.Prelude.{Security, Ty, answer_length, type_width, Bytes, accepted, properties_of}
+use Rattle.calculus.specs.Security.{Security}
+use Rattle.calculus.specs.Types.{Ty}
+use Rattle.rules.specs.Limits.{answer_length, type_width}
+use Rattle.rules.specs.Answer.{Bytes, accepted}
+use Rattle.rules.specs.Groups.{properties_of}
 use Rattle.types.specs.Held.{Held}
 use Rattle.types.specs.declared.Kind.TheVariants.{Sum}
 use Rattle.inference.specs.Memory.{Sized}

@@ -1,7 +1,10 @@
 -- A number's type is one record, of the property that is found.
 use Rattle.std.proofs.Common.{refl}
-use Rattle.rules.specs.Prelude.{plus, leaf, accepted, encode_type, number_result}
-use Rattle.calculus.specs.Prelude.{number}
+use Rattle.calculus.specs.Terms.{plus}
+use Rattle.calculus.specs.Types.{number, leaf}
+use Rattle.rules.specs.Answer.{accepted}
+use Rattle.rules.specs.Types.{encode_type}
+use Rattle.rules.specs.Typing.{number_result}
 use Rattle.lattice.specs.Said.{said_property}
 use Rattle.inference.proofs.Rules.{found_first, refused_first}
 use Rattle.inference.proofs.total.Goals as goal

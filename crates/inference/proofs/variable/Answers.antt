@@ -1,13 +1,15 @@
 -- The type in the variable's slot is moved to the front.
 use Rattle.std.proofs.Common.{refl, arith, get_or}
-use Rattle.rules.specs.Prelude.{no_type}
+use Rattle.rules.specs.Types.{no_type}
 use Rattle.inference.proofs.Regions.{slot_at, written}
 use Rattle.inference.proofs.variable.Goals as goal
 
-pub move_type-requires-clause-starts : goal.move_type-requires-clause-starts
-move_type-requires-clause-starts c =
+pub move_type-requires : goal.move_type-requires
+move_type-requires c =
+    let a = c.args in
     let v = c.requires in
-    record { type = get_or v.ctx _ no_type; held = (slot_at _ _ c.args.work.now v.ctx v.binders v.holds v.below (omega (arith, v.room))).held }
+    let q = slot_at a.i a.binders a.work.now v.ctx v.binders v.holds v.below (omega (arith, v.room)) in
+    record { starts = record { type = get_or v.ctx a.i no_type; held = q.held }; down = omega arith }
 
 pub returns : goal.returns
 returns c Γ l h =

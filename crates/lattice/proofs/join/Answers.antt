@@ -1,6 +1,6 @@
 -- Trailing zeros of the common bits are the lowest of them.
 use Rattle.std.proofs.Common.{ap, ◌∙◌, arith}
-use Rattle.rules.specs.Prelude.{row}
+use Rattle.rules.specs.Groups.{row}
 use Rattle.lattice.proofs.Words.{join_none, join_some}
 use Rattle.lattice.proofs.join.Goals as goal
 

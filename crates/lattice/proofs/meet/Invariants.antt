@@ -1,6 +1,6 @@
 -- No row from k on is below both.
 use Rattle.std.proofs.Common.{◌≤◌}
-use Rattle.rules.specs.Prelude.{group_limit}
+use Rattle.rules.specs.Limits.{group_limit}
 use Rattle.lattice.proofs.Meets.{Searched}
 use Rattle.lattice.proofs.meet.Given as goal
 

@@ -1,4 +1,4 @@
-use Rattle.rules.specs.Prelude.{text, accepted_line}
+use Rattle.rules.specs.Report.{text, accepted_line}
 use Rattle.memory.proofs.Placed.{then}
 use Rattle.lines.proofs.accepted_line.Goals as goal
 

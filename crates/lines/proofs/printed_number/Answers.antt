@@ -1,5 +1,5 @@
 use Rattle.std.proofs.Common.{◌≡◌, true, eq-eqb, nat_eq, ◌∙◌}
-use Rattle.rules.specs.Prelude.{text}
+use Rattle.rules.specs.Report.{text}
 use Rattle.lines.proofs.printed_number.Goals as goal
 
 pub named-requires : goal.named-requires

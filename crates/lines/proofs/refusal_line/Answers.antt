@@ -1,5 +1,5 @@
 use Rattle.std.proofs.Common.{subst, ◌∙◌}
-use Rattle.rules.specs.Prelude.{text, refusal_line}
+use Rattle.rules.specs.Report.{text, refusal_line}
 use Rattle.memory.specs.Written.{Written}
 use Rattle.memory.proofs.Placed.{then}
 use Rattle.lines.proofs.refusal_line.Goals as goal

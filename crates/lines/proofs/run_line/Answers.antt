@@ -1,4 +1,4 @@
-use Rattle.rules.specs.Prelude.{text, run_line}
+use Rattle.rules.specs.Report.{text, run_line}
 use Rattle.memory.proofs.Placed.{then}
 use Rattle.lines.proofs.run_line.Goals as goal
 

@@ -1,4 +1,4 @@
-use Rattle.rules.specs.Prelude.{text, sheet_line}
+use Rattle.rules.specs.Report.{text, sheet_line}
 use Rattle.memory.proofs.Placed.{then, room_first, room_next}
 use Rattle.lines.proofs.sheet_line.Goals as goal
 

@@ -1,5 +1,6 @@
 use Rattle.std.proofs.Common.{◌≡◌, ℕ, ◌+◌, ◌*◌, ap, ◌∙◌, arith, get_or}
-use Rattle.rules.specs.Prelude.{Bytes, sheet_line}
+use Rattle.rules.specs.Answer.{Bytes}
+use Rattle.rules.specs.Report.{sheet_line}
 use Rattle.lines.proofs.Lines.{line}
 use Rattle.lines.proofs.SoFar.{begins, room, goes_on, all}
 use Rattle.lines.proofs.sheet_lines.Goals as goal

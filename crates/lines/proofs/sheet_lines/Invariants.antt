@@ -1,5 +1,5 @@
 use Rattle.std.proofs.Common.{◌≡◌}
-use Rattle.rules.specs.Prelude.{sheet_width}
+use Rattle.rules.specs.Limits.{sheet_width}
 use Rattle.lines.proofs.SoFar.{SoFar}
 use Rattle.lines.proofs.sheet_lines.Given as goal
 

@@ -1,6 +1,6 @@
 -- A function is told by the kind of its first record.
 use Rattle.std.proofs.Common.{sym, ap, ◌∙◌, nat_eq}
-use Rattle.rules.specs.Prelude.{ask}
+use Rattle.rules.specs.Answer.{ask}
 use Rattle.types.specs.Kinds.{type_kind_number}
 use Rattle.types.specs.declared.Kind.TheVariants.{Function}
 use Rattle.types.proofs.Numbered.{tests_numbers, eqb_comm}

@@ -1,8 +1,9 @@
 -- What the search finds of a value.
 use Rattle.std.proofs.Common.{ap, ◌∙◌, [], arith}
-use Rattle.rules.specs.Prelude.{ask, term}
+use Rattle.rules.specs.Answer.{ask}
 use Rattle.promises.proofs.Checked.{script_passed}
 use Rattle.records.proofs.Stands.{at_start}
+use Rattle.rules.specs.Script.{term}
 use Rattle.packet.proofs.Values.{tells_value}
 use Rattle.packet.proofs.ask_value.Goals as goal
 

@@ -1,6 +1,7 @@
 -- Three pieces, one after the other.
 use Rattle.std.proofs.Common.{rules, ◌≡◌, ap₂, ◌∙◌, ◌++◌, ℕ, subst as transport}
-use Rattle.rules.specs.Prelude.{Bytes, application}
+use Rattle.rules.specs.Answer.{Bytes}
+use Rattle.rules.specs.Packet.{application}
 use Rattle.memory.specs.Splice.{splice}
 use Rattle.memory.specs.Written.{Written}
 use Rattle.memory.proofs.Placed.{then}

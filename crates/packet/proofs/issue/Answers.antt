@@ -1,6 +1,7 @@
 -- Refused before typing, or from it on with the work buffer cleared, or run.
 use Rattle.std.proofs.Common.{ap, ◌∙◌, arith}
-use Rattle.rules.specs.Prelude.{Octets, zeros}
+use Rattle.rules.specs.Answer.{Octets}
+use Rattle.rules.specs.Calls.{zeros}
 use Rattle.answer.proofs.Passed.{returned}
 use Rattle.packet.proofs.Issued.{refused_early, refused_later, begun_well, narrow, runnable, ended, says}
 use Rattle.packet.proofs.issue.Goals as goal

@@ -1,6 +1,9 @@
 -- A value's sheet, or none.
 use Rattle.std.proofs.Common.{◌≡◌, refl, sym, ap, ◌∙◌, true, ℕ, ◌*◌, take, nat_eq, eqb-true, length}
-use Rattle.rules.specs.Prelude.{Bytes, ◌>>◌, accepted, script_width, sheet, q27, sheet_call}
+use Rattle.rules.specs.Answer.{Bytes, ◌>>◌, accepted}
+use Rattle.rules.specs.Limits.{script_width}
+use Rattle.rules.specs.Sheet.{sheet}
+use Rattle.rules.specs.Calls.{q27, sheet_call}
 use Rattle.answer.proofs.Passed.{returned}
 use Rattle.packet.specs.Reports.{said_packet}
 use Rattle.packet.specs.Runs.{LeftByRun}

@@ -1,6 +1,7 @@
 -- It starts where the application was built.
 use Rattle.std.proofs.Common.{min, arith, length}
-use Rattle.rules.specs.Prelude.{term, application}
+use Rattle.rules.specs.Script.{term}
+use Rattle.rules.specs.Packet.{application}
 use Rattle.evaluation.specs.Runs.{front_term}
 use Rattle.packet.proofs.Started.{run_loaded, run_front, same_ends}
 use Rattle.packet.proofs.run.Goals as goal

@@ -1,5 +1,5 @@
 use Rattle.std.proofs.Common.{ap, ◌∙◌, arith}
-use Rattle.rules.specs.Prelude.{arity, kind}
+use Rattle.rules.specs.Script.{arity, kind}
 use Rattle.records.proofs.Table.{arity_small}
 use Rattle.records.proofs.arity_at.Goals as goal
 

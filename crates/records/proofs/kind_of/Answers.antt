@@ -1,6 +1,6 @@
 -- A term's record is there, and has a kind.
 use Rattle.std.proofs.Common.{◌≤◌, ℕ, Option, Some, None, IsSome, refl, subst, arith}
-use Rattle.rules.specs.Prelude.{kind}
+use Rattle.rules.specs.Script.{kind}
 use Rattle.records.specs.Kinds as kinds
 use Rattle.records.specs.Numbers.{KindIs}
 use Rattle.records.specs.declared.Kind.{Kind}

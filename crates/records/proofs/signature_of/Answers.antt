@@ -1,6 +1,6 @@
 -- Past the table nothing is named.
 use Rattle.std.proofs.Common.{sym, ◌∙◌, arith}
-use Rattle.rules.specs.Prelude.{signatures}
+use Rattle.rules.specs.Script.{signatures}
 use Rattle.records.proofs.Table.{past_table}
 use Rattle.records.proofs.signature_of.Goals as goal
 

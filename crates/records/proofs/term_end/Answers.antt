@@ -1,7 +1,6 @@
 use Rattle.std.proofs.Common.{refl, sym, ◌∙◌, arith}
-use Rattle.rules.specs.Prelude.{term_end}
-use Rattle.rules.proofs.Prelude.{runs_out, comes_to_end}
-use Rattle.rules.proofs.PrefixLaws.{next_record}
+use Rattle.rules.specs.Script.{term_end}
+use Rattle.rules.proofs.PrefixLaws.{next_record, runs_out, comes_to_end}
 use Rattle.records.proofs.term_end.Goals as goal
 
 pub loop-i-init : goal.loop-i-init

@@ -1,6 +1,7 @@
 -- The pending count goes on at i as it began at `start`, and has grown by at most 2 a record.
 use Rattle.std.proofs.Common.{◌≡◌, ◌≤◌, ◌<◌, ◌+◌, ◌-◌, ◌*◌}
-use Rattle.rules.specs.Prelude.{end_after, kind, records, arity, term_end}
+use Rattle.rules.specs.Types.{end_after}
+use Rattle.rules.specs.Script.{kind, records, arity, term_end}
 use Rattle.records.proofs.term_end.Given as goal
 
 abbrev pub invariant-loop-i : goal.invariant-loop-i

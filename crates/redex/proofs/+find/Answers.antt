@@ -1,6 +1,9 @@
 -- An operand's place, depth and answer come from its position in the term.
 use Rattle.std.proofs.Common.{◌≡◌, ℕ, ◌+◌, refl, arith, IsTrue}
-use Rattle.rules.specs.Prelude.{Term, is_value, properties_of, type_at, size}
+use Rattle.calculus.specs.Terms.{Term, is_value}
+use Rattle.rules.specs.Groups.{properties_of}
+use Rattle.rules.specs.Types.{type_at}
+use Rattle.rules.specs.Script.{size}
 use Rattle.records.specs.Place.{At}
 use Rattle.records.specs.Operands.{first_operand, second_operand}
 use Rattle.records.proofs.Weights.{weights, stands_weight}

@@ -1,6 +1,10 @@
 -- The kind of the node tells which operands are read.
-use Rattle.std.proofs.Common.{◌≡◌, ◌∙◌, ℕ, ◌+◌, ◌⊎◌, inl, inr, arith, IsTrue}
-use Rattle.rules.specs.Prelude.{Term, Bytes, properties_of, type_at, kind, size}
+use Rattle.std.proofs.Common.{◌≡◌, sym, ap, ◌∙◌, ℕ, ◌+◌, ◌⊎◌, inl, inr, arith, IsTrue}
+use Rattle.calculus.specs.Terms.{Term}
+use Rattle.rules.specs.Answer.{Bytes}
+use Rattle.rules.specs.Groups.{properties_of}
+use Rattle.rules.specs.Types.{type_at}
+use Rattle.rules.specs.Script.{kind, size}
 use Rattle.records.specs.Numbers.{kind_number}
 use Rattle.records.specs.Operands.{first_operand}
 use Rattle.records.specs.Place.{At}
@@ -37,7 +41,10 @@ abbrev Destructor : Kind → Type 0
 Destructor k = (k ≡ Application) ⊎ ((k ≡ FirstProjection) ⊎ ((k ≡ SecondProjection) ⊎ (k ≡ Case)))
 
 destructs : (n : ℕ) (k : Kind) → kind_number k ≡ n → Destructor k → IsTrue (is_destructor n)
-destructs n k is h = grind (arith, application_reads, one_reads)
+destructs n k is (inl h) = rw (sym is ∙ ap kind_number h) application_reads
+destructs n k is (inr (inl h)) = one_reads _ (inl (sym is ∙ ap kind_number h))
+destructs n k is (inr (inr (inl h))) = one_reads _ (inr (inl (sym is ∙ ap kind_number h)))
+destructs n k is (inr (inr (inr h))) = one_reads _ (inr (inr (sym is ∙ ap kind_number h)))
 
 pub unrolling-requires : goal.unrolling-requires
 unrolling-requires c = there _ _ _ c.requires.stands

@@ -1,5 +1,12 @@
 use Rattle.std.proofs.Common.{◌≡◌, refl, sym, ap, ◌∙◌, false, ℕ, ◌+◌, ◌-◌, ◌≤◌, arith}
-use Rattle.rules.specs.Prelude.{Term, plug, Bytes, script_limit, properties_of, type_at, records, term, size, exceeds}
+use Rattle.calculus.specs.Terms.{Term}
+use Rattle.calculus.specs.Reduction.{plug}
+use Rattle.rules.specs.Answer.{Bytes}
+use Rattle.rules.specs.Limits.{script_limit}
+use Rattle.rules.specs.Groups.{properties_of}
+use Rattle.rules.specs.Types.{type_at}
+use Rattle.rules.specs.Script.{records, term, size}
+use Rattle.rules.specs.Step.{exceeds}
 use Rattle.records.proofs.Stands.{here, start_records}
 use Rattle.promises.proofs.Steps.{within_limits}
 use Rattle.redex.specs.Fates.{contractum}

@@ -1,6 +1,9 @@
 use Rattle.std.proofs.Common.{ℕ, ◌≡◌, ap, arith, subst as transport}
-use Rattle.rules.specs.Prelude.{term, Security, Ty, Term}
+use Rattle.rules.specs.Script.{term}
 use Rattle.records.proofs.Stands.{at_start}
+use Rattle.calculus.specs.Security.{Security}
+use Rattle.calculus.specs.Types.{Ty}
+use Rattle.calculus.specs.Terms.{Term}
 use Rattle.redex.specs.Found.{Finds}
 use Rattle.redex.specs.declared.Found.{Found}
 use Rattle.reduction.specs.Steps.{step_records, foresees_stop}

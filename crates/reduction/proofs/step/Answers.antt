@@ -1,6 +1,8 @@
 use Rattle.std.proofs.Common.{sym, ap, ◌∙◌, [], arith, length}
 use Rattle.std.proofs.lemmas.Result.{err_from_is_err_and}
-use Rattle.rules.specs.Prelude.{Answer, End, written_after}
+use Rattle.rules.specs.Answer.{Answer}
+use Rattle.rules.specs.Step.{End}
+use Rattle.rules.specs.Calls.{written_after}
 use Rattle.reduction.proofs.Starts.{startable}
 use Rattle.reduction.proofs.Ends.{made_report, refused_keeps, passed_step}
 use Rattle.reduction.proofs.step.Goals as goal

@@ -1,7 +1,12 @@
-use Rattle.std.proofs.Common.{◌≡◌, sym, ap, ◌∙◌, ℕ, Result, Ok, length, subst as transport}
-use Rattle.rules.specs.Prelude.{Bytes, encode, End, front_after}
+use Rattle.std.proofs.Common.{◌≡◌, sym, ap, ◌∙◌, ℕ, Result, Ok, Err, length, subst as transport}
+use Rattle.rules.specs.Answer.{Bytes}
+use Rattle.rules.specs.Groups.{properties_of}
+use Rattle.rules.specs.Types.{type_at}
+use Rattle.rules.specs.Script.{encode, term}
+use Rattle.rules.specs.Step.{End, step_in}
+use Rattle.rules.specs.Calls.{front_after}
 use Rattle.memory.proofs.Laws.{splice_front}
-use Rattle.reduction.specs.Steps.{Foresees, foresees_step, Placing}
+use Rattle.reduction.specs.Steps.{Foresees, foresees_step, foresees_stop, Placing}
 use Rattle.reduction.specs.declared.NextStep.{NextStep}
 use Rattle.reduction.specs.declared.Stop.{Stop}
 use Rattle.reduction.proofs.take_step.Goals as goal

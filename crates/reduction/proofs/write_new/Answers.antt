@@ -1,6 +1,11 @@
 use Rattle.std.proofs.Common.{rules, ◌≡◌, refl, ap, ap₂, ◌∙◌, ◌++◌, ℕ, ◌*◌, ◌-◌, ◌≤◌, arith, length, take, drop}
 use Rattle.std.proofs.Common.{length-take-le, subst as transport}
-use Rattle.rules.specs.Prelude.{Term, Bytes, script_width, properties_of, type_at, encode}
+use Rattle.calculus.specs.Terms.{Term}
+use Rattle.rules.specs.Answer.{Bytes}
+use Rattle.rules.specs.Limits.{script_width}
+use Rattle.rules.specs.Groups.{properties_of}
+use Rattle.rules.specs.Types.{type_at}
+use Rattle.rules.specs.Script.{encode}
 use Rattle.redex.specs.Contexts.{before, after}
 use Rattle.redex.specs.Fates.{contractum}
 use Rattle.redex.proofs.Plugs.{plug_bytes}
@@ -29,7 +34,7 @@ module _ {g t s : Bytes} {room : ℕ} {n : NextStep} (q : Placing g t s room n) 
 
   -- the new term's bytes: before the redex, the contractum, after it
   whole_bytes : encode q.whole ≡ before q.site.context ++ (encode new ++ after q.site.context)
-  whole_bytes = grind (arith, plug_bytes)
+  whole_bytes = ap encode q.whole_is ∙ plug_bytes q.site.context new
 
   begun_room : (out : Writer) {lent : MutBor Bytes} → (out.end ≡ 0) × (out.out ≡ lent) → length lent.now ≡ room
       → Room (before q.site.context ++ (encode new ++ after q.site.context)) out

@@ -1,8 +1,13 @@
 -- A term is passed operand by operand, each settled in its own context, and settled turn by turn of the loop.
 use Rattle.std.proofs.Common.{inl, inr, ◌≡◌, refl, sym, ap, ◌∙◌, [], ℕ, ◌-◌, ◌≤◌, arith, length}
 use Rattle.std.proofs.lemmas.Result.{err_from_is_err_and}
-use Rattle.rules.specs.Prelude.{Term, Context, properties_of, type_at, encode, size}
-use Rattle.rules.proofs.Prelude.{size_positive, term_code}
+use Rattle.calculus.specs.Terms.{Term}
+use Rattle.calculus.specs.Reduction.{Context}
+use Rattle.rules.specs.Groups.{properties_of}
+use Rattle.rules.specs.Types.{type_at}
+use Rattle.rules.specs.Script.{encode, size}
+use Rattle.rules.proofs.PrefixLaws.{size_positive}
+use Rattle.rules.proofs.TermCode.{term_code}
 use Rattle.records.specs.Operands.{second_operand}
 use Rattle.records.proofs.Stands.{there}
 use Rattle.records.proofs.Numbered.{same_kind}

@@ -1,6 +1,9 @@
 -- The measure of the two is the depth that is left, and that of the loop what is left to do.
 use Rattle.std.proofs.Common.{◌≡◌, [], ◌+◌, ◌-◌, ◌*◌, length}
-use Rattle.rules.specs.Prelude.{Term, Context, depth_limit, encode}
+use Rattle.calculus.specs.Terms.{Term}
+use Rattle.calculus.specs.Reduction.{Context}
+use Rattle.rules.specs.Limits.{depth_limit}
+use Rattle.rules.specs.Script.{encode}
 use Rattle.redex.specs.Contexts.{level}
 use Rattle.refocusing.specs.Focus.{Stands, left_to_do}
 use Rattle.refocusing.specs.declared.Focus.TheVariants.{Ahead}

@@ -1,7 +1,13 @@
 -- The search tells whether the node contracts, and its plan whether in place or ahead.
 use Rattle.std.proofs.Common.{◌≡◌, refl, sym, ap, ◌∙◌, append-nil, ℕ, ◌+◌, ◌<◌, arith, length, Option, Some, None, true}
 use Rattle.std.proofs.Common.{subst as transport, IsTrue}
-use Rattle.rules.specs.Prelude.{Term, Context, hole, plug, Bytes, properties_of, type_at, encode, exceeds}
+use Rattle.calculus.specs.Terms.{Term}
+use Rattle.calculus.specs.Reduction.{Context, hole, plug}
+use Rattle.rules.specs.Answer.{Bytes}
+use Rattle.rules.specs.Groups.{properties_of}
+use Rattle.rules.specs.Types.{type_at}
+use Rattle.rules.specs.Script.{encode}
+use Rattle.rules.specs.Step.{exceeds}
 use Rattle.reduction.specs.declared.Stop.TheVariants.{TooBig}
 use Rattle.records.specs.Place.{At}
 use Rattle.redex.specs.Fates.{reduces, is_potential_redex, fate}
@@ -10,7 +16,7 @@ use Rattle.contraction.proofs.Rooms.{planned_as}
 use Rattle.reduction.proofs.Starts.{started}
 use Rattle.refocusing.specs.declared.Point.{Point}
 use Rattle.refocusing.specs.Focus.{still_running, has_ended}
-use Rattle.refocusing.specs.Contracted.{why_not, ContractumAhead}
+use Rattle.refocusing.specs.Contracted.{why_not, ContractumAhead, comes_next, exceeds_room}
 use Rattle.refocusing.proofs.Runs.{run_stopped, run_at_budget, no_value, turn_told, turn_goes, turn_too_big, ended}
 use Rattle.refocusing.proofs.Redexes.{lies_left}
 use Rattle.refocusing.proofs.Contractions.{fires, foremost, lift, ends_at_gap, value_raised, part_projected}
@@ -30,10 +36,10 @@ outcome : {at : ℕ} {p : Point} {E : Context} {n : Term} {b b' : Bytes} {x y : 
 outcome {at} {p} {E} {n} {b} {b'} h w = transport (λ (x : Option Point). ContractumAhead at p E n b x b') h w
 
 one_step : {at : ℕ} {p p' : Point} {E : Context} {n : Term} {b b' : Bytes} → ContractumAhead at p E n b (Some p') b' → p'.steps ≡ p.steps + 1
-one_step w = grind arith
+one_step (comes_next s left right step w) = step
 
 not_written : {at : ℕ} {p : Point} {E : Context} {n : Term} {b b' : Bytes} → ContractumAhead at p E n b None b' → (exceeds (length b) (plug E n) ≡ true) × (b' ≡ b)
-not_written w = grind arith
+not_written (exceeds_room s w) = (s, w)
 
 pub returns-then-point-budget : goal.returns-then-point-budget
 returns-then-point-budget c whole E e r q at_is around_is =

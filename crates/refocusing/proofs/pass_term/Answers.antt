@@ -1,5 +1,6 @@
 use Rattle.std.proofs.Common.{◌≡◌, ap, ◌∙◌, ℕ, ◌+◌, ◌-◌, ◌*◌, arith, take, drop}
-use Rattle.rules.specs.Prelude.{Bytes, script_width}
+use Rattle.rules.specs.Answer.{Bytes}
+use Rattle.rules.specs.Limits.{script_width}
 use Rattle.records.proofs.Stands.{room}
 use Rattle.memory.specs.Splice.{splice}
 use Rattle.refocusing.proofs.Shifts.{term_taken}

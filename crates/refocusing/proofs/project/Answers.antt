@@ -1,6 +1,8 @@
 -- The component's records move, and the protect's record goes in front of them.
 use Rattle.std.proofs.Common.{◌≡◌, refl, ap, ◌∙◌, ◌++◌, ◌-◌, ◌*◌, arith}
-use Rattle.rules.specs.Prelude.{Bytes, script_width, encode, size}
+use Rattle.rules.specs.Answer.{Bytes}
+use Rattle.rules.specs.Limits.{script_width}
+use Rattle.rules.specs.Script.{encode, size}
 use Rattle.records.proofs.Stands.{room}
 use Rattle.memory.specs.Splice.{splice}
 use Rattle.substitution.proofs.Reading.{size_from}

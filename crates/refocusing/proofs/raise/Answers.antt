@@ -1,6 +1,8 @@
 -- The value's records move up by one, and the raised record goes over its own.
 use Rattle.std.proofs.Common.{◌≡◌, refl, sym, ap, ◌∙◌, ◌+◌, ◌-◌, ◌*◌, arith}
-use Rattle.rules.specs.Prelude.{Bytes, script_width, size}
+use Rattle.rules.specs.Answer.{Bytes}
+use Rattle.rules.specs.Limits.{script_width}
+use Rattle.rules.specs.Script.{size}
 use Rattle.records.proofs.Stands.{room}
 use Rattle.memory.specs.Splice.{splice}
 use Rattle.substitution.proofs.Reading.{size_from}

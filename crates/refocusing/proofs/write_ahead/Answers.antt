@@ -1,6 +1,10 @@
-use Rattle.std.proofs.Common.{◌≡◌, refl, sym, ◌∙◌, ◌++◌, ℕ, ◌+◌, ◌-◌, ◌*◌, ◌≤◌, arith, length, take, drop}
+use Rattle.std.proofs.Common.{◌≡◌, refl, sym, ap, ◌∙◌, ◌++◌, ℕ, ◌+◌, ◌-◌, ◌*◌, ◌≤◌, arith, length, take, drop}
 use Rattle.std.proofs.Common.{length-drop, length-take-le, drop-drop}
-use Rattle.rules.specs.Prelude.{Bytes, script_width, properties_of, type_at, encode}
+use Rattle.rules.specs.Answer.{Bytes}
+use Rattle.rules.specs.Limits.{script_width}
+use Rattle.rules.specs.Groups.{properties_of}
+use Rattle.rules.specs.Types.{type_at}
+use Rattle.rules.specs.Script.{encode}
 use Rattle.memory.specs.Splice.{splice}
 use Rattle.substitution.proofs.Nodes.{depth_size}
 use Rattle.substitution.proofs.Reading.{term_length}
@@ -13,7 +17,10 @@ part_length : (from to : ℕ) (w : Bytes) → from ≤ to → to ≤ length w �
 part_length from to w l f = length-take-le (to - from) (drop from w) (omega (arith, length-drop from w))
 
 part_put : (from to : ℕ) (w z x : Bytes) → z ≡ x → to ≡ from + length x → take from w ++ (z ++ drop (to - from) (drop from w)) ≡ splice from x w
-part_put from to w z x h l = grind (arith, drop-drop)
+part_put from to w z x h l =
+    let n : from + (to - from) ≡ from + length x = omega (arith, l) in
+    ap (λ (z : Bytes). take from w ++ (z ++ drop (to - from) (drop from w))) h
+    ∙ ap (λ (z : Bytes). take from w ++ (x ++ z)) (drop-drop (to - from) from w ∙ ap (λ (n : ℕ). drop n w) n)
 
 pub measure-size-requires : goal.measure-size-requires
 measure-size-requires c = ready c.requires.foremost.2.contracts

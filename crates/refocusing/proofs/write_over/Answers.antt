@@ -1,7 +1,9 @@
-use Rattle.std.proofs.lemmas.Grind.{common_steps}
-use Rattle.std.proofs.Common.{rules, ◌≡◌, ap, ◌∙◌, ◌++◌, ◌+◌, arith, length}
+use Rattle.std.proofs.Common.{rules, ◌≡◌, ap, ◌∙◌, ◌++◌, append-nil, ℕ, ◌+◌, arith, length}
+use Rattle.std.proofs.lemmas.List.{drop_all}
 use Rattle.std.specs.Borrow.{MutBor}
-use Rattle.rules.specs.Prelude.{Bytes, encode}
+use Rattle.rules.specs.Answer.{Bytes}
+use Rattle.rules.specs.Script.{encode}
+use Rattle.memory.specs.Splice.{splice}
 use Rattle.memory.specs.Written.{Room, Written}
 use Rattle.memory.specs.declared.Writer.{Writer}
 use Rattle.substitution.proofs.Reading.{term_length}
@@ -10,7 +12,9 @@ use Rattle.refocusing.proofs.write_over.Goals as goal
 
 -- a buffer that is written from its front to its end
 filled : {x : Bytes} {out out' : Writer} {lent : MutBor Bytes} → (out.end ≡ 0) × (out.out ≡ lent) → length lent.now ≡ length x → Written x out out' → out'.out.now ≡ x
-filled e l w = grind (arith, common_steps, w.holds)
+filled {x} {out} e l w =
+    let k : length out.out.now ≡ length x = ap (λ (o : MutBor Bytes). length o.now) e.1 ∙ l in
+    w.holds ∙ ap (λ (n : ℕ). splice n x out.out.now) e.0 ∙ ap (λ (z : Bytes). x ++ z) (drop_all (0 + length x) out.out.now (omega (arith, k))) ∙ append-nil x
 
 room_for : (x : Bytes) (out : Writer) {lent : MutBor Bytes} → (out.end ≡ 0) × (out.out ≡ lent) → length lent.now ≡ length x → Room x out
 room_for x out e l =

@@ -1,7 +1,10 @@
 use Rattle.std.proofs.Common.{◌≡◌, ℕ, ◌*◌, ◌≤◌, take, sym, ◌∙◌, arith}
 use Rattle.std.proofs.lemmas.List.{length-take-le}
-use Rattle.rules.specs.Prelude.{Bytes, Octets, Answer, accepted, script_width, script_limit, report_budget}
-use Rattle.rules.specs.Prelude.{report_buffer, Ran, encode, run_call, run_report, first_after}
+use Rattle.rules.specs.Answer.{Bytes, Octets, Answer, accepted}
+use Rattle.rules.specs.Limits.{script_width, script_limit, report_budget, report_buffer}
+use Rattle.rules.specs.Run.{Ran}
+use Rattle.rules.specs.Script.{encode}
+use Rattle.rules.specs.Calls.{run_call, run_report, first_after}
 use Rattle.memory.proofs.Placed.{then}
 use Rattle.report.specs.Room.{value_room}
 use Rattle.report.proofs.Texts.{Ended, ended, last_in_front, few_records, run_accepted, run_refused, refusal_fits}

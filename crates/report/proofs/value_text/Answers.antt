@@ -1,13 +1,15 @@
-use Rattle.std.proofs.Common.{Option, Some, not, true, false, true≢false, refl, ◌≡◌, ℕ, ◌*◌, ◌≤◌, length, take}
+use Rattle.std.proofs.Common.{Option, None, Some, not, true, false, true≢false, refl, ◌≡◌, ℕ, ◌*◌, ◌≤◌, length, take}
 use Rattle.std.proofs.Common.{sym, ap, arith}
 use Rattle.std.proofs.lemmas.List.{length-take-le}
-use Rattle.rules.specs.Prelude.{Bytes, Octets, Answer, accepted, sheet_width, report_sheet, sheet_call, sheet_records}
-use Rattle.rules.specs.Prelude.{sheet_after, sheet_lines, sheet_text}
+use Rattle.rules.specs.Answer.{Bytes, Octets, Answer, accepted}
+use Rattle.rules.specs.Limits.{sheet_width, report_sheet}
+use Rattle.rules.specs.Calls.{sheet_call, sheet_records, sheet_after}
+use Rattle.rules.specs.Report.{sheet_lines, sheet_text}
 use Rattle.memory.proofs.Placed.{nothing}
 use Rattle.std.specs.Option.{option_eq}
 use Rattle.reduction.specs.contracts.StopPartialEq.TheImpl.{eq-value}
 use Rattle.reduction.specs.declared.Stop.{Stop}
-use Rattle.reduction.specs.declared.Stop.TheVariants.{Value}
+use Rattle.reduction.specs.declared.Stop.TheVariants.{Value, MayNot, WrongKind, TooBig}
 use Rattle.reduction.specs.Steps.{reported_end}
 use Rattle.report.specs.Room.{value_room}
 use Rattle.report.proofs.SheetBytes.{value_octets}

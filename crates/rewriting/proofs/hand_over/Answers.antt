@@ -1,5 +1,6 @@
 use Rattle.std.proofs.Common.{ap, refl, ◌∙◌}
-use Rattle.rules.specs.Prelude.{accepted, rewritten_records}
+use Rattle.rules.specs.Answer.{accepted}
+use Rattle.rules.specs.Rewriting.{rewritten_records}
 use Rattle.answer.specs.Said.{answer_of}
 use Rattle.answer.proofs.Passed.{returned}
 use Rattle.memory.proofs.Laws.{splice_front}

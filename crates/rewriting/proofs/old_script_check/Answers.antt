@@ -1,7 +1,10 @@
 use Rattle.std.proofs.Common.{[], refl, ◌∙◌}
 use Rattle.std.proofs.Math.Path.{ap₂}
-use Rattle.rules.specs.Prelude.{◌>>◌, old_script_width, q13_of, script_check, widen_types, widen_script}
-use Rattle.rules.specs.Prelude.{old_types_check, old_script_check}
+use Rattle.rules.specs.Answer.{◌>>◌}
+use Rattle.rules.specs.Limits.{old_script_width}
+use Rattle.rules.specs.Script.{q13_of}
+use Rattle.rules.specs.Calls.{script_check}
+use Rattle.rules.specs.Rewriting.{widen_types, widen_script, old_types_check, old_script_check}
 use Rattle.answer.proofs.Passed.{then_asked}
 use Rattle.rewriting.proofs.Widened.{script_written}
 use Rattle.rewriting.proofs.Asked.{types_front, script_front}

@@ -1,5 +1,9 @@
 use Rattle.std.proofs.Common.{ap, ◌∙◌}
-use Rattle.rules.specs.Prelude.{◌>>◌, old_type_width, q8_of, groups_check, types_check, widen_types, old_types_check}
+use Rattle.rules.specs.Answer.{◌>>◌}
+use Rattle.rules.specs.Limits.{old_type_width}
+use Rattle.rules.specs.Types.{q8_of}
+use Rattle.rules.specs.Calls.{groups_check, types_check}
+use Rattle.rules.specs.Rewriting.{widen_types, old_types_check}
 use Rattle.answer.proofs.Passed.{then_asked}
 use Rattle.rewriting.proofs.Widened.{types_written}
 use Rattle.rewriting.proofs.Asked.{types_front}

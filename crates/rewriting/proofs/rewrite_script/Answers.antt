@@ -1,6 +1,8 @@
 -- A refusal is the answer; after a yes the records are handed over.
 use Rattle.std.proofs.Common.{length, length-take-le, refl, sym, ap, arith}
-use Rattle.rules.specs.Prelude.{Bytes, script_width, widen_script, old_script_check}
+use Rattle.rules.specs.Answer.{Bytes}
+use Rattle.rules.specs.Limits.{script_width}
+use Rattle.rules.specs.Rewriting.{widen_script, old_script_check}
 use Rattle.answer.specs.Said.{answer_of}
 use Rattle.answer.proofs.Passed.{returned}
 use Rattle.rewriting.specs.Widened.{after_27}

@@ -1,6 +1,8 @@
 -- A refusal is the answer; after a yes the records are handed over.
 use Rattle.std.proofs.Common.{length, length-take-le, refl, sym, ap, arith}
-use Rattle.rules.specs.Prelude.{Bytes, type_width, widen_types, old_types_check}
+use Rattle.rules.specs.Answer.{Bytes}
+use Rattle.rules.specs.Limits.{type_width}
+use Rattle.rules.specs.Rewriting.{widen_types, old_types_check}
 use Rattle.answer.specs.Said.{answer_of}
 use Rattle.answer.proofs.Passed.{returned}
 use Rattle.rewriting.specs.Widened.{after_27}

@@ -1,5 +1,5 @@
 use Rattle.std.proofs.Common.{sym, ap, ◌∙◌, ◌*◌, ◌+◌, arith}
-use Rattle.rules.specs.Prelude.{byte}
+use Rattle.rules.specs.Answer.{byte}
 use Rattle.rewriting.proofs.Callers.{there, names_type, tested, left_as_is, set_in}
 use Rattle.rewriting.proofs.write_caller.Goals as goal
 

@@ -1,5 +1,5 @@
 use Rattle.std.proofs.Common.{refl, ◌∙◌, arith}
-use Rattle.rewriting.proofs.Callers.{none_passed, one_more, all_passed, at_most_one}
+use Rattle.rewriting.proofs.Callers.{there, none_passed, one_more, all_passed, at_most_one}
 use Rattle.rewriting.proofs.write_callers_of.Goals as goal
 
 pub loop-i-init : goal.loop-i-init

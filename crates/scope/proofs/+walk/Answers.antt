@@ -1,5 +1,7 @@
 use Rattle.std.proofs.Common.{◌≡◌, ℕ, Bool, ◌+◌, ◌<◌, sym, ap, ap₂, ◌∙◌, arith}
-use Rattle.rules.specs.Prelude.{Term, Bytes, Answer, ask, arity, kind}
+use Rattle.calculus.specs.Terms.{Term}
+use Rattle.rules.specs.Answer.{Bytes, Answer, ask}
+use Rattle.rules.specs.Script.{arity, kind}
 use Rattle.records.specs.Place.{At}
 use Rattle.records.specs.Weight.{weight_at}
 use Rattle.records.proofs.Weights.{stands_weight}

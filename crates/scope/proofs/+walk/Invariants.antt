@@ -1,6 +1,6 @@
 -- The loop has scanned the first j operands. The measure is what is left of the script.
 use Rattle.std.proofs.Common.{◌-◌, length}
-use Rattle.rules.specs.Prelude.{Term}
+use Rattle.calculus.specs.Terms.{Term}
 use Rattle.records.specs.Place.{At}
 use Rattle.scope.proofs.Walks.{Reached}
 use Rattle.scope.proofs.+walk.Given as goal

@@ -1,5 +1,6 @@
 use Rattle.std.proofs.Common.{ap, ◌∙◌, arith}
-use Rattle.rules.specs.Prelude.{accepted, term}
+use Rattle.rules.specs.Answer.{accepted}
+use Rattle.rules.specs.Script.{term}
 use Rattle.answer.specs.Said.{answer_of}
 use Rattle.answer.proofs.Passed.{returned}
 use Rattle.records.proofs.Stands.{here, at_start}

@@ -1,26 +1,29 @@
 -- What is found at a node follows from what is found at the operands.
 use Rattle.std.proofs.Common.{◌≡◌, ℕ, ◌+◌, ◌≤◌, ◌<◌, Bool, ◌&&◌, cond, sym, ap, ◌∙◌, arith}
-use Rattle.rules.specs.Prelude.{Term, Bytes, leq, kind, r, is_object}
+use Rattle.calculus.specs.Terms.{Term}
+use Rattle.rules.specs.Answer.{Bytes}
+use Rattle.rules.specs.Groups.{leq}
+use Rattle.rules.specs.Script.{kind, r, is_object}
 use Rattle.records.specs.Kinds as kinds
 use Rattle.records.specs.Place.{At}
 use Rattle.records.specs.Operands.{first_operand, second_operand}
 use Rattle.records.proofs.Stands.{here, there, at_first, at_second}
 use Rattle.sheet.specs.Value.{value_found}
 use Rattle.sheet.specs.declared.Reached.{Reached}
-use Rattle.sheet.proofs.Values.{kind_is, own, own_at, ValueLines, found, lost, looked_no, looked_yes}
+use Rattle.sheet.proofs.Values.{kind_is, view, own, own_at, at_most_one, ValueLines, found, lost, looked_no, looked_yes}
 use Rattle.sheet.proofs.Values.{no_object, no_parts, first_part, injects, pairs, look_injection, look_pair, lines_size}
 use Rattle.sheet.proofs.Values.{plain, of_injection, no_object_kind}
 use Rattle.sheet.proofs.+look.Goals as goal
 
 own_most : (shown : Bool) (n : ℕ) {own_line : ℕ} → own_line ≡ n + cond shown 1 0 → own_line ≤ n + 1
-own_most shown n e = grind arith
+own_most shown n e = omega (arith, at_most_one shown)
 
 -- the node has parts
 module _ {s : Bytes} {i k : ℕ} (kind_read : k ≡ kind s i) (from_pair : kinds.function < k) (to_injections : k ≤ kinds.second_injection) where
   first_at : (u : Term) → At s i u → At s (i + 1) (first_operand u)
   first_at u w =
       let e = kind_is u kind_read w in
-      at_first s i u w (first_part u (omega (arith, e)) (omega (arith, e))).0
+      at_first s i u w (first_part (view u) (omega (arith, e)) (omega (arith, e))).0
 
 module _ (g : Bytes) (group : ℕ) (shown : Bool) (n : ℕ) {is_open : Bool} {s : Bytes} {i k own_line : ℕ} (kind_read : k ≡ kind s i) (counts : own_line ≡ n + cond shown 1 0)
     (opens : is_open ≡ leq g (r s i) group) where
@@ -32,16 +35,16 @@ module _ (g : Bytes) (group : ℕ) (shown : Bool) (n : ℕ) {is_open : Bool} {s 
       → value_found g group (shown && is_open) (first_operand u) (i + 1) own_line ≡ value_found g group shown u i n
   injected l m h u w =
       let e = kind_is u kind_read w in
-      look_injection g group shown (shown && is_open) u i n own_line counts (inside_is u w) (injects u (omega (arith, e)) (omega (arith, e)) (λ x. h (e ∙ x)))
+      look_injection g group shown (shown && is_open) u i n own_line counts (inside_is u w) (injects (view u) (omega (arith, e)) (omega (arith, e)) (λ x. h (e ∙ x)))
 
   -- the first part of a pair is a value
   module _ {x : Reached} (is_pair : k ≡ kinds.pair) (u : Term) (w : At s i u) (first_found : ValueLines g group (shown && is_open) (first_operand u) (i + 1) own_line x) where
     second_at : At s x.next (second_operand u)
-    second_at = at_second s i u w x.next (pairs u (sym (kind_is u kind_read w) ∙ is_pair)).two first_found.end
+    second_at = at_second s i u w x.next (pairs (view u) (sym (kind_is u kind_read w) ∙ is_pair)).two first_found.end
 
     second_looked : value_found g group (shown && is_open) (second_operand u) x.next x.line ≡ value_found g group shown u i n
     second_looked =
-        look_pair g group shown (shown && is_open) u i n own_line counts (inside_is u w) x (pairs u (sym (kind_is u kind_read w) ∙ is_pair)) first_found
+        look_pair g group shown (shown && is_open) u i n own_line counts (inside_is u w) x (pairs (view u) (sym (kind_is u kind_read w) ∙ is_pair)) first_found
 
 pub counted-own-requires : goal.counted-own-requires
 counted-own-requires t c = omega (arith, there _ _ _ c.requires.here.at, c.requires.before)
@@ -64,7 +67,7 @@ pub returns-in_err-first-in-Pair : goal.returns-in_err-first-in-Pair
 returns-in_err-first-in-Pair t c u w =
     let e = kind_is u c.in-Pair.ensures w in
     let p = first_at c.in-Pair.ensures (omega arith) (omega arith) u w in
-    let f = first_part u (omega (arith, e)) (omega (arith, e)) in
+    let f = first_part (view u) (omega (arith, e)) (omega (arith, e)) in
     c.from_residual.ensures
     ∙ looked_no _ _ _ u _ _ (f.1 (lost _ _ _ (first_operand u) _ _ (c.in_err-first-in-Pair.ensures (first_operand u) p)))
 
@@ -85,7 +88,7 @@ pub returns-in-Unit : goal.returns-in-Unit
 returns-in-Unit t c u w =
     let e = kind_is u c.kind_of.ensures w in
     let n = plain c.in-Unit.is in
-    let p = no_parts c.args.groups.now c.args.group.0 c.args.shown u (ap is_object (sym e) ∙ n.0) (λ l. omega (arith, e, n.1 (omega (arith, e)))) in
+    let p = no_parts c.args.groups.now c.args.group.0 c.args.shown (view u) (ap is_object (sym e) ∙ n.0) (λ l. omega (arith, e, n.1 (omega (arith, e)))) in
     looked_yes _ _ _ u _ _ _ p.0 (c.end_of.ensures u w) (omega (arith, p.1, c.counted-own.ensures))
 
 pub returns-in-FirstInjection : goal.returns-in-FirstInjection
@@ -110,4 +113,4 @@ returns-in_default t c u w =
     let e = kind_is u c.kind_of.ensures w in
     let d = c.in_default in
     looked_no _ _ _ u _ _
-    (no_object u (ap is_object (sym e) ∙ no_object_kind _ d.not-Unit d.not-Function d.not-Literal d.not-Pair d.not-FirstInjection d.not-SecondInjection))
+    (no_object (view u) (ap is_object (sym e) ∙ no_object_kind _ d.not-Unit d.not-Function d.not-Literal d.not-Pair d.not-FirstInjection d.not-SecondInjection))

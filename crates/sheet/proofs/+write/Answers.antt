@@ -1,6 +1,9 @@
 -- What is written at a node is its own line, and where it is open the sheets of its parts.
 use Rattle.std.proofs.Common.{◌≡◌, ℕ, ◌≤◌, ◌<◌, Bool, sym, ap, subst, ◌∙◌, arith}
-use Rattle.rules.specs.Prelude.{Term, Bytes, leq, kind, r}
+use Rattle.calculus.specs.Terms.{Term}
+use Rattle.rules.specs.Answer.{Bytes}
+use Rattle.rules.specs.Groups.{leq}
+use Rattle.rules.specs.Script.{kind, r}
 use Rattle.records.specs.Kinds as kinds
 use Rattle.records.specs.Place.{At}
 use Rattle.records.specs.Operands.{first_operand, second_operand}
@@ -8,7 +11,7 @@ use Rattle.records.proofs.Stands.{kind_of, here, at_second}
 use Rattle.memory.specs.Written.{Written}
 use Rattle.memory.specs.declared.Writer.{Writer}
 use Rattle.sheet.specs.Shown.{shown_line}
-use Rattle.sheet.proofs.Values.{kind_is, own, own_at, injects, pairs, of_injection, no_parts_kind}
+use Rattle.sheet.proofs.Values.{kind_is, view, own, own_at, injects, pairs, of_injection, no_parts_kind}
 use Rattle.sheet.proofs.Sheets.{shown, without, closed, first_value, second_value, part_at, wrote_alone}
 use Rattle.sheet.proofs.Sheets.{wrote_injection, wrote_pair, value_there, line_fits, injection_room, first_room}
 use Rattle.sheet.proofs.Sheets.{second_room}
@@ -42,7 +45,7 @@ pub returns-then-not-open : goal.returns-then-not-open
 returns-then-not-open t c u w v = record {
   next_is = c.end_of.ensures u w;
   wrote = wrote_alone _ _ u w v (line_is _ _ _ _ c.is_open-open.ensures c.put.ensures c.line_of.ensures)
-      (closed _ _ u v (told_is _ _ _ _ c.is_open-open.ensures u w ∙ c.if-not-open.true));
+      (closed _ _ (view u) v (told_is _ _ _ _ c.is_open-open.ensures u w ∙ c.if-not-open.true));
 }
 
 pub write-requires : goal.write-requires
@@ -69,7 +72,7 @@ write-requires-in-Pair t c =
     let group = c.args.group.0 in
     let q = c.requires in
     let l = parts q.tree c.in-Pair.ensures (omega arith) (omega arith) q.at in
-    let x = c.write-second.ensures (first_operand q.tree) (part_at g group q.tree q.at q.value l.0 l.1) (first_value q.tree q.value l.0 l.1) in
+    let x = c.write-second.ensures (first_operand q.tree) (part_at g group q.tree q.at q.value l.0 l.1) (first_value (view q.tree) q.value l.0 l.1) in
     let z = second_room q (told_is g c.args.value.now group c.args.i c.is_open-open.ensures q.tree q.at ∙ c.if-not-open.false)
     (line_is _ _ _ _ c.is_open-open.ensures c.put.ensures c.line_of.ensures) (sym (kind_is q.tree c.in-Pair.ensures q.at)) x.next_is x.wrote in
     (omega (arith, c.decreases, value_there q, x.next_is, value_there z), z)
@@ -81,9 +84,9 @@ returns-in-FirstInjection t c u w v =
     let n = of_injection c.in-FirstInjection.is in
     let l = parts u c.kind_of.ensures n.0 n.1 w in
     let h : kind_of u ≡ kinds.pair → ⊥ = λ h. n.2 (kind_is u c.kind_of.ensures w ∙ h) in
-    let x = c.write.ensures (first_operand u) (part_at g group u w v l.0 l.1) (first_value u v l.0 l.1) in
+    let x = c.write.ensures (first_operand u) (part_at g group u w v l.0 l.1) (first_value (view u) v l.0 l.1) in
     record {
-      next_is = omega (arith, x.next_is, (injects u l.0 l.1 h).sized);
+      next_is = omega (arith, x.next_is, (injects (view u) l.0 l.1 h).sized);
       wrote = wrote_injection _ _ u w v (line_is _ _ _ _ c.is_open-open.ensures c.put.ensures c.line_of.ensures)
           (told_is _ _ _ _ c.is_open-open.ensures u w ∙ c.if-not-open.false) x.wrote l.0 l.1 h;
     }
@@ -92,8 +95,8 @@ pub returns-in-Pair : goal.returns-in-Pair
 returns-in-Pair t c u w v =
     let h = sym (kind_is u c.in-Pair.ensures w) in
     let l = parts u c.in-Pair.ensures (omega arith) (omega arith) w in
-    let p = pairs u h in
-    let x = c.write-second.ensures (first_operand u) (part_at c.args.groups.now c.args.group.0 u w v l.0 l.1) (first_value u v l.0 l.1) in
+    let p = pairs (view u) h in
+    let x = c.write-second.ensures (first_operand u) (part_at c.args.groups.now c.args.group.0 u w v l.0 l.1) (first_value (view u) v l.0 l.1) in
     let y = c.write-in-Pair.ensures (second_operand u) (at_second _ _ u w c.write-second.result p.two x.next_is) (second_value v p) in
     record {
       next_is = omega (arith, x.next_is, y.next_is, p.sized);
@@ -112,5 +115,5 @@ returns-in_default t c u w v =
     record {
       next_is = c.end_of-in_default.ensures u w;
       wrote = wrote_alone _ _ u w v (line_is _ _ _ _ c.is_open-open.ensures c.put.ensures c.line_of.ensures)
-          (without _ _ u v (λ m. omega (arith, e, l (omega (arith, e)))));
+          (without _ _ (view u) v (λ m. omega (arith, e, l (omega (arith, e)))));
     }

@@ -1,5 +1,6 @@
 use Rattle.std.proofs.Common.{[]}
-use Rattle.rules.specs.Prelude.{rows, script_check, q25}
+use Rattle.rules.specs.Groups.{rows}
+use Rattle.rules.specs.Calls.{script_check, q25}
 use Rattle.answer.proofs.Passed.{then_asked, stopped}
 use Rattle.sheet.specs.Before.{before_26}
 use Rattle.sheet.proofs.asked.Goals as goal

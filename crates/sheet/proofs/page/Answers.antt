@@ -1,10 +1,13 @@
 -- The questions in order; the value stands at the script's start.
 use Rattle.std.proofs.Common.{◌≡◌, ℕ, ◌*◌, ◌≤◌, true, length, sym, ap, ◌∙◌, arith, rules, leb-true, Option, Some, None}
 use Rattle.std.proofs.Common.{Err, ok_or}
-use Rattle.rules.specs.Prelude.{Term, is_value, Bytes, Octets, accepted, script_width, term}
+use Rattle.calculus.specs.Terms.{Term, is_value}
+use Rattle.rules.specs.Answer.{Bytes, Octets, accepted}
+use Rattle.rules.specs.Limits.{script_width}
+use Rattle.rules.specs.Script.{term}
 use Rattle.records.specs.Place.{At}
 use Rattle.records.proofs.Stands.{here, at_start, room}
-use Rattle.rules.proofs.Prelude.{ask_true}
+use Rattle.rules.proofs.Asked.{ask_true}
 use Rattle.answer.specs.declared.Refusal.{Refusal}
 use Rattle.answer.proofs.Passed.{returned}
 use Rattle.sheet.specs.Before.{before_26}

@@ -1,6 +1,7 @@
 -- The loop has counted the first j operands.
 use Rattle.std.proofs.Common.{ℕ, ◌+◌, ◌≤◌, ◌∙◌, arith}
-use Rattle.rules.specs.Prelude.{size, Bytes}
+use Rattle.rules.specs.Script.{size}
+use Rattle.rules.specs.Answer.{Bytes}
 use Rattle.records.proofs.Passing.{ahead, operand_here}
 use Rattle.records.proofs.Weights.{stands_weight}
 use Rattle.records.proofs.Stands.{there}

@@ -1,6 +1,7 @@
 -- The loop has counted the first j operands. A call's record falls to the right in the script.
 use Rattle.std.proofs.Common.{◌≡◌, ◌-◌, length}
-use Rattle.rules.specs.Prelude.{Term, size, depth}
+use Rattle.calculus.specs.Terms.{Term}
+use Rattle.rules.specs.Script.{size, depth}
 use Rattle.records.specs.Place.{At}
 use Rattle.substitution.proofs.Counting.{Counted}
 use Rattle.substitution.proofs.+measure.Given as goal

@@ -1,12 +1,15 @@
 -- The loop has written the first j operands.
 use Rattle.std.proofs.Common.{◌≡◌, ℕ, ◌+◌, ◌∙◌, arith, subst as transport}
-use Rattle.rules.specs.Prelude.{Term, Bytes, encode}
-use Rattle.rules.proofs.Prelude.{joined, term_operands, term_head}
+use Rattle.calculus.specs.Terms.{Term}
+use Rattle.rules.specs.Answer.{Bytes}
+use Rattle.rules.proofs.Prefix.{joined}
+use Rattle.rules.specs.Script.{encode}
 use Rattle.records.proofs.Made.{own_record}
 use Rattle.records.proofs.Passing.{ahead, operand_here}
 use Rattle.records.proofs.Stands.{kind_of, there}
 use Rattle.records.specs.Kinds as kinds
 use Rattle.records.specs.Place.{At}
+use Rattle.rules.proofs.TermCode.{term_operands, term_head}
 use Rattle.memory.specs.Written.{Room, Written}
 use Rattle.memory.specs.declared.Writer.{Writer}
 use Rattle.memory.proofs.Placed.{room_first}

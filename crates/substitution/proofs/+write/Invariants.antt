@@ -1,6 +1,7 @@
 -- The loop has written the first j operands. A call's record falls to the right in the script.
 use Rattle.std.proofs.Common.{◌≡◌, ◌-◌, ◌++◌, length}
-use Rattle.rules.specs.Prelude.{Term, encode}
+use Rattle.calculus.specs.Terms.{Term}
+use Rattle.rules.specs.Script.{encode}
 use Rattle.records.specs.Place.{At}
 use Rattle.substitution.proofs.Writing.{Copied}
 use Rattle.substitution.proofs.+write.Given as goal

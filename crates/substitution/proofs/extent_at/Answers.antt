@@ -1,5 +1,6 @@
 use Rattle.std.proofs.Common.{refl, ◌∙◌, arith}
-use Rattle.rules.specs.Prelude.{var, size, depth}
+use Rattle.calculus.specs.Terms.{var}
+use Rattle.rules.specs.Script.{size, depth}
 use Rattle.substitution.proofs.Nodes.{subst_same}
 use Rattle.substitution.proofs.extent_at.Goals as goal
 

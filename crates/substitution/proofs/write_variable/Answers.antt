@@ -1,11 +1,12 @@
 use Rattle.std.proofs.Common.{◌≡◌, ◌++◌, ℕ, sym, ap, ◌∙◌, arith, subst as transport, eqb-true}
 use borrow.Author.Tests.{eqb-false}
-use Rattle.rules.specs.Prelude.{Bytes, encode, kind, number}
+use Rattle.rules.specs.Answer.{Bytes}
 use Rattle.records.proofs.Stands.{there}
 use Rattle.records.proofs.Made.{own_record}
 use Rattle.memory.specs.Written.{Room, Written}
 use Rattle.memory.proofs.Placed.{then, room_first, room_next}
 use Rattle.memory.specs.declared.Writer.{Writer}
+use Rattle.rules.specs.Script.{encode, kind, number}
 use Rattle.substitution.specs.Substituted.{record_at, Substitution}
 use Rattle.substitution.proofs.Writing.{variable_here, variable_else, written_here, written_else}
 use Rattle.substitution.proofs.write_variable.Goals as goal

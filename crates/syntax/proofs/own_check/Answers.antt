@@ -1,5 +1,5 @@
 use Rattle.std.proofs.Common.{sym, arith}
-use Rattle.rules.proofs.Prelude.{form_whole}
+use Rattle.rules.proofs.Form.{form_whole}
 use Rattle.script.proofs.Rooms.{alone}
 use Rattle.syntax.proofs.own_check.Goals as goal
 

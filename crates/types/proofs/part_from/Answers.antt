@@ -1,5 +1,5 @@
 use Rattle.std.proofs.Common.{◌*◌}
-use Rattle.rules.specs.Prelude.{type_width}
+use Rattle.rules.specs.Limits.{type_width}
 use Rattle.types.proofs.Parts.{to_end}
 use Rattle.types.proofs.part_from.Goals as goal
 

@@ -1,11 +1,14 @@
 -- The raised property in the first record.
-use Rattle.std.proofs.Common.{length, ap, ◌∙◌}
+use Rattle.std.proofs.Common.{length, ap, ◌∙◌, arith}
 use Rattle.calculus.specs.Security as security
-use Rattle.rules.specs.Prelude.{properties_of}
+use Rattle.rules.specs.Groups.{properties_of}
 use Rattle.lattice.specs.Said.{said_property, said_influence}
 use Rattle.types.specs.Held.{with_property}
-use Rattle.types.proofs.Parts.{raised, with_property_length}
+use Rattle.types.proofs.Parts.{starts_long, raised, with_property_length}
 use Rattle.types.proofs.raise.Goals as goal
+
+pub put_property-requires : goal.put_property-requires
+put_property-requires c = omega (arith, starts_long c.requires)
 
 pub returns : goal.returns
 returns c =

@@ -1,5 +1,5 @@
 use Rattle.std.proofs.Common.{◌+◌, refl, sym, ap, ◌∙◌, arith}
-use Rattle.rules.specs.Prelude.{type_count, type_kind, type_end}
+use Rattle.rules.specs.Types.{type_count, type_kind, type_end}
 use Rattle.rules.proofs.PrefixLaws.{next_record}
 use Rattle.types.proofs.Counting.{ops, walk, at_most_two, in_range, all_counted}
 use Rattle.types.proofs.type_records.Goals as goal

@@ -1,6 +1,6 @@
 -- The walk over the type goes on at i with as many sides to come as are pending.
 use Rattle.std.proofs.Common.{◌≡◌, ◌+◌, ◌-◌, ◌≤◌}
-use Rattle.rules.specs.Prelude.{type_count, type_end}
+use Rattle.rules.specs.Types.{type_count, type_end}
 use Rattle.types.proofs.Counting.{walk}
 use Rattle.types.proofs.type_records.Given as goal
 

@@ -1,12 +1,32 @@
 -- A table that passes holds a type at each record, so the walk may start at both indexes.
 use Rattle.std.proofs.Common.{ap, sym, ◌∙◌}
-use Rattle.rules.specs.Prelude.{accepted, properties_of, type_at, compare_call}
+use Rattle.rules.specs.Answer.{accepted}
+use Rattle.rules.specs.Groups.{properties_of}
+use Rattle.rules.specs.Types.{type_at}
+use Rattle.rules.specs.Calls.{compare_call}
 use Rattle.types_table.specs.Answered.{said_comparison, comparison_of}
 use Rattle.answer.proofs.Passed.{then_asked}
 use Rattle.types.proofs.Parts.{starts_of}
-use Rattle.types_table.proofs.Questions.{counted, inside, told_is}
+use Rattle.types_table.proofs.Questions.{passed_on, counted, inside, told_is}
 use Rattle.types_table.proofs.Table.{type_held}
 use Rattle.types_table.proofs.compare.Goals as goal
+
+pub returns-in_err-types_check : goal.returns-in_err-types_check
+unfolding compare_call
+returns-in_err-types_check c = passed_on _ _ _ _ c.in_err-types_check.ensures c.from_residual.ensures.1
+
+pub returns-in_err-ask : goal.returns-in_err-ask
+unfolding compare_call
+returns-in_err-ask c =
+    then_asked _ _ c.in_ok-types_check.ensures
+    (passed_on _ _ _ _ (counted 0 c.args.first c.type_count-count.ensures c.in_err-ask.ensures) c.from_residual-in_err-ask.ensures.1)
+
+pub returns-in_err-ask-2 : goal.returns-in_err-ask-2
+unfolding compare_call
+returns-in_err-ask-2 c =
+    then_asked _ _ c.in_ok-types_check.ensures
+    (then_asked _ _ (counted 0 c.args.first c.type_count-count.ensures c.in_ok-ask.ensures)
+    (passed_on _ _ _ _ (counted 1 c.args.second c.type_count-count.ensures c.in_err-ask-2.ensures) c.from_residual-in_err-ask-2.ensures.1))
 
 pub at_or_below-requires : goal.at_or_below-requires
 at_or_below-requires c =

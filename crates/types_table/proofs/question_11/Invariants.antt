@@ -1,6 +1,6 @@
 -- Every type that has ended passes, and the walk from the start of the one that hasn't goes on at i with as many sides
 -- to come as are pending.
-use Rattle.rules.specs.Prelude.{ok11}
+use Rattle.rules.specs.Types.{ok11}
 use Rattle.types_table.proofs.OnePass.{Passing}
 use Rattle.types_table.proofs.question_11.Given as goal
 

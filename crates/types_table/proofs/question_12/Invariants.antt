@@ -1,5 +1,5 @@
 -- The invariant is that of question 11; a type is judged where it ends.
-use Rattle.rules.specs.Prelude.{ok12}
+use Rattle.rules.specs.Types.{ok12}
 use Rattle.types_table.proofs.OnePass.{Passing}
 use Rattle.types_table.proofs.question_12.Given as goal
 

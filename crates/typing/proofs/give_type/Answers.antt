@@ -1,6 +1,6 @@
 -- The type is handed over before the work buffer is cleared.
 use Rattle.std.proofs.Common.{ap, ◌∙◌}
-use Rattle.rules.specs.Prelude.{zeros}
+use Rattle.rules.specs.Calls.{zeros}
 use Rattle.typing.proofs.Outcome.{typed, given}
 use Rattle.typing.proofs.give_type.Goals as goal
 

@@ -1,6 +1,8 @@
 -- A found type's records, at the front of the work buffer, are copied.
 use Rattle.std.proofs.Common.{◌≡◌, ℕ, Result, Ok, sym, ap, ◌∙◌, subst, arith}
-use Rattle.rules.specs.Prelude.{Bytes, encode_type, answer_after}
+use Rattle.rules.specs.Answer.{Bytes}
+use Rattle.rules.specs.Types.{encode_type}
+use Rattle.rules.specs.Calls.{answer_after}
 use Rattle.answer.specs.declared.Refusal.{Refusal}
 use Rattle.memory.specs.Splice.{splice}
 use Rattle.memory.proofs.Laws.{splice_front}

@@ -1,7 +1,9 @@
 -- The part is the operand's records, and is shorter than the node's.
 use Rattle.std.proofs.Common.{ap, ◌∙◌, ◌-◌, ◌*◌, arith, length, take, drop, length-drop, length-take, take_at}
-use Rattle.rules.specs.Prelude.{script_width, encode}
-use Rattle.rules.proofs.Prelude.{encode_length, size_positive, term_code}
+use Rattle.rules.specs.Limits.{script_width}
+use Rattle.rules.specs.Script.{encode}
+use Rattle.rules.proofs.PrefixLaws.{encode_length, size_positive}
+use Rattle.rules.proofs.TermCode.{term_code}
 use Rattle.records.proofs.Stands.{inside, room}
 use Rattle.typing.proofs.operand.Goals as goal
 

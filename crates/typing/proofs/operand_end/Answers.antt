@@ -1,7 +1,11 @@
 -- The node's last operand ends where its part does, and another is scanned.
 use Rattle.std.proofs.Common.{◌≡◌, sym, ap, ◌∙◌, ℕ, ◌+◌, ◌/◌, arith, length}
-use Rattle.rules.specs.Prelude.{Term, script_width, Bytes, size}
-use Rattle.rules.proofs.Prelude.{unique, term_prefix}
+use Rattle.calculus.specs.Terms.{Term}
+use Rattle.rules.specs.Limits.{script_width}
+use Rattle.rules.specs.Answer.{Bytes}
+use Rattle.rules.specs.Script.{size}
+use Rattle.rules.proofs.PrefixLaws.{unique}
+use Rattle.rules.proofs.TermCode.{term_prefix}
 use Rattle.records.specs.Place.{At}
 use Rattle.typing.specs.Parts.{OperandAt}
 use Rattle.typing.proofs.operand_end.Goals as goal

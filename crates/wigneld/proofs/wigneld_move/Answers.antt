@@ -1,6 +1,8 @@
 use Rattle.std.proofs.Common.{ℕ, sym, ap, subst, ◌∙◌, length}
-use Rattle.rules.specs.Prelude.{Bytes, Answer, End, StepReport, step_report, written_after, Preview, move_call}
-use Rattle.rules.specs.Prelude.{moved_steps}
+use Rattle.rules.specs.Answer.{Bytes, Answer}
+use Rattle.rules.specs.Step.{End}
+use Rattle.rules.specs.Calls.{StepReport, step_report, written_after}
+use Rattle.rules.specs.Preview.{Preview, move_call, moved_steps}
 use Rattle.packing.specs.Packed.{packed_number, step_lower, steps_in, steps_left, StepCounted}
 use Rattle.packing.proofs.Exported.{move_counted}
 use Rattle.wigneld.proofs.Previews.{followed}

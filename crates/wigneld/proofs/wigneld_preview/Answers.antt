@@ -1,5 +1,6 @@
 use Rattle.std.proofs.Common.{ℕ, sym, ap, subst, ◌∙◌}
-use Rattle.rules.specs.Prelude.{Answer, Preview}
+use Rattle.rules.specs.Answer.{Answer}
+use Rattle.rules.specs.Preview.{Preview}
 use Rattle.packing.specs.Packed.{packed_number, preview_lower, PreviewCounted}
 use Rattle.packing.proofs.Exported.{preview_counted, preview_read}
 use Rattle.wigneld.proofs.Previews.{any_steps}

@@ -1,5 +1,6 @@
 use Rattle.std.proofs.Common.{sym, ap, subst, ◌∙◌, arith, length}
-use Rattle.rules.specs.Prelude.{Octets, Answer, accepted, Report}
+use Rattle.rules.specs.Answer.{Octets, Answer, accepted}
+use Rattle.rules.specs.Calls.{Report}
 use Rattle.packing.specs.Packed.{packed_number, run_lower, RunCounted}
 use Rattle.wigneld.specs.Exported.{steps_told}
 use Rattle.wigneld.proofs.Reports.{run_counted, steps_same}

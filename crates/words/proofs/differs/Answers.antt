@@ -1,5 +1,6 @@
 use Rattle.std.proofs.Common.{rules, not}
-use Rattle.rules.specs.Prelude.{first_from, same_word, ok34}
+use Rattle.rules.specs.Answer.{first_from}
+use Rattle.rules.specs.Words.{same_word, ok34}
 use Rattle.words.proofs.differs.Goals as goal
 
 pub returns : goal.returns

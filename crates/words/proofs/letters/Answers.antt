@@ -1,6 +1,6 @@
 use Rattle.std.proofs.Common.{rules, true, false, ◌≡◌, sym, length-take-le}
 use Rattle.std.proofs.lemmas.Iterator.{IsFirst-from_position, YieldsList-from_slice}
-use Rattle.rules.specs.Prelude.{is_letter}
+use Rattle.rules.specs.Words.{is_letter}
 use Rattle.words.proofs.WordBytes.{IsWord, letters_within, letters_are, letters_word}
 use Rattle.words.proofs.letters.Goals as goal
 

@@ -1,4 +1,4 @@
-use Rattle.rules.specs.Prelude.{our_words}
+use Rattle.rules.specs.Report.{our_words}
 use Rattle.words.proofs.our_words.Goals as goal
 
 pub returns : goal.returns

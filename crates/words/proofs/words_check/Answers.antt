@@ -1,6 +1,8 @@
 -- The questions in order, each asked after a yes to those before it.
 use Rattle.std.proofs.Common.{◌≡◌, length, ap, ◌∙◌, sym, ne_eqb, eq-eqb}
-use Rattle.rules.specs.Prelude.{Bytes, Answer, ask, ◌>>◌, first_from, words_length, q33, q34, ok33, ok34, words_check}
+use Rattle.rules.specs.Answer.{Bytes, Answer, ask, ◌>>◌, first_from}
+use Rattle.rules.specs.Limits.{words_length}
+use Rattle.rules.specs.Words.{q33, q34, ok33, ok34, words_check}
 use Rattle.answer.proofs.Passed.{returned}
 use Rattle.words.proofs.words_check.Goals as goal
 

@@ -1,5 +1,5 @@
 use Rattle.std.proofs.Common.{ap, ◌∙◌, arith}
-use Rattle.rules.specs.Prelude.{arity}
+use Rattle.rules.specs.Script.{arity}
 use Rattle.records.specs.Numbers.{kind_number}
 use Rattle.records.proofs.Table.{arity_small}
 use Rattle.records.proofs.Kind.arity.Goals as goal

@@ -1,4 +1,0 @@
-pub mod Parts
-pub mod Turns
-pub mod Strips
-pub mod Looked
