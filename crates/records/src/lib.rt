@@ -208,6 +208,19 @@ pub fn signature_of(number: u8) -> Signature
     }
 }
 
+/// How many binders stand over operand `operand`, counted from 0, of a record whose kind has this number: at most 1, and
+/// none where no kind has it.
+#[tactic(auto, unfolding(crate::specs::Binders::binds))]
+pub fn binders(number: u8, operand: usize) -> usize
+    ensures value { result ≡ binds number operand }
+    ensures small { result ≤ 1 }
+{
+    match Kind::try_from(number) {
+        Ok(kind) => usize::from(kind.binders(operand)),
+        Err(_) => 0,
+    }
+}
+
 /// The line of the table of kinds for record `index`: nothing is named where no kind has its number.
 pub fn signature_at(script: &[u8], index: usize) -> Signature
     requires { index < records script.now }
