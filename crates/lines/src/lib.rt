@@ -24,16 +24,24 @@ fn named(text: &mut Writer, word: &[u8], n: u64)
     text::decimal(text, n);
 }
 
-/// Writes the line of a refusal: "refused 21 at 0", the question's number and the place.
+/// Writes the line of a refusal by numbers: "refused 21 at 0", what was asked and where. Any two numbers have one.
 #[tactic(auto, unfolding(rules::specs::Report::refusal_line, rules::specs::Report::text), using(memory::proofs::Placed::room_first, memory::proofs::Placed::room_next))]
+pub fn refused_line(text: &mut Writer, question: u64, place: u64)
+    requires { Room (refusal_line question place) text.old }
+    ensures { Written (refusal_line question place) text.old text.new }
+{
+    named(text, b"refused ", question);
+    named(text, b" at ", place);
+    text.put(b"\n");
+}
+
+/// Writes the line of a refusal: the question's number and the place.
 pub fn refusal_line(text: &mut Writer, refusal: Refusal)
     requires { Room (refusal_line (question_number refusal.question) refusal.place) text.old }
     ensures { Written (refusal_line (question_number refusal.question) refusal.place) text.old text.new }
 {
     let question = u64::from(refusal.question.number());
-    named(text, b"refused ", question);
-    named(text, b" at ", refusal.place as u64);
-    text.put(b"\n");
+    refused_line(text, question, refusal.place as u64);
 }
 
 /// Writes the line of an accepted script: "accepted 3", the records of its type.

@@ -9,15 +9,11 @@ use Rattle.records.specs.declared.Kind.{Kind}
 use Rattle.records.specs.Kinds as kinds
 use Rattle.records.specs.Numbers.{kind_number}
 use Rattle.records.specs.Labels.{property_at}
-use Rattle.answer.proofs.Implications.{not_or_implies}
+use Rattle.answer.proofs.Implications.{or_implies, not_or_implies}
 
 -- each kind's number is at most the last
 pub known : (k : Kind) → nat_le (kind_number k) kinds.less ≡ true
 known k = search rules
-
-or_implies : (a b : Bool) → (a || b) ≡ (not a ⇒ b)
-or_implies true b = refl
-or_implies false b = refl
 
 module _ (s : Bytes) (i : ℕ) {k : ℕ} {f : Signature} {p : Property} (kind_is : k ≡ kind s i) (line_is : f ≡ signature_of k) (property_is : p ≡ property_at s i) where
   pub ok14_is : {z n : ℕ} → nat_le k kinds.less ≡ true → z ≡ zero_byte s i → n ≡ number s i
