@@ -4,4 +4,4 @@ pub mod Steps
 pub mod Lists
 pub mod Sizes
 pub mod Exported
-pub mod Holds
+pub mod Held

@@ -1,23 +1,22 @@
 -- Lists of scripts and of amendments: a refusal's place and the answer fit the exported number. An entry that is looked
 -- at comes after entries with different scripts, so its index is at most their number.
-use Rattle.std.proofs.Common.{Result, Ok, Err, IfErr, ◌<◌, sym, subst, ◌≡◌, refl, ap, Bool, true, false, cond, not}
-use Rattle.std.proofs.Common.{◌&&◌, ℕ, zero, suc, ◌%◌, ◌≤◌, arith, nat_eq, nat_le, leb-true, length}
+use Rattle.std.proofs.Common.{◌≡◌, refl, ap, Bool, true, false, cond, not}
+use Rattle.std.proofs.Common.{◌&&◌, ℕ, zero, suc, ◌%◌, ◌≤◌, arith, nat_eq, nat_le, eqb-true, leb-true, length}
 use Rattle.std.proofs.Math.Option.{Option, none, some}
 use Rattle.rules.specs.Answer.{Bytes, Answer, accepted, refused, ◌>>◌, ask, each, first_from}
-use Rattle.rules.specs.Limits.{listed_width, entry_width, listed_limit, last_question}
+use Rattle.rules.specs.Limits.{listed_width, entry_width, listed_limit, no_script, last_question}
 use Rattle.rules.specs.Calls.{types_check}
-use Rattle.rules.specs.InForce.{script_count, entry_count, ok25, ok40, ok41, ok42, q40_lengths, q25_scripts}
-use Rattle.rules.specs.InForce.{entry_check, entries_check, lists_check, script_in_force, in_force}
+use Rattle.rules.specs.InForce.{script_count, entry_count, entry_first, entry_replaced, ok25, ok40, ok41, ok42}
+use Rattle.rules.specs.InForce.{q40_lengths, q25_scripts, entry_check, entries_check, lists_check, script_in_force}
+use Rattle.rules.specs.InForce.{in_force}
 use Rattle.rules.proofs.Asked.{ask_true}
 use Rattle.rules.proofs.Search.{found}
-use Rattle.rules.proofs.InForce.{few_entries}
-use Rattle.promises.proofs.InForce.{lists_pass}
-use Rattle.packing.specs.Packed.{half, Bounded, bounded_no, BoundedByLists, lists_yes, lists_no}
+use Rattle.rules.proofs.InForce.{few_entries, all_pass}
+use Rattle.promises.specs.InForce.{newest, newest_after, or_no_script}
+use Rattle.promises.proofs.InForce.{ListsPass, lists_pass, pass_finds}
+use Rattle.packing.specs.Packed.{Holds, holds_yes, holds_no, Bounded, bounded_no, BoundedByLists, lists_yes}
+use Rattle.packing.specs.Packed.{lists_no}
 use Rattle.packing.proofs.Bounds.{types_bounded}
-use Rattle.packing.proofs.Holds.{holds_no, Holds, holds_yes}
-use Rattle.answer.specs.declared.Refusal.{Refusal}
-use Rattle.answer.specs.Numbers.{question_number}
-use Rattle.answer.specs.Said.{answer_of}
 
 then : {B : Type 0} (a : Answer (Unit {0})) (b : Answer B) → BoundedByLists a → (a ≡ accepted tt → BoundedByLists b) → BoundedByLists (◌>>◌ a b)
 then (accepted tt) b x f = f refl
@@ -77,3 +76,34 @@ lists_bounded g t l a =
 pub in_force_bounded : (g t l a : Bytes) (i : ℕ) → BoundedByLists (in_force g t l a i)
 unfolding in_force
 in_force_bounded g t l a i = then (lists_check g t l a) _ (lists_bounded g t l a) λ h. lists_yes
+
+-- what is answered is a script of the list, or 65,535
+newest_small : (g t l a : Bytes) → ListsPass g t l a → (i m : ℕ) → m ≤ entry_count a → or_no_script (newest a i m) ≤ no_script
+unfolding newest
+newest_small g t l a P i zero h = omega arith
+newest_small g t l a P i (suc m) h = go (newest a i m) (newest_small g t l a P i m (omega arith))
+  where
+    first : entry_first a m ≤ no_script
+    first = omega (arith, (all_pass g t l a (entry_count a) m P.entries_pass (omega arith)).in_order.inside, P.limited)
+
+    found_first : (b : Bool) → nat_eq (entry_first a m) i ≡ b → or_no_script (cond b (some i) none) ≤ no_script
+    found_first true e = omega (arith, first, eqb-true (entry_first a m) i e)
+    found_first false e = omega arith
+
+    found_next : (b : Bool) (j : ℕ) → j ≤ no_script → or_no_script (cond b (some (entry_first a m)) (some j)) ≤ no_script
+    found_next true j k = first
+    found_next false j k = k
+
+    go : (o : Option ℕ) → or_no_script o ≤ no_script → or_no_script (newest_after a i m o) ≤ no_script
+    go none k = found_first (nat_eq (entry_first a m) i) refl
+    go (some j) k = found_next (nat_eq (entry_replaced a m) j) j k
+
+pub in_force_holds : (g t l a : Bytes) (i : ℕ) → Holds (in_force g t l a i)
+unfolding in_force
+in_force_holds g t l a i = go (lists_check g t l a) refl (lists_bounded g t l a)
+  where
+    go : (x : Answer (Unit {0})) → lists_check g t l a ≡ x → BoundedByLists x → Holds (◌>>◌ x (accepted (script_in_force a i)))
+    go (accepted u) h b =
+        let P = lists_pass g t l a h in
+        holds_yes {n = script_in_force a i} (omega (arith, pass_finds g t l a P i, newest_small g t l a P i (entry_count a) (omega arith)))
+    go (refused q p) h (lists_no m k r) = holds_no {q = q} {p = p} m k (omega arith)

@@ -219,3 +219,25 @@ module _ (S : Security) (tab : ℕ → Ty) (room : ℕ) where
       go too_big h w ih = rw (h, run) (record { end = omega arith; last = l })
 
 -- ---- sheets
+
+-- an object's record, alone or with the sheets of its parts behind it
+own_record : (told : Bool) (kind r ir n : ℕ) → length (cond told (shown_record kind r ir n) (shown_record 5 0 0 0)) ≤ sheet_width
+own_record true kind r ir n = omega arith
+own_record false kind r ir n = omega arith
+
+with_parts : (told : Bool) (kind r ir : ℕ) (parts : Bytes) (n : ℕ) → length parts ≤ sheet_width * n
+    → length (cond told (shown_record kind r ir 0) (shown_record 5 0 0 0) ++ cond told parts []) ≤ sheet_width * (1 + n)
+with_parts true kind r ir parts n l = omega arith
+with_parts false kind r ir parts n l = omega arith
+
+-- no more sheet records than records
+pub sheet_length : (t : Bytes) (g : ℕ) (e : Term) → length (sheet t g e) ≤ sheet_width * size e
+unfolding sheet size
+sheet_length t g (unit k) = own_record (leq t k.r g) 0 k.r k.ir 0
+sheet_length t g (lam k i e) = omega (arith, own_record (leq t k.r g) 4 k.r k.ir 0)
+sheet_length t g (pair k a b) =
+    with_parts (leq t k.r g) 3 k.r k.ir (sheet t g a ++ sheet t g b) (size a + size b)
+    (omega (arith, length-append (sheet t g a) (sheet t g b), sheet_length t g a, sheet_length t g b))
+sheet_length t g (inj d k i e) = with_parts (leq t k.r g) (choose d 1 2) k.r k.ir (sheet t g e) (size e) (sheet_length t g e)
+sheet_length t g (literal k n) = own_record (leq t k.r g) 6 k.r k.ir n
+sheet_length t g _ = omega arith

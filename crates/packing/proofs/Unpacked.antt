@@ -2,8 +2,8 @@
 use Rattle.std.proofs.Common.{◌≡◌, sym, ap, ap₂, subst, ◌∙◌, ℕ, ◌+◌, ◌*◌, ◌/◌, ◌%◌, ◌≤◌, arith, eq-eqb, ne_eqb}
 use Rattle.rules.specs.Answer.{Answer, accepted, refused}
 use Rattle.rules.specs.Limits.{script_limit}
-use Rattle.packing.specs.Packed.{half, packed_number, unpacked_answer, end_and_count, end_of, count_of}
-use Rattle.packing.proofs.Holds.{Holds, holds_yes, holds_no}
+use Rattle.packing.specs.Packed.{half, packed_number, unpacked_answer, end_and_count, end_of, count_of, Holds, holds_yes}
+use Rattle.packing.specs.Packed.{holds_no}
 
 pub unpack : (a : Answer ℕ) → Holds a → unpacked_answer (packed_number a) ≡ a
 unpack (accepted n) (holds_yes l) =

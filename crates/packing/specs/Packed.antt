@@ -21,6 +21,10 @@ abbrev pub unpacked_answer : ℕ → Answer ℕ
 unpacked_answer n = if nat_eq (n / half) 0 then accepted (n % half) else refused (n / half) (n % half)
 
 -- an answer that one number holds
+pub data Holds : Answer ℕ → Type 0 where
+  holds_yes : {n : ℕ} → n < half → Holds (accepted n)
+  holds_no : {q p : ℕ} → 1 ≤ q → q ≤ last_question → p < half → Holds (refused q p)
+
 -- an answer whose refusal, if it is one, has a question's number, and a place that isn't past 8,192
 pub data Bounded {A : Type 0} : Answer A → Type 0 where
   bounded_yes : {a : A} → Bounded (accepted a)

@@ -4,9 +4,9 @@
 
 ghost use Rattle.std.specs.Prelude.{◌≡◌, ℕ, ◌+◌, ◌*◌, ◌^◌, ◌≤◌, ◌<◌, length, IfErr};
 ghost use Rattle.rules.specs.Answer.{Bytes};
-ghost use Rattle.answer.specs.Numbers.{question_number};
 ghost use Rattle.answer.specs.Said.{answer_of};
 ghost use Rattle.packing.specs.Packed.{half, packed_number, end_and_count, steps_width, steps_in, steps_of};
+ghost use Rattle.packing.specs.Held.{OneNumberHolds};
 
 use answer::Refusal;
 
@@ -14,12 +14,12 @@ const HALF: u64 = 4294967296;
 
 const QUARTER: usize = 65536;
 
-// A refusal: the question in the upper half, the place in the lower.
-fn refusal(refusal: Refusal) -> u64
-    requires { refusal.place < half }
-    ensures { result ≡ question_number refusal.question * half + refusal.place }
+/// A refusal as a number: the question in the upper half and the place, of less than 2^32, in the lower.
+pub fn refusal(question: u8, place: usize) -> u64
+    requires { place < half }
+    ensures { result ≡ question * half + place }
 {
-    u64::from(refusal.question.number()) * HALF + (refusal.place as u64)
+    u64::from(question) * HALF + (place as u64)
 }
 
 /// A call's outcome as the number that it hands to C: what it counted, or of a refusal the question's number times
@@ -31,7 +31,7 @@ pub fn answer(outcome: Result<usize, Refusal>) -> u64
 {
     match outcome {
         Ok(n) => n as u64,
-        Err(e) => refusal(e),
+        Err(e) => refusal(e.question.number(), e.place),
     }
 }
 
@@ -65,3 +65,11 @@ pub fn steps_of(steps: &[u8]) -> u64
     memory::put_fitting(steps, &mut bytes);
     u64::from_le_bytes(bytes)
 }
+
+/// One number holds what a check, a step, a run, a preview, a move, a page, a comparison, a rewriting, an import, an
+/// export and the look-up of the script in force answer: a count of less than 2^32, or a question with a place of less
+/// than 2^32. So a caller reads the answer off the number again, and its upper half is 0 just where nothing is refused.
+#[tactic(auto, using(crate::proofs::Held::one_number_holds))]
+pub fn one_number_holds()
+    ensures { OneNumberHolds }
+{}

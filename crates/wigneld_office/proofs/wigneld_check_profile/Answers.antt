@@ -2,11 +2,10 @@
 use Rattle.std.proofs.Common.{length, sym, ap, subst, ◌∙◌, arith}
 use Rattle.rules.specs.Answer.{Octets}
 use Rattle.answer.specs.Said.{answer_of}
-use Rattle.packing.specs.Packed.{packed_number}
+use Rattle.packing.specs.Packed.{packed_number, Holds}
 use Rattle.packing.proofs.Bounds.{place_small, profile_bounded}
 use Rattle.packing.proofs.Exported.{records_bounded, profile_holds}
 use Rattle.packing.proofs.Unpacked.{read_off}
-use Rattle.packing.proofs.Holds.{Holds}
 use Rattle.typing.specs.Judged.{JudgedInProfile}
 use Rattle.wigneld_office.proofs.wigneld_check_profile.Goals as goal
 
