@@ -1,5 +1,5 @@
 -- Questions 14 and 15 of one record, from the fields that the code has read.
-use Rattle.std.proofs.Common.{rules, ◌≡◌, refl, ℕ, Bool, true, false, not, ◌&&◌, ◌||◌, nat_eq, nat_le, nat_lt}
+use Rattle.std.proofs.Common.{rules, ◌≡◌, ℕ, Bool, true, not, ◌&&◌, ◌||◌, nat_eq, nat_le, nat_lt}
 use Rattle.std.proofs.Math.Bool.{and_assoc}
 use Rattle.calculus.specs.Security.{Property}
 use Rattle.rules.specs.Answer.{Bytes, ◌⇒◌}
