@@ -2,7 +2,8 @@
 
 #![tactic(auto)]
 
-ghost use Rattle.std.specs.Prelude.{◌≡◌, ℕ, ◌+◌, ◌*◌, ◌^◌, ◌≤◌, ◌<◌, length, IfErr};
+ghost use Rattle.std.specs.Prelude.{◌≡◌, ℕ, ◌+◌, ◌*◌, ◌^◌, ◌≤◌, ◌<◌, take, length, IfErr};
+ghost use Rattle.memory.specs.Splice.{splice};
 ghost use Rattle.rules.specs.Answer.{Bytes};
 ghost use Rattle.answer.specs.Said.{answer_of};
 ghost use Rattle.packing.specs.Packed.{half, packed_number, end_and_count, steps_width, steps_in, steps_of};
@@ -43,13 +44,22 @@ pub fn end_and_count(end: u8, count: usize) -> usize
     usize::from(end) * QUARTER + count
 }
 
+// Copies a piece over the front of a buffer, as far as it fits. It is never inlined: where the compiler sees that both
+// ends of a copy lie apart, it asks the C library for memcpy, a name that the archive for C has no other need of.
+#[inline(never)]
+fn put_fitting(piece: &[u8], buffer: &mut [u8])
+    ensures { buffer.new ≡ splice 0 (take (length buffer.old) piece.now) buffer.old }
+{
+    memory::put_fitting(piece, buffer);
+}
+
 /// Writes a step count into `steps` as 8 bytes, lowest byte first: as many of them as the slice has. Bytes past the
 /// eighth are kept.
 #[tactic(auto, using(crate::proofs::Steps::steps_bytes))]
 pub fn put_steps(count: u64, steps: &mut [u8])
     ensures { steps.new ≡ steps_in count steps.old }
 {
-    memory::put_fitting(&count.to_le_bytes(), steps);
+    put_fitting(&count.to_le_bytes(), steps);
 }
 
 /// The step count that the first 8 bytes of a slice hold, lowest byte first; bytes that it hasn't are 0. What
@@ -62,7 +72,7 @@ pub fn steps_of(steps: &[u8]) -> u64
     ensures kept { steps_in result steps.now ≡ steps.now }
 {
     let mut bytes = [0; 8];
-    memory::put_fitting(steps, &mut bytes);
+    put_fitting(steps, &mut bytes);
     u64::from_le_bytes(bytes)
 }
 
