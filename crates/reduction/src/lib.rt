@@ -158,7 +158,12 @@ fn counted(next: Result<NextStep, Stop>) -> Result<usize, Stop>
 
 /// One step of a term that stands alone in `script`, which passes the questions; the new term to the front of `written`.
 /// The answer is its record count, or why there is no next term; then nothing is written.
-pub fn step_term(groups: &[u8], types: &[u8], script: &[u8], written: &mut [u8]) -> Result<usize, Stop>
+pub fn step_term(
+    groups: &[u8],
+    types: &[u8],
+    script: &[u8],
+    written: &mut [u8],
+) -> Result<usize, Stop>
     requires { Startable groups.now types.now script.now }
     ensures answer { result ≡ step_records
         (step_in (properties_of groups.now) (type_at types.now) (length written.old) (term script.now)) }
