@@ -45,7 +45,7 @@ pub fn end_and_count(end: u8, count: usize) -> usize
 }
 
 // Copies a piece over the front of a buffer, as far as it fits. It is never inlined: where the compiler sees that both
-// ends of a copy lie apart, it asks the C library for memcpy, a name that the archive for C has no other need of.
+// ends of a copy lie apart, it asks the C library for memcpy, a name that libwigneld.a has no other need of.
 #[inline(never)]
 fn put_fitting(piece: &[u8], buffer: &mut [u8])
     ensures { buffer.new ≡ splice 0 (take (length buffer.old) piece.now) buffer.old }

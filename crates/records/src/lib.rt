@@ -208,8 +208,8 @@ pub fn signature_of(number: u8) -> Signature
     }
 }
 
-/// How many binders stand over operand `operand`, counted from 0, of a record whose kind has this number: at most 1, and
-/// none where no kind has it.
+/// How many binders stand over operand `operand`, counted from 0, of a record whose kind has this number: at most 1,
+/// and none where no kind has it.
 #[tactic(auto, unfolding(crate::specs::Binders::binds))]
 pub fn binders(number: u8, operand: usize) -> usize
     ensures value { result ≡ binds number operand }

@@ -156,8 +156,8 @@ fn counted(next: Result<NextStep, Stop>) -> Result<usize, Stop>
     }
 }
 
-/// One step of a term that stands alone in `script`, which passes the questions; the new term to the front of `written`.
-/// The answer is its record count, or why there is no next term; then nothing is written.
+/// One step of a term that stands alone in `script`, which passes the questions; the new term to the front of
+/// `written`. The answer is its record count, or why there is no next term; then nothing is written.
 pub fn step_term(
     groups: &[u8],
     types: &[u8],

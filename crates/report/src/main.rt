@@ -130,7 +130,10 @@ fn write_report(text: &mut Writer, words: Option<&[u8]>, groups: &[u8], types: &
     };
     match words::words_check(supplied) {
         Ok(table) => script_text(text, table, groups, types, script),
-        Err(refusal) => lines::refusal_line(text, refusal),
+        Err(refusal) => {
+            let question = u64::from(refusal.question.number());
+            lines::refused_line(text, question, refusal.place as u64);
+        }
     }
 }
 

@@ -1,6 +1,6 @@
 use Rattle.std.proofs.Common.{subst, ◌∙◌}
 use Rattle.rules.specs.Report.{refusal_line}
-use Rattle.memory.specs.Written.{Room, Written}
+use Rattle.memory.specs.Written.{Written}
 use Rattle.lines.proofs.refusal_line.Goals as goal
 
 pub returns : goal.returns

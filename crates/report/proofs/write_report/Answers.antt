@@ -6,8 +6,8 @@ pub returns-in_default : goal.returns-in_default
 returns-in_default c =
     rw (c.in_default.is, ← ours_report _ c.args.groups.now c.args.types.now c.args.script.now c.our_words.ensures) c.script_text.ensures
 
-pub refusal_line-requires : goal.refusal_line-requires
-refusal_line-requires c = refusal_fits _ _ _ _ (omega (arith, c.requires))
+pub refused_line-requires : goal.refused_line-requires
+refused_line-requires c = refusal_fits _ _ _ _ (omega (arith, c.requires))
 
 pub returns-in-Ok : goal.returns-in-Ok
 returns-in-Ok c =
@@ -16,4 +16,4 @@ returns-in-Ok c =
 
 pub returns-in-Err : goal.returns-in-Err
 returns-in-Err c =
-    rw (c.in-Some.is, ← words_refused c.in-Some.supplied.now c.args.groups.now c.args.types.now c.args.script.now _ _ c.in-Err.ensures.refused) c.refusal_line.ensures
+    rw (c.in-Some.is, ← words_refused c.in-Some.supplied.now c.args.groups.now c.args.types.now c.args.script.now _ _ c.in-Err.ensures.refused, ← c.number.ensures, ← c.from-question.ensures) c.refused_line.ensures
